@@ -1,4 +1,6 @@
-//! The commands of a script, carried out.
+//! Executing the commands of a script. `play.rt` calls [`carry_out`] for each; the commands that
+//! move the player are in `carrying/moves.rt`, and those that print parts of its table in
+//! `carrying/questions.rt`.
 
 mod moves;
 mod questions;
@@ -16,7 +18,8 @@ use mrt_wire::{Input, Route};
 use prefix_store::PrefixStore;
 use std::rc::Rc;
 
-/// Carries out a command: what it reads and finds faulty is reported, then its reply is written.
+/// Executes a command: reads the records that it wants from `input`, reports the faulty ones to
+/// `err`, and then writes its reply to `out`. Fails with the outcome that ends the run.
 pub(crate) fn carry_out<S: PrefixStore<Rc<Route>>, I: Input, O: Output, E: Output>(
     session: &mut Session<S>,
     input: &mut I,

@@ -1,4 +1,5 @@
-//! The commands of a script.
+//! The commands of a script, and their parser. `play.rt` calls [`read_command`] for each line of a
+//! script that isn't empty; read that first.
 
 ghost use Rattle.std.specs.Prelude.{◌∷◌, []};
 ghost use Rattle.bgp_wire.specs.Readers.{Finds};
@@ -8,32 +9,33 @@ use crate::words::{is, read_number, split_first};
 use ip_prefix::{Addr, Prefix, SPACE};
 use mrt_wire::Peer;
 
-/// A line of a script, read.
+/// A command of a script.
 #[derive(Clone, Copy, Debug, PartialEq, Eq)]
 pub enum Command {
-    /// So many steps on.
+    /// `next`: moves the player this many steps forward.
     Next(u32),
-    /// So many steps back.
+    /// `back`: moves the player this many steps back.
     Back(u32),
-    /// To this position.
+    /// `goto`: moves the player to this position, the number of steps before its cursor.
     Goto(u32),
-    /// Where the player stands.
+    /// `where`: prints the position of the player, and the number of steps ahead of it.
     Position,
-    /// The peers that have routes.
+    /// `peers`: prints the peers that have routes, and the number of routes of each.
     Peers,
-    /// The routes of a peer.
+    /// `table`: prints all routes of this peer, and their number.
     Table(Peer),
-    /// The route of a peer to a prefix.
+    /// `route`: prints the route of this peer to this prefix.
     Route(Peer, Prefix),
-    /// The longest prefix that a peer has a route to and that contains an address, and that route.
+    /// `lookup`: prints the route of this peer whose prefix is the longest match for this address.
     Lookup(Peer, Addr),
-    /// The session with a peer is lost.
+    /// `lose`: plays the loss of the session with this peer.
     Lose(Peer),
-    /// The oldest steps are forgotten, until so many at most are left to go back over.
+    /// `forget`: drops the oldest steps, until at most this many are left that can be undone.
     Forget(u32),
 }
 
-/// The command that the line spells. A line has no line feed here; an empty one spells none.
+/// Parses a line of a script, without its line feed. Returns `None` if the line is no command; an
+/// empty one is none.
 pub fn read_command(line: &[u8]) -> Option<Command>
     ensures { Finds SpellsCommand line.now result }
 {
@@ -52,7 +54,7 @@ pub fn read_command(line: &[u8]) -> Option<Command>
     }
 }
 
-/// The command of one word.
+/// Parses a command that consists of its name. Returns `None` if there is no such command.
 fn alone(name: &[u8]) -> Option<Command>
     ensures { Finds SpellsWords (name.now ∷ []) result }
 {
@@ -69,7 +71,8 @@ fn alone(name: &[u8]) -> Option<Command>
     }
 }
 
-/// The command of a name and a word.
+/// Parses a command of a name and an argument, a number. Returns `None` if there is no such
+/// command.
 fn with_one(name: &[u8], word: &[u8]) -> Option<Command>
     ensures { Finds SpellsWords (name.now ∷ word.now ∷ []) result }
 {
@@ -86,7 +89,8 @@ fn with_one(name: &[u8], word: &[u8]) -> Option<Command>
     }
 }
 
-/// How often: the number that the word spells, if it is at least 1.
+/// Parses a number of steps: a decimal number from 1 to 2^32 - 1, without sign or leading zeros.
+/// Returns `None` for any other word.
 fn read_times(word: &[u8]) -> Option<u32>
     ensures { Finds SpellsTimes word.now result }
 {
@@ -97,7 +101,8 @@ fn read_times(word: &[u8]) -> Option<u32>
     Some(number)
 }
 
-/// The command of a name and two words.
+/// Parses a command of a name and two arguments, the address and the AS number of a peer. Returns
+/// `None` if there is no such command.
 fn with_two(name: &[u8], address: &[u8], number: &[u8]) -> Option<Command>
     ensures { Finds SpellsWords (name.now ∷ address.now ∷ number.now ∷ []) result }
 {
@@ -111,7 +116,8 @@ fn with_two(name: &[u8], address: &[u8], number: &[u8]) -> Option<Command>
     }
 }
 
-/// The command of a name and three words.
+/// Parses a command of a name and three arguments, the address and the AS number of a peer, and the
+/// prefix or the address that is `sought` in its table. Returns `None` if there is no such command.
 fn with_three(name: &[u8], address: &[u8], number: &[u8], sought: &[u8]) -> Option<Command>
     ensures { Finds SpellsWords (name.now ∷ address.now ∷ number.now ∷ sought.now ∷ []) result }
 {
@@ -125,7 +131,7 @@ fn with_three(name: &[u8], address: &[u8], number: &[u8], sought: &[u8]) -> Opti
     }
 }
 
-/// The peer that two words spell.
+/// Parses a peer from its address and its AS number. Returns `None` if either is malformed.
 fn read_peer(address: &[u8], number: &[u8]) -> Option<Peer>
     ensures { Finds (SpellsPeer address.now) number.now result }
 {

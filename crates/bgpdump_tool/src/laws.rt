@@ -1,4 +1,6 @@
-//! What the definitions name, and that no line spells two commands.
+//! Theorems about the definitions that the contracts of this crate cite. The functions have no code
+//! and nothing calls them: what they state is proved as the crate is checked. `docs/proved.md`
+//! names them.
 
 ghost use Rattle.std.specs.Prelude.{◌≡◌, ℕ, ◌^◌, List, [], ◌∷◌};
 ghost use Rattle.bgpdump_tool.specs.declared.play.TheConstants.{LONGEST_SCRIPT};
@@ -12,29 +14,29 @@ ghost use Rattle.rib_player.specs.Tables.{Routes};
 ghost use Rattle.rib_player.specs.Lookups.{IsBest};
 ghost use Rattle.bgpdump_tool.specs.Replies.{best};
 
-/// The numbers that the definitions name: how many octets a script has at most, and the states of a
-/// lost session (RFC 6396, section 4.4.1).
+/// Proves the values of the numbers that the definitions name: the greatest size of a script, in
+/// octets, and the session states Established and Idle (RFC 6396, section 4.4.1).
 pub fn run_numbers()
     ensures script { LONGEST_SCRIPT ≡ 2 ^ 20 }
     ensures states { ESTABLISHED ∷ IDLE ∷ [] ≡ 6 ∷ 1 ∷ [] }
 {}
 
-/// No line spells two commands.
+/// Proves that a line spells at most one command.
 pub fn one_command()
     ensures { (a b : Command) (line : List ℕ) → SpellsCommand a line → SpellsCommand b line →
         a ≡ b }
 {}
 
-/// The lines of a script ask for one thing each. That each script has such lines is said by denying
-/// that one has none.
+/// Proves that the lines of a script ask for one thing each, and that each script has such lines.
+/// The second statement is a double negation: it names no lines.
 pub fn one_script()
     ensures one { (a b : List Line) (script : List ℕ) → IsScript a script → IsScript b script →
         a ≡ b }
     ensures some { (script : List ℕ) → ((lines : List Line) → IsScript lines script → ⊥) → ⊥ }
 {}
 
-/// What a lookup replies with is the longest match of the table: what the definition of replies
-/// finds meets the clause of `Table::longest`, which one answer alone does (`routes_of_peers`,
+/// Proves that a lookup replies with the longest match for the address: what the definition of the
+/// reply finds meets the contract of `Table::longest`, as only one answer does (`routes_of_peers`,
 /// `one_longest`).
 pub fn best_match()
     ensures { (routes : Routes) (peer : Peer) (address : Address) →

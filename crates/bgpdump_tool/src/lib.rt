@@ -1,5 +1,6 @@
-//! Scripts that play the dumps of routing tables and messages that routers write (MRT, RFC 6396)
-//! forwards and backwards, and command lines that ask for that or for their lines.
+//! Scripts that play MRT files (RFC 6396) forwards and backwards. The program calls [`run_play`]
+//! for `--play`; read `play.rt` first, then `carrying.rt`. What else the program needs is
+//! re-exported from `bgpdump_command_line` and `bgpdump_lines`.
 #![tactic(auto)]
 
 mod carrying;

@@ -1,4 +1,5 @@
-//! A whole run of a script: the replies to its commands, and the reports.
+//! Running a script from its first line to its last. The program calls [`run_play`]; read that
+//! first, then `carry_line`, which executes one line.
 
 ghost use Rattle.std.specs.Prelude.{◌≡◌, ◌↔◌, ◌<◌, ◌≤◌, ◌+◌, ◌||◌, ℕ, List, false, IsTrue, length};
 ghost use Rattle.std.specs.Io.KnownBytes.{Consumes};
@@ -21,14 +22,13 @@ use prefix_store::PrefixStore;
 use std::alloc::Global;
 use std::rc::Rc;
 
-/// How many octets a script has at most.
+/// The greatest size of a script that is run, in octets.
 pub const LONGEST_SCRIPT: usize = 1 << 20;
 
-/// Carries out a script over an input of MRT records (RFC 6396), with a new player over the store
-/// that the caller names. The replies go to `out`; the reports of faulty records that commands
-/// take, and of lines that are no commands, go to `err`. Each is written before the next record or
-/// line is read. Records that no command takes are left. Where the run ends without a fault, both
-/// outputs are finished, `out` first. A script of more than 1,048,576 octets isn't begun.
+/// Runs `script` over an input of MRT records (RFC 6396), on a new player with stores of type `S`.
+/// Replies go to `out`, reports of faulty records and bad lines to `err`, each before the next
+/// record or line is read. Records that no command wants aren't read. If the run ends without a
+/// fault, `out` and then `err` are finished. A script of more than 1,048,576 octets isn't run.
 pub fn run_play<S: PrefixStore<Rc<Route>>, I: Input, O: Output, E: Output>(
     alloc: Global,
     input: &mut I,
@@ -41,37 +41,39 @@ pub fn run_play<S: PrefixStore<Rc<Route>>, I: Input, O: Output, E: Output>(
     requires out_sound { O.failed out.old ≡ false }
     requires err_sound { E.failed err.old ≡ false }
 
-    // Whatever the input may hold on the whole: the texts that the script has over it were written,
-    // or fronts of them.
+    // The texts of the script over the whole input are written, or prefixes of them, whatever
+    // octets may follow those taken. None follow if the run has met the end of the input.
     ensures text { OverDevices I.left O.written E.written
         (PlaysOverAll stamp script.now result)
         (input.old, out.old, err.old) (input.new, out.new, err.new) }
 
-    // A run that memory or an output broke off had begun some of the lines: those that it carried
-    // out are written, and of the next one, if it was in one, fronts; and the end was seen where
-    // these lines saw it.
+    // A run that is out of memory, or whose output fails, has executed some of the lines, and may
+    // have begun the next one. The texts of the former are written, and a prefix of what the latter
+    // adds, whatever octets may follow those taken. None follow if these lines have met the end of
+    // the input.
     ensures began { OverDevices I.left O.written E.written
         (BeganLines stamp script.now result)
         (input.old, out.old, err.old) (input.new, out.new, err.new) }
 
-    // A run that the input ended has written what the records taken whole give: the replies to the
-    // commands that ended, the reports of what was taken, and those of the lines before.
+    // A run that ends as the input fails or is too long has written what the whole records taken
+    // give: the replies to the commands that it completed, and the reports of faulty records and of
+    // bad lines before.
     ensures whole_records { OverDevices I.left O.written E.written
         (WritesCut stamp script.now result)
         (input.old, out.old, err.old) (input.new, out.new, err.new) }
 
-    // No record is taken that no command wants: where the run came to its end, commands took all
-    // that the octets give; and a fault of the input came inside a command that wanted more.
+    // No record is taken that no command wants. In a run that comes to its end, commands have taken
+    // all that the octets give; where the input fails or is too long, a command wanted more.
     ensures wanted { TakesOnlyWanted stamp script.now result
         (I.left input.old) (I.left input.new) }
 
-    // At most 2^40 octets are taken: those of frames, and then what stands behind them, none of it
-    // behind a header that states too much.
+    // At most 2^40 octets are taken: whole records, and then the octets after them, but none after
+    // a header with a length that is too great.
     ensures taken { length script.now ≤ LONGEST_SCRIPT →
         (taken : List ℕ) × Consumes (I.left input.old) (I.left input.new) taken
         × IsTaken stamp result taken }
 
-    // When each fault comes.
+    // The faults with which the run ends, and when.
     ensures read_fault { (result ≡ Outcome.ReadFault) ↔ IsTrue (I.failed input.new) }
     ensures write_fault { (result ≡ Outcome.WriteFault)
         ↔ IsTrue (O.failed out.new || E.failed err.new) }
@@ -99,7 +101,8 @@ pub fn run_play<S: PrefixStore<Rc<Route>>, I: Input, O: Output, E: Output>(
     }
 }
 
-/// Carries out the lines of a script.
+/// Executes the lines of `script` in order, counted from 1. Fails with the outcome of the first
+/// line that ends the run.
 fn play_lines<S: PrefixStore<Rc<Route>>, I: Input, O: Output, E: Output>(
     session: &mut Session<S>,
     input: &mut I,
@@ -128,7 +131,8 @@ fn play_lines<S: PrefixStore<Rc<Route>>, I: Input, O: Output, E: Output>(
     carry_line(session, input, rest, number, out, err)
 }
 
-/// Carries out a line of a script, by its number.
+/// Executes a line of a script: its command, or nothing if it is empty. Reports a line that is
+/// neither to `err`, with its `number`, counted from 1. Fails with the outcome that ends the run.
 fn carry_line<S: PrefixStore<Rc<Route>>, I: Input, O: Output, E: Output>(
     session: &mut Session<S>,
     input: &mut I,

@@ -1,4 +1,5 @@
-//! The texts of replies, and of reports of lines that are no commands.
+//! Writing the replies to commands, and the reports of bad lines. `play.rt`, `carrying.rt` and the
+//! files of `carrying` call these functions; read [`write_numbers`] first.
 
 ghost use Rattle.std.specs.Prelude.{◌≡◌, ◌||◌, map};
 ghost use Rattle.bgpdump_lines.specs.Going.{outcome_result, Puts, is_write};
@@ -7,7 +8,8 @@ ghost use Rattle.bgpdump_tool.specs.Replies.{at_text, none_text, numbers_text};
 use bgpdump_lines::{Outcome, Output, WriteFault, put_all};
 use ip_prefix::Text;
 
-/// Writes words, each with a number behind it, and then an ending. The text is scratch.
+/// Writes each word to `out` with the number after it, in decimal, and then `ending`. Overwrites
+/// `text`. Fails if `out` or memory allocation fails; a prefix may be written then.
 pub(crate) fn write_numbers<O: Output>(
     numbers: &[(&[u8], u64)],
     ending: &[u8],
@@ -28,7 +30,8 @@ pub(crate) fn write_numbers<O: Output>(
     Ok(())
 }
 
-/// Writes where the player stands, and whether the end was met. The text is scratch.
+/// Writes to `out` the reply `at` with the position of the player, and with `end` if `ended`, that
+/// is if the command met the end of the input. Overwrites `text`. Fails as [`write_numbers`] does.
 pub(crate) fn write_position<O: Output>(
     position: u64,
     ended: bool,
@@ -44,7 +47,7 @@ pub(crate) fn write_position<O: Output>(
     write_numbers(&[(b"at ", position)], b"\n", out, text)
 }
 
-/// Writes that there is nothing.
+/// Writes to `out` the reply `none`, for a question that finds nothing. Fails if `out` fails.
 pub(crate) fn write_none<O: Output>(out: &mut O) -> Result<(), WriteFault>
     ensures text { Puts (O.written out.old) (O.written out.new) none_text result }
     ensures failed { O.failed out.new ≡ (O.failed out.old || is_write result) }
@@ -53,7 +56,8 @@ pub(crate) fn write_none<O: Output>(out: &mut O) -> Result<(), WriteFault>
     Ok(())
 }
 
-/// How a reply was written, as a run ends.
+/// Converts the result of writing a reply into the result of a command, whose error is the outcome
+/// that ends the run.
 pub(crate) fn replied(reply: Result<(), WriteFault>) -> Result<(), Outcome>
     ensures { result ≡ outcome_result reply }
 {

@@ -1,4 +1,5 @@
-//! A player, and the source of what it plays next.
+//! The state of a run of a script, and its steps forward. `play.rt` makes a [`Session`] for each
+//! run, and the commands of `carrying.rt` act on it; read [`Session::step`] first.
 
 ghost use Rattle.std.specs.Prelude.{◌≡◌, ◌<◌, ◌+◌, ◌||◌, ℕ, false, IfOk, is_err};
 ghost use Rattle.std.specs.Io.KnownBytes.{Keeps};
@@ -18,23 +19,24 @@ use std::alloc::Global;
 use std::mem;
 use std::rc::Rc;
 
-/// A player, and the source of what it plays next.
+/// The state of a run of a script: a player, and the source of the events that it plays next.
 #[derive(Drop)]
 pub(crate) struct Session<S: PrefixStore<Rc<Route>>> {
-    /// What memory is taken from.
+    /// The allocator.
     pub(crate) alloc: Global,
     /// The player.
     pub(crate) player: Player<S>,
-    /// Where what isn't played yet comes from.
+    /// The source of the events that are played next.
     pub(crate) source: Source,
-    /// Whether something was reported.
+    /// Whether a faulty record or a bad line was reported.
     pub(crate) reported: bool,
-    /// Room for a text. What stands in it means nothing.
+    /// A buffer that a text is assembled in before it is written. Its contents are unspecified.
     pub(crate) text: Text,
 }
 
 impl<S: PrefixStore<Rc<Route>>> Session<S> {
-    /// Nothing is played, read or reported yet.
+    /// Returns the state at the start of a run: nothing is played, read or reported. `stamp`
+    /// selects the time that the routes of tables get.
     pub(crate) fn new(alloc: Global, stamp: Stamp) -> Self
         ensures player { result.player ≡ fresh }
         ensures source { result.source ≡ start_place stamp LIMIT }
@@ -49,14 +51,17 @@ impl<S: PrefixStore<Rc<Route>>> Session<S> {
         }
     }
 
-    /// Ends with the run. Where its stores leave their memory to the system, so does all of it.
+    /// Drops the state at the end of a run, or leaks it if the stores leave their memory to the
+    /// system (`PrefixStore::is_left`).
     pub(crate) fn end(self) {
         if S::is_left() {
             mem::forget(self);
         }
     }
 
-    /// Passes on what was written so far, unless the next record is at hand, or none is read any more.
+    /// Flushes `out` and `err` before the next record is waited for. Does nothing if the source
+    /// reads no more, if `input` has the whole record buffered, or if it can't say what it has
+    /// buffered.
     fn pass_on<I: Input, O: Output, E: Output>(
         &self,
         input: &I,
@@ -74,9 +79,9 @@ impl<S: PrefixStore<Rc<Route>>> Session<S> {
         Ok(())
     }
 
-    /// One step on: over the step ahead, or else over what is read next. The fault of a record is
-    /// reported, and is a step for what counts steps here, not for the player. Answers whether
-    /// instead nothing is left to read.
+    /// Moves the player one step forward: redoes the step ahead, or else reads a record and plays
+    /// its event. A faulty record is reported to `err` and leaves the player as it was. Returns
+    /// `true` if neither a step nor a record is left. Fails with the outcome that ends the run.
     pub(crate) fn step<I: Input, O: Output, E: Output>(
         &mut self,
         input: &mut I,

@@ -1,13 +1,16 @@
-//! The pieces of a text, and the numbers that words spell.
+//! Splitting a script into lines and words, and the numbers that words spell. `play.rt` splits
+//! lines by [`split_first`], and `command.rt` calls all of these functions.
 
 ghost use Rattle.std.specs.Prelude.{◌≡◌, ◌≢◌, [], ◌∷◌, ◌<◌, length, IsTrue, IsFalse, IfSome, MatchOption};
 ghost use Rattle.bgp_wire.specs.Readers.{Finds};
 ghost use Rattle.bgpdump_tool.specs.Script.{pieces, SpellsDecimal};
 
-/// The least digit that others may follow: neither a sign nor a zero stands in front.
+/// The least first octet of a number of several digits: the digit 1, so that signs and leading
+/// zeros are excluded.
 const LEAST_IN_FRONT: u8 = b'1';
 
-/// What stands before the first mark, and what stands behind it; none where no mark is there.
+/// Returns the octets of `text` before the first `mark`, and the octets after it, or `None` if
+/// `text` has no `mark`.
 pub(crate) fn split_first(text: &[u8], mark: u8) -> Option<(&[u8], &[u8])>
     ensures pieces { MatchOption result (pieces mark text.now ≡ text.now ∷ [])
         (λ found. pieces mark text.now ≡ found.0.now ∷ pieces mark found.1.now) }
@@ -17,7 +20,7 @@ pub(crate) fn split_first(text: &[u8], mark: u8) -> Option<(&[u8], &[u8])>
     Some((&text[..at], &text[at + 1..]))
 }
 
-/// Whether the word is this name.
+/// Returns `true` if `word` equals `name`.
 pub(crate) fn is(word: &[u8], name: &[u8]) -> bool
     ensures same { IsTrue result → word.now ≡ name.now }
     ensures other { IsFalse result → word.now ≢ name.now }
@@ -25,7 +28,8 @@ pub(crate) fn is(word: &[u8], name: &[u8]) -> bool
     word == name
 }
 
-/// The number that the word spells.
+/// Parses a decimal number from 0 to 2^32 - 1, without sign or leading zeros. Returns `None` for
+/// any other word.
 pub(crate) fn read_number(word: &[u8]) -> Option<u32>
     ensures { Finds SpellsDecimal word.now result }
 {

@@ -1,4 +1,6 @@
-//! The fields that the bodies of records are made of (RFC 6396, section 4).
+//! Parsers of the fields that MRT record bodies are made of (RFC 6396, section 4). The parsers of
+//! each record type call them, one field after the other. All numbers are big-endian. Read
+//! [`Field`] first.
 
 ghost use Rattle.std.specs.Prelude.{◌≡◌, ℕ, List, length, IfSome, IfNone};
 ghost use Rattle.ip_prefix.specs.Sequences.{Begins};
@@ -13,14 +15,14 @@ use byteorder::{BigEndian, ByteOrder};
 use ip_prefix::{Addr, Family};
 use mrt_events::Peer;
 
-/// A field in front of octets, and what follows it.
+/// A value parsed from the start of a slice, and the octets after it.
 #[derive(Clone, Copy)]
 pub(crate) struct Field<'a, T> {
     pub(crate) value: T,
     pub(crate) rest: &'a [u8],
 }
 
-/// The octet in front, and what follows it.
+/// Parses the octet at the start of `octets`, or returns `None` if `octets` is empty.
 #[inline]
 pub(crate) fn split_octet(octets: &[u8]) -> Option<Field<'_, u8>>
     ensures { FindsField SpellsOctet octets.now result }
@@ -30,7 +32,7 @@ pub(crate) fn split_octet(octets: &[u8]) -> Option<Field<'_, u8>>
     Some(Field { value, rest })
 }
 
-/// What follows so many octets.
+/// Returns the octets after the first `size` octets, or `None` if `octets` is shorter than `size`.
 #[inline]
 pub(crate) fn skip(size: usize, octets: &[u8]) -> Option<&[u8]>
     ensures some { IfSome result (λ rest. (value : List ℕ)
@@ -41,7 +43,8 @@ pub(crate) fn skip(size: usize, octets: &[u8]) -> Option<&[u8]>
     Some(rest)
 }
 
-/// The number of two octets in front, and what follows it.
+/// Parses the big-endian 16-bit number at the start of `octets`, or returns `None` if `octets` has
+/// fewer than two octets.
 #[inline]
 pub(crate) fn split_short(octets: &[u8]) -> Option<Field<'_, u16>>
     ensures { FindsField SpellsShort octets.now result }
@@ -54,7 +57,8 @@ pub(crate) fn split_short(octets: &[u8]) -> Option<Field<'_, u16>>
     Some(Field { value, rest })
 }
 
-/// The number of four octets in front, and what follows it.
+/// Parses the big-endian 32-bit number at the start of `octets`, or returns `None` if `octets` has
+/// fewer than four octets.
 #[inline]
 pub(crate) fn split_word(octets: &[u8]) -> Option<Field<'_, u32>>
     ensures { FindsField SpellsWord octets.now result }
@@ -67,7 +71,8 @@ pub(crate) fn split_word(octets: &[u8]) -> Option<Field<'_, u32>>
     Some(Field { value, rest })
 }
 
-/// The AS number of this width in front, and what follows it.
+/// Parses the big-endian AS number at the start of `octets`, which takes two or four octets as
+/// `width` says. Returns `None` if `octets` has fewer.
 #[inline]
 pub(crate) fn split_asn(width: AsWidth, octets: &[u8]) -> Option<Field<'_, u32>>
     ensures { FindsField (SpellsAsn width) octets.now result }
@@ -82,7 +87,9 @@ pub(crate) fn split_asn(width: AsWidth, octets: &[u8]) -> Option<Field<'_, u32>>
     }
 }
 
-/// The octets in front behind their length, and what follows them.
+/// Splits a field off that begins with its length, a big-endian 16-bit number of octets. Returns
+/// the field's octets without the length, and the octets after the field. Returns `None` if
+/// `octets` is shorter than the field.
 #[inline]
 pub(crate) fn split_sized(octets: &[u8]) -> Option<(&[u8], &[u8])>
     ensures some { IfSome result (λ found. Begins AreSized found.0.now found.1.now octets.now) }
@@ -92,8 +99,9 @@ pub(crate) fn split_sized(octets: &[u8]) -> Option<(&[u8], &[u8])>
     number.rest.split_at_checked(usize::from(number.value))
 }
 
-/// Makes the address that of this family in front, and answers what follows it. Where none stands
-/// there, it stays.
+/// Parses the address of `family` at the start of `octets` into `addr`, and returns the octets
+/// after it. An IPv4 address takes 4 octets, an IPv6 address 16. If `octets` has fewer, returns
+/// `None` and leaves `addr` as it was.
 #[inline]
 pub(crate) fn fill_address<'a>(
     addr: &mut Addr,
@@ -118,8 +126,8 @@ pub(crate) fn fill_address<'a>(
     }
 }
 
-/// The peer in front, whose address is of this family and AS number of this width, and what follows
-/// it.
+/// Parses the peer at the start of `octets`: its address, of `family`, and then its AS number, of
+/// `width`. Returns `None` if `octets` has too few octets for them.
 #[inline(always)]
 pub(crate) fn split_peer_of(
     family: Family,

@@ -1,4 +1,6 @@
-//! What becomes of a record: the event that it makes, or the first fault that it has.
+//! Parsing one MRT record into its event, or finding its fault. [`Source`](crate::Source) calls
+//! [`judge`] for each record whose type and subtype are supported (`profile.rt`); `judge` calls the
+//! parser of that record type.
 
 ghost use Rattle.std.specs.Prelude.{◌≡◌};
 ghost use Rattle.mrt_wire.specs.declared.judging.Refusal.TheVariants.{Memory};
@@ -19,10 +21,12 @@ use mrt_events::{Event, Items, Peer, Stamp, Tag, Time};
 use mrt_frames::{Header, RecordKind};
 use std::alloc::{AllocError, Global};
 
-/// Why a record makes no event.
+/// The reason why a record yields no event.
 #[derive(Clone, Copy)]
 pub(crate) enum Refusal {
+    /// The record is faulty.
     Fault(RecordKind),
+    /// Memory allocation failed.
     Memory,
 }
 
@@ -45,15 +49,19 @@ impl From<WireFault> for Refusal {
     }
 }
 
-/// A record as it was taken: the form of its body, its header, and the octets behind it.
+/// A record of a supported type and subtype, as it was taken from the input.
 #[derive(Clone, Copy)]
 pub(crate) struct RawRecord<'a> {
+    /// The form of the body, by the type and subtype of the record.
     pub(crate) form: Form,
+    /// The fields of the MRT common header (RFC 6396, section 2).
     pub(crate) header: Header,
+    /// The octets after the header, as many as the header states.
     pub(crate) body: &'a [u8],
 }
 
-/// The peers that an index has.
+/// Returns the peers of `index` in the order of their peer indexes, or an empty slice if there is
+/// no peer index table.
 fn peers_in(index: &Option<Peers>) -> &[Peer]
     ensures { result.now ≡ peers_in index.now }
 {
@@ -63,7 +71,9 @@ fn peers_in(index: &Option<Peers>) -> &[Peer]
     }
 }
 
-/// The fault of a table's entries, by the first number among them that is no peer's.
+/// Returns the fault of the entries of a RIB record, or `None` if they have none. It is `NoIndex`
+/// if no peer index table was accepted before them, or else `PeerIndex` with `unknown`, the first
+/// peer index among the entries that isn't in the table.
 fn entries_fault(index: &Option<Peers>, unknown: Option<u16>) -> Option<RecordKind>
     ensures { result ≡ entries_fault index.now unknown }
 {
@@ -74,7 +84,8 @@ fn entries_fault(index: &Option<Peers>, unknown: Option<u16>) -> Option<RecordKi
     Some(RecordKind::PeerIndex(number))
 }
 
-/// The tag of what happened in a session, by the microseconds.
+/// Returns the tag of the event of a BGP4MP record: `Bgp4mpEt` if the record has microseconds
+/// (RFC 6396, section 3), or else `Bgp4mp`.
 fn session_tag(micros: Option<u32>) -> Tag
     ensures { result ≡ session_tag micros }
 {
@@ -84,8 +95,9 @@ fn session_tag(micros: Option<u32>) -> Tag
     }
 }
 
-/// Reads a record. One that brings an index puts it in the place of the one before, unless it is
-/// refused.
+/// Parses a record into its event. The peers of an accepted PEER_INDEX_TABLE replace `index`. Fails
+/// with the fault of the record, or with `Memory` if memory allocation fails; `index` is left as it
+/// was then.
 #[inline(always)]
 pub(crate) fn judge(
     alloc: Global,

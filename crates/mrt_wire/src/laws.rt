@@ -1,4 +1,6 @@
-//! Laws of what the contracts cite of the octets of records.
+//! Theorems about the definitions that the contracts of this crate cite. The functions have no code
+//! and nothing calls them: what they state is proved as the crate is checked. `docs/proved.md`
+//! names them.
 
 ghost use Rattle.std.specs.Prelude.{◌≡◌, ℕ, List};
 ghost use Rattle.mrt_events.specs.declared.stamp.Stamp.{Stamp};
@@ -13,25 +15,27 @@ ghost use Rattle.mrt_wire.specs.Results.{Frame, Index, Splits};
 ghost use Rattle.mrt_frames.specs.Taken.{IsOctets};
 ghost use Rattle.mrt_wire.specs.Answered.{SplitsOneWay};
 
-/// No body of one type and subtype holds two contents.
+/// Proves that a record body of one type and subtype has at most one content.
 pub fn one_content()
     ensures { (kind subtype : ℕ) (body : List ℕ) (a b : Content) →
         IsBody kind subtype a body → IsBody kind subtype b body → a ≡ b }
 {}
 
-/// No list of octets is without a split into frames and a rest that begins with no record.
+/// Proves that no list of octets is without a split into frames and a rest that begins with no
+/// record. The statement is a double negation: it names no split.
 pub fn no_octets_without_a_split()
     ensures { (stamp : Stamp) (index : Index) (octets : List ℕ) → IsOctets octets →
         ((frames : List Frame) (rest : List ℕ) → Splits stamp index octets frames rest → ⊥) → ⊥ }
 {}
 
-/// No list of octets splits in two ways.
+/// Proves that a list of octets splits in at most one way into frames and a rest that begins with
+/// no record.
 pub fn one_split()
     ensures { (stamp : Stamp) (index : Index) (octets : List ℕ) → SplitsOneWay stamp index octets }
 {}
 
-/// The numbers of records that the definitions name (RFC 6396, sections 2 to 4), and the greatest
-/// length that is read.
+/// Proves the values of the numbers that the definitions name: MRT types and subtypes, the sizes of
+/// fields in octets (RFC 6396, sections 2 to 4), and the greatest length of a body that is read.
 pub fn record_numbers()
     ensures sizes { (HEADER_SIZE ≡ 12) × (LONGEST_BODY ≡ 16777216) }
     ensures types { (TABLE_DUMP ≡ 12) × (TABLE_DUMP_V2 ≡ 13) × (BGP4MP ≡ 16)

@@ -1,26 +1,28 @@
-//! What a source answers, and whether it goes on.
+//! What [`Source::next`](crate::Source::next) returns, and the phases of a source. Callers match on
+//! [`Next`]; [`Phase`] is named by the contracts of `source.rt`.
 
 use mrt_events::Event;
 use mrt_frames::RecordFault;
 
-/// What comes next in an input.
+/// The next result of an input: an event, a faulty record, or the end.
 #[derive(Debug, Drop)]
 pub enum Next {
-    /// An accepted record.
+    /// The event of an accepted record.
     Event(Event),
-    /// A faulty record.
+    /// The fault of a record, with the number and the offset of that record.
     Bad(RecordFault),
-    /// Nothing more is read.
+    /// The end: no more records are read.
     End,
 }
 
-/// Whether a source goes on.
+/// Whether a source still reads its input.
 #[derive(Clone, Copy, Debug, PartialEq, Eq)]
 pub enum Phase {
-    /// It reads.
+    /// The source reads its input.
     Reading,
-    /// It has seen the end, or a header that states too much.
+    /// The source has met the end of its input, a record that is cut there, or a header with a
+    /// length above 16,777,216 octets.
     Ended,
-    /// It has met a fault.
+    /// The source has returned an error.
     Spent,
 }

@@ -1,4 +1,6 @@
-//! Reading the peers of a table (RFC 6396, section 4.3.1).
+//! Parsing PEER_INDEX_TABLE records (RFC 6396, section 4.3.1). The entries of RIB records refer to
+//! the peers of this table by their position in it, the peer index. `judge` calls
+//! [`read_peer_index`]; read that first.
 
 ghost use Rattle.std.specs.Prelude.{◌≡◌, ℕ, List, IfSome, IfNone};
 ghost use Rattle.ip_prefix.specs.Sequences.{Begins};
@@ -16,19 +18,20 @@ use ip_prefix::Family;
 use mrt_events::Peer;
 use std::alloc::Global;
 
-/// The bit of a Peer Type that tells an IPv6 address (RFC 6396, section 4.3.1).
+/// The Peer Type bit that is set if the peer has an IPv6 address (RFC 6396, section 4.3.1).
 const IPV6_PEER: u8 = 0x01;
 
-/// The bit of a Peer Type that tells an AS number of four octets.
+/// The Peer Type bit that is set if the AS number has four octets (RFC 6396, section 4.3.1).
 const AS4_PEER: u8 = 0x02;
 
-/// How many octets the BGP ID of a collector or a peer has.
+/// The size of the BGP ID of a collector or a peer, in octets.
 const ID_SIZE: usize = 4;
 
-/// How many octets a peer has at least.
+/// The size of the smallest peer entry, in octets: a Peer Type, a BGP ID, an IPv4 address and an AS
+/// number of two octets.
 const SMALLEST_PEER: usize = 11;
 
-/// The family of a peer's address.
+/// Returns the family of the address of a peer, by its Peer Type.
 fn peer_family(kind: u8) -> Family
     ensures { result ≡ peer_family kind }
 {
@@ -39,7 +42,7 @@ fn peer_family(kind: u8) -> Family
     }
 }
 
-/// The width of a peer's AS number.
+/// Returns the width of the AS number of a peer, by its Peer Type.
 fn peer_width(kind: u8) -> AsWidth
     ensures { result ≡ peer_width kind }
 {
@@ -50,7 +53,8 @@ fn peer_width(kind: u8) -> AsWidth
     }
 }
 
-/// The peer in front, and what follows it.
+/// Parses the peer entry at the start of `octets`, whose BGP ID is ignored. Returns `None` if
+/// `octets` is shorter than the entry.
 fn split_peer(octets: &[u8]) -> Option<Field<'_, Peer>>
     ensures { FindsField SpellsPeer octets.now result }
 {
@@ -60,10 +64,13 @@ fn split_peer(octets: &[u8]) -> Option<Field<'_, Peer>>
     split_peer_of(family, width, after_id)
 }
 
-/// The peers that the octets begin with, behind their number.
+/// Parses the peer entries at the start of `octets`, after their 16-bit count, and ignores the
+/// octets after them. Fails with `Malformed` if there are fewer entries than the count states, or
+/// with `Memory` if memory allocation fails.
 fn read_peers(alloc: Global, octets: &[u8]) -> Result<Peers, WireFault>
     ensures { Reads (WithMore (SpellsCounted SpellsPeer)) octets.now result }
 {
+    // Room is reserved for no more peers than the octets can hold, whatever the count.
     let count = split_short(octets).ok_or(WireFault::Malformed)?;
     let most = count.rest.len() / SMALLEST_PEER;
     let mut peers = Vec::with_capacity(alloc, most.min(usize::from(count.value)))?;
@@ -78,7 +85,9 @@ fn read_peers(alloc: Global, octets: &[u8]) -> Result<Peers, WireFault>
     Ok(Peers::from_vec(peers))
 }
 
-/// The peers of a PEER_INDEX_TABLE.
+/// Parses the body of a PEER_INDEX_TABLE record into its peers (RFC 6396, section 4.3.1), and
+/// ignores the collector's BGP ID and the view name. Fails with `Malformed` if it isn't such a
+/// body, or with `Memory` if memory allocation fails.
 pub(crate) fn read_peer_index(alloc: Global, octets: &[u8]) -> Result<Peers, WireFault>
     ensures { Reads SpellsPeerIndex octets.now result }
 {

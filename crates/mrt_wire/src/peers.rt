@@ -1,4 +1,6 @@
-//! The peers of a table, by their numbers, and the places of routes that peers sent.
+//! The peers of a peer index table, and the hash by which peers share the slots of
+//! `read_routes.rt`, which keep routes of table entries. `table_dump.rt` calls [`place_of`]; a RIB
+//! entry is assigned a slot by its peer index instead.
 
 ghost use Rattle.std.specs.Prelude.{◌<◌};
 ghost use Rattle.mrt_wire.specs.declared.peers.TheConstants.{PEER_PLACES};
@@ -7,17 +9,18 @@ use bgp_paths::ListOf;
 use ip_prefix::{Addr, Family, V4_OCTETS};
 use mrt_events::Peer;
 
-/// Among how many places peers are spread. Of one peer more two have a place in common, where each
-/// takes the place of the other's route.
+/// The number of slots that peers are spread over. With one more peer, two peers share a slot,
+/// where each overwrites the other's route.
 pub(crate) const PEER_PLACES: usize = 256;
 
-/// What a peer's number is multiplied by: the odd number next to 2^32 divided by the golden ratio.
+/// The multiplier of the hash of a peer: the odd number nearest to 2^32 divided by the golden
+/// ratio.
 const MULTIPLIER: u32 = 0x9E37_79B9;
 
-/// How many bits of such a product are left out.
+/// The number of low bits of the product that the hash of a peer leaves out.
 const LOWEST_BITS: u32 = 24;
 
-/// A peer that isn't known yet.
+/// Returns a peer with address 0.0.0.0 and AS number 0, to be overwritten by a parser.
 #[inline]
 pub(crate) fn blank_peer() -> Peer {
     Peer {
@@ -26,7 +29,7 @@ pub(crate) fn blank_peer() -> Peer {
     }
 }
 
-/// The last four octets of an address, as a number.
+/// Returns the last four octets of `addr` as a big-endian number.
 #[inline]
 fn last_octets(addr: &Addr) -> u32 {
     match addr.family() {
@@ -45,15 +48,16 @@ fn last_octets(addr: &Addr) -> u32 {
     }
 }
 
-/// A place that peers with another address or another AS number mostly don't have. Nothing is owed
-/// of which it is.
+/// Returns the index of the slot of `peer`, by a hash of the last four octets of its address and
+/// its AS number. Several peers may share a slot.
 #[inline]
 pub(crate) fn place_of(peer: &Peer) -> usize
     ensures { result < PEER_PLACES }
 {
+    // Which slot a peer has changes time and memory alone, so the contract bounds the index only.
     let first = last_octets(&peer.addr).wrapping_add(peer.asn);
     (first.wrapping_mul(MULTIPLIER) >> LOWEST_BITS) as usize
 }
 
-/// The peers of a table, by their numbers.
+/// The peers of a peer index table, in the order of their peer indexes.
 pub(crate) type Peers = ListOf<Peer>;

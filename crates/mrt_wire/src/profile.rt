@@ -1,5 +1,6 @@
-//! The types and subtypes of records that are read, and the forms of their bodies (RFC 6396,
-//! section 4).
+//! The MRT types and subtypes that are supported, and the form of the body of each (RFC 6396,
+//! section 4). `FrameReader::take_record` asks [`Forms`] for the form of each record, and `judge`
+//! matches on it. Read [`Form`] first.
 
 ghost use Rattle.std.specs.Prelude.{◌≡◌};
 ghost use Rattle.mrt_wire.specs.Profile.{form_of, session_form};
@@ -8,70 +9,81 @@ use bgp_wire::AsWidth;
 use ip_prefix::Family;
 use mrt_frames::Profile;
 
-/// The type of the entries of a table, each in a record of its own (section 4.2), and their
-/// subtypes, which are the numbers of families.
+/// The MRT type of TABLE_DUMP records (RFC 6396, section 4.2). Their subtypes are address family
+/// numbers.
 const TABLE_DUMP: u16 = 12;
 
+/// The TABLE_DUMP subtype of an IPv4 prefix.
 const AFI_IPV4: u16 = 1;
 
+/// The TABLE_DUMP subtype of an IPv6 prefix.
 const AFI_IPV6: u16 = 2;
 
-/// The type of the parts of a table (section 4.3), and their subtypes.
+/// The MRT type of TABLE_DUMP_V2 records (RFC 6396, section 4.3).
 const TABLE_DUMP_V2: u16 = 13;
 
+/// The TABLE_DUMP_V2 subtype of the peers of a table (RFC 6396, section 4.3.1).
 const PEER_INDEX_TABLE: u16 = 1;
 
+/// The TABLE_DUMP_V2 subtype of the entries for an IPv4 prefix (RFC 6396, section 4.3.2).
 const RIB_IPV4_UNICAST: u16 = 2;
 
+/// The TABLE_DUMP_V2 subtype of the entries for an IPv6 prefix (RFC 6396, section 4.3.2).
 const RIB_IPV6_UNICAST: u16 = 4;
 
-/// The types of what happens in sessions (section 4.4), without and with microseconds
-/// (section 3), and their subtypes.
+/// The MRT type of BGP4MP records (RFC 6396, section 4.4).
 const BGP4MP: u16 = 16;
 
+/// The MRT type of BGP4MP records whose bodies begin with microseconds (RFC 6396, section 3).
 const BGP4MP_ET: u16 = 17;
 
+/// The BGP4MP subtype of a state change, with AS numbers of two octets (RFC 6396, section 4.4.1).
 const BGP4MP_STATE_CHANGE: u16 = 0;
 
+/// The BGP4MP subtype of a message, with AS numbers of two octets (RFC 6396, section 4.4.2).
 const BGP4MP_MESSAGE: u16 = 1;
 
+/// The BGP4MP subtype of a message, with AS numbers of four octets (RFC 6396, section 4.4.3).
 const BGP4MP_MESSAGE_AS4: u16 = 4;
 
+/// The BGP4MP subtype of a state change, with AS numbers of four octets (RFC 6396, section 4.4.4).
 const BGP4MP_STATE_CHANGE_AS4: u16 = 5;
 
-/// What happens in a session.
+/// The kind of a BGP4MP record, by what it reports of a session.
 #[derive(Clone, Copy)]
 pub(crate) enum SessionKind {
-    /// Its state changes (sections 4.4.1 and 4.4.4).
+    /// A state change (RFC 6396, sections 4.4.1 and 4.4.4).
     StateChange,
-    /// The peer sends a message (sections 4.4.2 and 4.4.3).
+    /// A BGP message from the peer (RFC 6396, sections 4.4.2 and 4.4.3).
     Message,
 }
 
-/// The form of a body that says what happens in a session.
+/// The form of the body of a BGP4MP record.
 #[derive(Clone, Copy)]
 pub(crate) struct SessionForm {
+    /// The kind of the record.
     pub(crate) kind: SessionKind,
-    /// The width of AS numbers.
+    /// The width of AS numbers, in the paths of an UPDATE too.
     pub(crate) width: AsWidth,
-    /// Whether microseconds stand in front.
+    /// Whether the body begins with microseconds, as those of BGP4MP_ET do (RFC 6396, section 3).
     pub(crate) timed: bool,
 }
 
-/// The form of a body.
+/// The form of the body of a supported record.
 #[derive(Clone, Copy)]
 pub(crate) enum Form {
-    /// An entry of a table with its peer, for a prefix of this family (section 4.2).
+    /// One peer and its route to a prefix of this family: TABLE_DUMP (RFC 6396, section 4.2).
     Entry(Family),
-    /// The peers of a table (section 4.3.1).
+    /// The peers of a table: PEER_INDEX_TABLE (RFC 6396, section 4.3.1).
     Peers,
-    /// The entries of a table for a prefix of this family (section 4.3.2).
+    /// The entries of a table for one prefix of this family: RIB_IPV4_UNICAST or RIB_IPV6_UNICAST
+    /// (RFC 6396, section 4.3.2).
     Entries(Family),
-    /// What happens in a session (section 4.4).
+    /// A state change or a message of a session: BGP4MP or BGP4MP_ET (RFC 6396, section 4.4).
     Session(SessionForm),
 }
 
-/// The profile of the records that are read: those whose bodies have a form.
+/// The [`Profile`] of the supported records, which gives each type and subtype a [`Form`].
 pub(crate) struct Forms;
 
 impl Profile for Forms {
@@ -93,7 +105,8 @@ impl Profile for Forms {
     }
 }
 
-/// The form of what happens in a session.
+/// Returns the form of the body of a BGP4MP record of this subtype, or `None` if the subtype isn't
+/// supported. `timed` says whether the body begins with microseconds.
 fn session_form(timed: bool, subtype: u16) -> Option<Form>
     ensures { result ≡ session_form timed subtype }
 {

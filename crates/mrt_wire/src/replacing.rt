@@ -1,4 +1,5 @@
-//! Attributes of a message in the place of others, whose memory they use.
+//! Moving or copying the attributes of a message into a route, whose memory is reused.
+//! `route_pool.rt` calls [`put_attrs`].
 
 ghost use Rattle.std.specs.Prelude.{◌≡◌, true, OnOk};
 
@@ -6,12 +7,14 @@ use bgp_wire::{Attrs, replace_attrs};
 use std::alloc::{AllocError, Global};
 use std::mem;
 
-/// Sets `attrs` to `others`, which gets its memory. It is done part by part, since only paths and
-/// communities have memory: to exchange the whole takes a hundred instructions more.
+/// Sets `attrs` to the value of `others`, and gives `others` the path and the communities that
+/// `attrs` had, so that their memory is reused.
 #[inline(always)]
 fn exchange_attrs(attrs: &mut Attrs, others: &mut Attrs)
     ensures { attrs.new ≡ others.old }
 {
+    // Only paths and communities own memory. To exchange all fields takes a hundred instructions
+    // more.
     mem::swap(&mut attrs.path, &mut others.path);
     mem::swap(&mut attrs.communities, &mut others.communities);
     attrs.next_hop = others.next_hop;
@@ -22,8 +25,9 @@ fn exchange_attrs(attrs: &mut Attrs, others: &mut Attrs)
     attrs.atomic = others.atomic;
 }
 
-/// Sets `attrs` to `others`: a copy of them if they are kept, and else they are exchanged. On error,
-/// `attrs` is unspecified.
+/// Sets `attrs` to the value of `others`, which is copied and left as it is if `is_kept`. If not,
+/// `others` is unspecified afterwards. On error, which means that memory allocation fails, `attrs`
+/// is unspecified.
 #[inline(always)]
 pub(crate) fn put_attrs(
     alloc: Global,

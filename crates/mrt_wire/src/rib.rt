@@ -1,4 +1,6 @@
-//! Reading the entries of a table for one prefix (RFC 6396, section 4.3.2).
+//! Parsing RIB_IPV4_UNICAST and RIB_IPV6_UNICAST records: the entries of a table for one prefix
+//! (RFC 6396, sections 4.3.2 and 4.3.4). `judge` calls [`read_rib`]; read that first, then
+//! `read_entry`.
 
 ghost use Rattle.std.specs.Prelude.{◌≡◌, ◌∷◌, [], slice_get, OnOk, IfSome, IfNone, IfOk, IfErr};
 ghost use Rattle.std.specs.Option.{option_or};
@@ -18,42 +20,48 @@ use mrt_events::{Item, Peer, Route, Stamp};
 use std::alloc::{AllocError, Global};
 use std::rc::Rc;
 
-/// How many octets the sequence number of a record has.
+/// The size of the Sequence Number of a RIB record, in octets (RFC 6396, section 4.3.2).
 const SEQUENCE_SIZE: usize = 4;
 
-/// How many octets an entry has at least.
+/// The size of the smallest RIB entry, in octets: a Peer Index, an Originated Time and an Attribute
+/// Length of 0 (RFC 6396, section 4.3.4).
 const SMALLEST_ENTRY: usize = 8;
 
-/// The route of one peer, as it was read.
+/// A parsed RIB entry (RFC 6396, section 4.3.4).
 #[derive(Drop)]
 pub(crate) struct ReadEntry {
-    /// The route, with the time that it is given.
+    /// The route, whose time is the one that the stamp of the [`Snapshot`] selects.
     pub(crate) route: Rc<Route>,
-    /// When it was originated, in seconds since 1970.
+    /// The Originated Time, in seconds since 1970.
     pub(crate) originated: u32,
-    /// The number of the peer in the peer index.
+    /// The peer index.
     pub(crate) index: u16,
 }
 
-/// A table as it was written: by their numbers its peers, the family of its prefixes, when it was
-/// written, and which time its routes are given.
+/// The context in which the entries of a RIB record are parsed.
 #[derive(Clone, Copy)]
 pub(crate) struct Snapshot<'a> {
+    /// The peers of the peer index table, in the order of their peer indexes.
     pub(crate) peers: &'a [Peer],
+    /// The family of the prefix of the record.
     pub(crate) family: Family,
+    /// The timestamp of the record, in seconds since 1970.
     pub(crate) seconds: u32,
+    /// The choice of the time that the routes get.
     pub(crate) stamp: Stamp,
 }
 
-/// What entries say, and the first number among them that is no peer's.
+/// The items of the entries of a RIB record.
 #[derive(Drop)]
 pub(crate) struct EntryItems {
+    /// The announcements of the entries whose peer index is in the peer index table.
     pub(crate) items: Vec<Item>,
+    /// The first peer index among the entries that isn't in the peer index table.
     pub(crate) unknown: Option<u16>,
 }
 
-/// The time of the route of a table's entry, of which the first is that of its record, and the
-/// second that at which it was originated.
+/// Returns the time of the route of a table entry, in seconds since 1970. As `stamp` says, it is
+/// `seconds`, the timestamp of the record, or `originated`, the Originated Time of the entry.
 #[inline]
 pub(crate) fn time_of(stamp: Stamp, seconds: u32, originated: u32) -> u32
     ensures { result ≡ entry_time stamp seconds originated }
@@ -64,16 +72,20 @@ pub(crate) fn time_of(stamp: Stamp, seconds: u32, originated: u32) -> u32
     }
 }
 
-/// An entry as it is framed, and what follows it.
+/// The fields of a RIB entry, and the octets after the entry.
 #[derive(Clone, Copy)]
 struct FramedEntry<'a> {
+    /// The path attributes, unparsed.
     attributes: &'a [u8],
     rest: &'a [u8],
+    /// The Originated Time, in seconds since 1970.
     time: u32,
+    /// The peer index.
     index: u16,
 }
 
-/// The entry in front, and what follows it.
+/// Splits the RIB entry at the start of `octets` into its fields, without parsing the attributes
+/// (RFC 6396, section 4.3.4). Returns `None` if `octets` is shorter than the entry.
 #[inline]
 fn frame_entry(octets: &[u8]) -> Option<FramedEntry<'_>>
     ensures some { IfSome result (λ f.
@@ -91,7 +103,8 @@ fn frame_entry(octets: &[u8]) -> Option<FramedEntry<'_>>
     })
 }
 
-/// The entry in front, and what follows it.
+/// Parses the RIB entry at the start of `octets`, and returns it with the octets after it. Fails
+/// with `Malformed` if no well-formed entry is there, or with `Memory` if memory allocation fails.
 #[inline]
 fn read_entry<'a>(
     alloc: Global,
@@ -122,7 +135,7 @@ fn read_entry<'a>(
     Ok((entry, framed.rest))
 }
 
-/// The peer of this number.
+/// Returns the peer whose peer index is `number`, or `None` if there is no such peer.
 #[inline]
 fn peer_at(peers: &[Peer], number: u16) -> Option<Peer>
     ensures { result ≡ slice_get peers.now number }
@@ -131,7 +144,9 @@ fn peer_at(peers: &[Peer], number: u16) -> Option<Peer>
 }
 
 impl EntryItems {
-    /// Adds what an entry announces, or notes that its number is no peer's.
+    /// Appends the announcement of `prefix` with the route of `entry`. If its peer index is
+    /// unknown, sets `unknown` to it instead, unless `unknown` is set. On error, which means that
+    /// memory allocation fails, `self` is unspecified.
     fn add(
         &mut self,
         snapshot: Snapshot<'_>,
@@ -154,7 +169,9 @@ impl EntryItems {
     }
 }
 
-/// What the entries say that the octets begin with, behind their number.
+/// Parses the RIB entries at the start of `octets`, after their 16-bit count, into announcements of
+/// `prefix`. The octets after the entries are ignored. Fails with `Malformed` if an entry is
+/// missing or malformed, or with `Memory` if memory allocation fails.
 fn read_entries(
     alloc: Global,
     pool: &mut Pool,
@@ -165,6 +182,7 @@ fn read_entries(
     ensures told { IfOk result (λ told. EntriesTold snapshot.entry prefix told octets.now) }
     ensures refused { IfErr result (Refuses (SpellsEntries snapshot.entry.family) octets.now) }
 {
+    // Room is reserved for no more items than the octets can hold entries, whatever the count.
     let count = split_short(octets).ok_or(WireFault::Malformed)?;
     let most = count.rest.len() / SMALLEST_ENTRY;
     let mut items = pool.take_items(alloc);
@@ -182,7 +200,9 @@ fn read_entries(
     Ok(told)
 }
 
-/// What the entries of RIB_IPV4_UNICAST or of RIB_IPV6_UNICAST say.
+/// Parses the body of a RIB_IPV4_UNICAST or RIB_IPV6_UNICAST record into announcements (RFC 6396,
+/// section 4.3.2). Unknown peer indexes are no error here. Fails with `Malformed` if it isn't such
+/// a body, or with `Memory` if memory allocation fails.
 pub(crate) fn read_rib(
     alloc: Global,
     pool: &mut Pool,

@@ -1,4 +1,5 @@
-//! Routes that the attributes of a table's entry are read into.
+//! Parsing the path attributes of a table entry into a route, whose memory is reused if nobody else
+//! holds it. `route_pool.rt` and `read_routes.rt` call these functions. Read [`SentAttrs`] first.
 
 ghost use Rattle.std.specs.Prelude.{IfOk, IfErr, OnOk};
 ghost use Rattle.mrt_wire.specs.Judging.{IsSentAs, RefusesSent};
@@ -9,29 +10,33 @@ use mrt_events::Route;
 use std::alloc::{AllocError, Global};
 use std::rc::Rc;
 
-/// The attributes of a table's entry as they were sent: the octets, the family of the prefix that
-/// they are for, and the width of their AS numbers.
+/// The path attributes of a table entry, unparsed.
 #[derive(Clone, Copy)]
 pub(crate) struct SentAttrs<'a> {
+    /// The octets of the attributes (RFC 4271, section 4.3).
     pub(crate) octets: &'a [u8],
+    /// The family of the prefix of the entry.
     pub(crate) family: Family,
+    /// The width of AS numbers: two octets in TABLE_DUMP, and four in TABLE_DUMP_V2.
     pub(crate) width: AsWidth,
 }
 
-/// Returns a route without attributes, of time 0.
+/// Returns a route without attributes and with time 0.
 #[inline(always)]
 pub(crate) fn blank_route(alloc: Global) -> Route {
     let attrs = Attrs::none(alloc);
     Route { attrs, time: 0 }
 }
 
-/// Returns a route without attributes that has one owner.
+/// Returns a new shared route without attributes and with time 0, or an error if memory allocation
+/// fails.
 pub(crate) fn new_route(alloc: Global) -> Result<Rc<Route>, AllocError> {
     Ok(Rc::new(alloc, blank_route(alloc))?)
 }
 
-/// Reads the attributes of a table's entry into a route, and gives it this time. On error, the route
-/// is unspecified.
+/// Parses the path attributes of a table entry into `route`, and sets its time, in seconds since
+/// 1970. Fails with `Malformed` if the attributes are malformed, or with `Memory` if memory
+/// allocation fails; `route` is unspecified then.
 #[inline(always)]
 pub(crate) fn fill_rib_route(
     route: &mut Route,
@@ -52,7 +57,9 @@ pub(crate) fn fill_rib_route(
     Ok(())
 }
 
-/// Reads the attributes of a table's entry into a new route of this time.
+/// Parses the path attributes of a table entry into a new route with this time, in seconds since
+/// 1970. Fails with `Malformed` if the attributes are malformed, or with `Memory` if memory
+/// allocation fails.
 #[inline(always)]
 fn read_rib_route(alloc: Global, sent: SentAttrs<'_>, time: u32) -> Result<Rc<Route>, WireFault>
     ensures read { IfOk result (λ route. IsSentAs sent.entry time route.value) }
@@ -63,8 +70,9 @@ fn read_rib_route(alloc: Global, sent: SentAttrs<'_>, time: u32) -> Result<Rc<Ro
     Ok(shared)
 }
 
-/// Reads the attributes of a table's entry into `shared`, with this time. Where the route has another
-/// owner, a new one takes its place. On error, a route that has no other owner is unspecified.
+/// Parses the path attributes of a table entry into `shared`, and sets its time, in seconds since
+/// 1970. If the route has another owner, `shared` becomes a new route. Fails as [`fill_rib_route`]
+/// does; a route without another owner is unspecified then, and one with another is left as it was.
 #[inline(always)]
 pub(crate) fn fill_shared(
     shared: &mut Rc<Route>,

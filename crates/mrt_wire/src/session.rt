@@ -1,4 +1,6 @@
-//! Reading what happened in a session with a peer (RFC 6396, section 4.4).
+//! Parsing BGP4MP and BGP4MP_ET records: the state changes and messages of a session (RFC 6396,
+//! sections 3 and 4.4). `judge` calls [`read_session`]; read that first. `update.rt` turns an
+//! UPDATE into items.
 
 ghost use Rattle.std.specs.Prelude.{◌≡◌, ◌∷◌, [], ℕ, List, IfOk, IfSome, IfNone};
 ghost use Rattle.ip_prefix.specs.Network.{octet_count};
@@ -21,24 +23,27 @@ use ip_prefix::{Addr, Family};
 use mrt_events::{Item, Items, Peer};
 use std::alloc::{AllocError, Global};
 
-/// How many octets the index of an interface has (RFC 6396, section 4.4.1).
+/// The size of the Interface Index, in octets (RFC 6396, section 4.4.1).
 const INTERFACE_SIZE: usize = 2;
 
-/// How many microseconds make a second.
+/// The number of microseconds in a second.
 const MICROS_PER_SECOND: u32 = 1_000_000;
 
-/// How many octets a message and its peer have at most whose memory stays. Behind one more it is let
-/// go, and the next message asks for its own.
+/// The greatest size of a message, with the session fields in front of it, in octets, after which
+/// the memory that it was parsed into is kept. After one octet more it is freed, and the next
+/// message allocates its own.
 const LONGEST_KEPT: usize = 4096;
 
-/// What is said of a session, and the microseconds, where the body has them.
+/// The parsed body of a BGP4MP record.
 #[derive(Debug, Drop)]
 pub(crate) struct SessionItems {
+    /// The state change, or the withdrawals and announcements of the UPDATE.
     pub(crate) items: Items,
+    /// The microseconds of the timestamp, if the record is of type BGP4MP_ET (RFC 6396, section 3).
     pub(crate) micros: Option<u32>,
 }
 
-/// How many octets an address takes.
+/// Returns the size of an address of `family`, in octets.
 fn address_octets(family: Family) -> usize
     ensures { result ≡ octet_count family }
 {
@@ -48,7 +53,8 @@ fn address_octets(family: Family) -> usize
     }
 }
 
-/// The address family in front, and what follows it.
+/// Parses the 16-bit address family at the start of `octets`, 1 for IPv4 or 2 for IPv6 (RFC 6396,
+/// section 4.4.1). Returns `None` for another number, or if `octets` has fewer than two octets.
 fn split_family(octets: &[u8]) -> Option<Field<'_, Family>>
     ensures { FindsField SpellsFamily octets.now result }
 {
@@ -61,8 +67,9 @@ fn split_family(octets: &[u8]) -> Option<Field<'_, Family>>
     Some(Field { value, rest })
 }
 
-/// Makes the peer that of the session in front, and answers what follows it. Where none stands
-/// there, nothing is said of it.
+/// Parses the session fields at the start of `octets`, from the Peer AS Number to the Local IP
+/// Address, and sets `peer` (RFC 6396, section 4.4.1). Returns the octets after them. Returns
+/// `None` if a field is missing or the address family is unknown; `peer` is unspecified then.
 fn fill_session_peer<'a>(peer: &mut Peer, width: AsWidth, octets: &'a [u8]) -> Option<&'a [u8]>
     ensures some { IfSome result (λ rest.
         Begins (SpellsSessionPeer width) peer.new rest.now octets.now) }
@@ -78,7 +85,9 @@ fn fill_session_peer<'a>(peer: &mut Peer, width: AsWidth, octets: &'a [u8]) -> O
     Some(rest)
 }
 
-/// What the message of a session says that the octets are.
+/// Parses the session fields and the BGP message of a BGP4MP record into items, none unless the
+/// message is an UPDATE (RFC 6396, sections 4.4.2 and 4.4.3). Routes get the time `seconds`. Fails
+/// with `Malformed` if the octets have another form, or with `Memory` if memory allocation fails.
 #[inline(never)]
 fn read_peer_message(
     alloc: Global,
@@ -99,7 +108,9 @@ fn read_peer_message(
     }
 }
 
-/// The microseconds in front, where a body has them, and what follows them.
+/// Parses the microseconds at the start of the body of a BGP4MP_ET record, a 32-bit number
+/// (RFC 6396, section 3). If the body isn't `timed`, the value is `None` and the rest is all of
+/// `octets`. Returns `None` if the number is missing, or if it is 1,000,000 or more.
 fn split_micros(timed: bool, octets: &[u8]) -> Option<Field<'_, Option<u32>>>
     ensures { FindsField (SpellsMicros timed) octets.now result }
 {
@@ -119,7 +130,9 @@ fn split_micros(timed: bool, octets: &[u8]) -> Option<Field<'_, Option<u32>>>
     })
 }
 
-/// What the state change says that the octets are.
+/// Parses the session fields and the two states of a state change into an item, and ignores the
+/// octets after them (RFC 6396, sections 4.4.1 and 4.4.4). Fails with `Malformed` if a field is
+/// missing or the address family is unknown, or with `Memory` if memory allocation fails.
 fn read_change(alloc: Global, width: AsWidth, octets: &[u8]) -> Result<Items, WireFault>
     ensures { (seconds : ℕ) → Reads (Told (SpellsHappening SessionKind.StateChange width)
         (session_items seconds)) octets.now result }
@@ -132,7 +145,9 @@ fn read_change(alloc: Global, width: AsWidth, octets: &[u8]) -> Result<Items, Wi
     Ok(Items::from_vec(items))
 }
 
-/// What is said of a session, by the octets of what happened there.
+/// Parses the body of a BGP4MP record, without microseconds, into items. Routes get the time
+/// `seconds`. Fails with `Malformed` if the octets have another form, or with `Memory` if memory
+/// allocation fails.
 #[inline(always)]
 fn read_happening(
     alloc: Global,
@@ -156,7 +171,9 @@ fn read_happening(
     }
 }
 
-/// What a body of this form says.
+/// Parses the body of a BGP4MP or BGP4MP_ET record into items and microseconds. `seconds`, the
+/// timestamp of the record, is the time of its routes. Fails with `Malformed` if the body has
+/// another form, or with `Memory` if memory allocation fails.
 #[inline(always)]
 pub(crate) fn read_session(
     alloc: Global,

@@ -1,4 +1,6 @@
-//! A source of events.
+//! The reader of MRT files. `bgpdump_lines` and `bgpdump_tool` make a [`Source`] and call
+//! [`Source::next`] until it returns the end or an error; read that first. `judging.rt` parses each
+//! record.
 
 ghost use Rattle.std.specs.Prelude.{◌≡◌, ◌≤◌, ◌+◌, ◌||◌, ◌↔◌, Ok, Err, IsTrue};
 ghost use Rattle.mrt_wire.specs.declared.next.Next.{Next};
@@ -17,17 +19,22 @@ use mrt_frames::{FrameReader, Front, Input, RecordFault, RecordKind, SourceFault
 use std::alloc::Global;
 use std::marker::Model;
 
-/// Reads events from an input of MRT records (RFC 6396). It doesn't hold its input. The buffer of
-/// bodies, the number and the offset of records, and the peers of the last table are kept in it, and
-/// routes that it gave out, to be filled again where nobody else holds them any more.
+/// A reader of events from an input of MRT records (RFC 6396). The caller holds the input and
+/// passes it to each call of [`Source::next`].
 #[derive(Drop)]
 pub struct Source {
     alloc: Global,
+    /// The reader of headers and bodies, with the buffer of bodies and the offset in the input.
     frames: FrameReader,
+    /// The number of records read, faulty and unsupported ones included.
     number: u64,
+    /// The peers of the last accepted peer index table.
     index: Option<Peers>,
+    /// The choice of the time that the routes of tables get.
     stamp: Stamp,
     phase: Phase,
+    /// Memory that later records reuse, and routes that are overwritten once nobody else holds
+    /// them.
     pool: Pool,
 }
 
@@ -51,7 +58,9 @@ impl Model for Source {
 }
 
 impl Source {
-    /// A source at the start of its input. It takes `limit` octets at most, whatever these are.
+    /// Returns a source at the start of its input, which reads at most `limit` octets. `stamp` says
+    /// which time the routes of tables get. If the source would have to read more, even only to see
+    /// the end, [`Source::next`] fails with `InputTooLong`.
     pub fn new(alloc: Global, stamp: Stamp, limit: u64) -> Self
         ensures { result ≡ start_place stamp limit }
     {
@@ -66,7 +75,7 @@ impl Source {
         }
     }
 
-    /// How many octets were taken so far.
+    /// Returns the number of octets read from the input so far.
     pub fn offset(&self) -> u64
         ensures offset { result ≡ self.now.offset }
         ensures within { self.now.offset ≤ self.now.limit }
@@ -74,7 +83,8 @@ impl Source {
         self.frames.taken()
     }
 
-    /// Whether the next answer may be read from the input: no fault of the source came, and no end.
+    /// Returns `true` if [`Source::next`] may still read from the input, that is in phase
+    /// [`Phase::Reading`].
     #[inline]
     pub fn is_reading(&self) -> bool
         ensures { IsTrue result ↔ (self.now.phase ≡ Phase.Reading) }
@@ -82,7 +92,8 @@ impl Source {
         self.phase == Phase::Reading
     }
 
-    /// Takes an answer back that isn't needed any more, to use its memory for what comes next.
+    /// Takes back a result of [`Source::next`] that the caller no longer needs, to reuse its
+    /// memory.
     #[inline(always)]
     pub fn take_back(&mut self, answer: Next)
         ensures { self.new ≡ self.old }
@@ -93,16 +104,19 @@ impl Source {
         }
     }
 
-    /// What comes next in the input: an event, a faulty record, or the end. Behind the end, and
-    /// behind a fault of the source, the input isn't asked any more.
+    /// Reads the next record, and returns its event or its fault, or [`Next::End`] at the end of
+    /// the input. An error means that the input failed, the limit was met, or memory allocation
+    /// failed; each later call returns `Spent`. Except in phase [`Phase::Reading`], nothing is
+    /// read.
     #[inline(always)]
     pub fn next<I: Input>(&mut self, input: &mut I) -> Result<Next, SourceFault>
-        // Octets are taken: those of a record, which is judged, or the rest; or a fault came.
+        // One record is taken, and its event or fault is returned; or octets that begin with no
+        // whole record, and their fault or the end; or the call fails.
         ensures next { self.old.phase ≡ Phase.Reading →
             IsStep self.old self.new (I.left input.old) (I.left input.new) result }
 
-        // So it is the first result of the octets taken and any behind them, or of none where the
-        // answer saw the end.
+        // An answer is the first result of the octets taken, whatever octets follow them. None
+        // follow them if the answer is the end or a record that is cut there.
         ensures first { self.old.phase ≡ Phase.Reading → (answer : Next) → result ≡ Ok answer →
             IsFirstResult self.old (I.left input.old) (I.left input.new) answer }
 
@@ -127,7 +141,8 @@ impl Source {
         }
     }
 
-    /// The same for a source that reads. A fault leaves it as if it still did.
+    /// Reads the next record for [`Source::next`], in phase `Reading`. Returns its event or its
+    /// fault, or [`Next::End`] at the end of the input. On error, the phase is still `Reading`.
     #[inline(always)]
     fn read<I: Input>(&mut self, input: &mut I) -> Result<Next, SourceFault>
         ensures next { IsStep self.old (spent_place self.new result)
@@ -167,7 +182,8 @@ impl Source {
     }
 }
 
-/// Returns the answer for a record of this number and offset that has this fault.
+/// Returns [`Next::Bad`] with the fault `kind` of record `number`, counted from 1, whose header
+/// begins `offset` octets into the input.
 #[inline(always)]
 fn fault_answer(number: u64, offset: u64, kind: RecordKind) -> Next
     ensures { result ≡ fault_answer number offset kind }
@@ -179,7 +195,9 @@ fn fault_answer(number: u64, offset: u64, kind: RecordKind) -> Next
     })
 }
 
-/// The answer for a record of which this became.
+/// Returns the event or the fault of record `number`, counted from 1, whose header begins `offset`
+/// octets into the input. Fails with `SourceFault::Memory` if memory allocation failed as the
+/// record was parsed.
 fn record_answer(
     number: u64,
     offset: u64,

@@ -1,4 +1,6 @@
-//! Reading an entry of a table with its peer (RFC 6396, section 4.2).
+//! Parsing TABLE_DUMP records, each of one peer and its route to a prefix (RFC 6396, section 4.2).
+//! `judge` calls [`read_peer_entry`]; read `frame_entry` first, which splits the body into its
+//! fields.
 
 ghost use Rattle.std.specs.Prelude.{IfSome, IfNone};
 ghost use Rattle.ip_prefix.specs.Fronts.{BeginsWithNone};
@@ -19,23 +21,26 @@ use ip_prefix::{Addr, Family, Prefix, V4_OCTETS};
 use mrt_events::{Item, Items, Peer, SharedRanges, Stamp};
 use std::alloc::Global;
 
-/// How many octets the numbers of the view and of the record have.
+/// The size of the View Number and the Sequence Number together, in octets (RFC 6396, section 4.2).
 const NUMBERS_SIZE: usize = 4;
 
-/// How many octets the status has.
+/// The size of the Status, in octets (RFC 6396, section 4.2).
 const STATUS_SIZE: usize = 1;
 
-/// An entry as it is framed.
+/// The fields of a TABLE_DUMP body (RFC 6396, section 4.2).
 #[derive(Clone, Copy)]
 struct FramedEntry<'a> {
+    /// The path attributes, unparsed.
     attributes: &'a [u8],
     prefix: Prefix,
     peer: Peer,
+    /// The Originated Time, in seconds since 1970.
     time: u32,
 }
 
-/// The prefix in front, and what follows it. Its bits stand first in an address of this family,
-/// and their number behind it.
+/// Parses the Prefix and the Prefix Length at the start of `octets`: an address of `family`, and
+/// the number of its leading bits that make the prefix. Returns `None` if `octets` is too short, or
+/// if the length exceeds the bits of an address.
 #[inline(always)]
 fn split_prefix(family: Family, octets: &[u8]) -> Option<Field<'_, Prefix>>
     ensures { FindsField (SpellsPrefix family) octets.now result }
@@ -50,7 +55,10 @@ fn split_prefix(family: Family, octets: &[u8]) -> Option<Field<'_, Prefix>>
     })
 }
 
-/// The entry in front.
+/// Splits a TABLE_DUMP body into its fields, without parsing the attributes (RFC 6396,
+/// section 4.2). View Number, Sequence Number, Status and the octets after the entry are ignored.
+/// Returns `None` if a field is missing or the Prefix Length exceeds the bits of an address of
+/// `family`.
 #[inline(always)]
 fn frame_entry(family: Family, octets: &[u8]) -> Option<FramedEntry<'_>>
     ensures some { IfSome result (λ framed. IsFramed family framed octets.now) }
@@ -74,14 +82,18 @@ fn frame_entry(family: Family, octets: &[u8]) -> Option<FramedEntry<'_>>
     })
 }
 
-/// The time of a record, and which time its entries get.
+/// The timestamp of a TABLE_DUMP record, and the choice of the time that its route gets.
 #[derive(Clone, Copy)]
 pub(crate) struct Dating {
+    /// The timestamp of the record, in seconds since 1970.
     pub(crate) seconds: u32,
+    /// The choice of the time that the route gets.
     pub(crate) stamp: Stamp,
 }
 
-/// What an entry with its peer says. It is inlined, so that there is code for each family.
+/// Parses a TABLE_DUMP body for a prefix of `family` into an announcement. Fails with `Malformed`
+/// if it isn't such a body, or with `Memory` if memory allocation fails.
+// It is inlined, so that there is code for each family.
 #[inline(always)]
 fn read_entry_of(
     alloc: Global,
@@ -111,7 +123,8 @@ fn read_entry_of(
     Ok(Items::sharing(items, SharedRanges { start, middle, end }))
 }
 
-/// What an entry with its peer says.
+/// Parses a TABLE_DUMP body for a prefix of `family` into an announcement (RFC 6396, section 4.2).
+/// Fails with `Malformed` if it isn't such a body, or with `Memory` if memory allocation fails.
 pub(crate) fn read_peer_entry(
     alloc: Global,
     pool: &mut Pool,

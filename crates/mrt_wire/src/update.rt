@@ -1,4 +1,6 @@
-//! What messages say of routes.
+//! Turning the parsed parts of an UPDATE into withdrawals and announcements. `session.rt` calls
+//! [`items_of_update`] once `replace_message` has parsed an UPDATE into `Pool::parts`; read that
+//! first.
 
 ghost use Rattle.std.specs.Prelude.{◌≡◌, ◌++◌, ◌∷◌, [], true, map, OnOk, IfOk};
 ghost use Rattle.bgp_wire.specs.Parts.{update_in};
@@ -14,17 +16,21 @@ use mrt_events::{Item, Items, Peer, Route, SharedRanges};
 use std::alloc::{AllocError, Global};
 use std::rc::Rc;
 
-/// Prefixes that were announced together: by whom, when, and whether their attributes are kept
-/// for others.
+/// Prefixes that an UPDATE announces with the same attributes.
 #[derive(Clone, Copy)]
 struct Announcement<'a, 'b> {
+    /// The peer that sent the UPDATE.
     peer: &'a Peer,
+    /// The prefixes, which may be none.
     prefixes: &'b Prefixes,
+    /// The time of the route, in seconds since 1970.
     seconds: u32,
+    /// Whether the attributes are needed again, so that they are copied into the route.
     is_kept: bool,
 }
 
-/// Adds what withdrawals of the prefixes say.
+/// Appends a withdrawal of each prefix by `peer` to `items`. On error, which means that memory
+/// allocation fails, `items` is unspecified.
 fn add_withdrawals(
     items: &mut Vec<Item>,
     peer: &Peer,
@@ -39,8 +45,9 @@ fn add_withdrawals(
     Ok(())
 }
 
-/// Adds what the announcement with these attributes says, which are given away unless they are
-/// kept. No route is made for no prefixes.
+/// Appends an announcement of each prefix to `items`, all with one route, which is made from
+/// `attrs` unless there are no prefixes. `attrs` is left as it was if `is_kept`, and is unspecified
+/// if not. On error, which means that memory allocation fails, `items` is unspecified.
 #[inline(always)]
 fn add_announcements(
     alloc: Global,
@@ -70,7 +77,8 @@ fn add_announcements(
     Ok(())
 }
 
-/// How many prefixes an UPDATE of these parts names, or `usize::MAX` where more.
+/// Returns the number of prefixes that `parts` withdraws and announces, or `usize::MAX` if there
+/// are more.
 #[inline]
 fn prefix_count(parts: &UpdateParts) -> usize {
     let withdrawn = parts.withdrawn.as_slice().len();
@@ -83,7 +91,9 @@ fn prefix_count(parts: &UpdateParts) -> usize {
         .saturating_add(mp_announced)
 }
 
-/// What the UPDATE says that was read last. Its attributes are given away.
+/// Returns the items of the UPDATE in `pool.parts`: its withdrawals, by MP_UNREACH_NLRI last, and
+/// then its announcements, by MP_REACH_NLRI last (RFC 4760, sections 3 and 4). Fails if memory
+/// allocation fails. The attributes in `pool.parts` are unspecified afterwards.
 #[inline]
 pub(crate) fn items_of_update(
     alloc: Global,

@@ -1,4 +1,5 @@
-//! The commands that move the player.
+//! The commands that move the player: `next`, `back` and `goto`, and `lose`, which plays an event
+//! of its own. `carry_out` calls these functions. Read [`next`] first.
 
 ghost use Rattle.std.specs.Prelude.{◌≡◌, ◌-◌, ◌<◌, ◌||◌, ℕ, min, false, IfOk, OnErr, Ok, Err};
 ghost use Rattle.prefix_store.specs.declared.store.TheConstants.{GREATEST_COUNT};
@@ -20,10 +21,12 @@ use rib_player::Player;
 use std::alloc::Global;
 use std::rc::Rc;
 
-/// The state of a session that is idle (RFC 6396, section 4.4.1).
+/// The number of the session state Idle (RFC 6396, section 4.4.1).
 const IDLE: u16 = 1;
 
-/// Carries out `next`. What is found faulty is reported, and counts as a step here.
+/// Executes `next`: moves the player `count` steps forward, or as far as the input goes, and writes
+/// its position to `out`. Each faulty record is reported to `err` and counts as one of the steps.
+/// Fails with the outcome that ends the run.
 pub(crate) fn next<S: PrefixStore<Rc<Route>>, I: Input, O: Output, E: Output>(
     session: &mut Session<S>,
     input: &mut I,
@@ -50,7 +53,9 @@ pub(crate) fn next<S: PrefixStore<Rc<Route>>, I: Input, O: Output, E: Output>(
     replied(write_position(session.player.at(), false, out, &mut session.text))
 }
 
-/// Carries out `goto`. What is found faulty on the way is reported, and is no step.
+/// Executes `goto`: moves the player to `position`, or as far as the kept steps or the input go,
+/// and writes its position to `out`. Each faulty record is reported to `err` and counts as no step.
+/// Fails with the outcome that ends the run.
 pub(crate) fn goto<S: PrefixStore<Rc<Route>>, I: Input, O: Output, E: Output>(
     session: &mut Session<S>,
     input: &mut I,
@@ -81,7 +86,7 @@ pub(crate) fn goto<S: PrefixStore<Rc<Route>>, I: Input, O: Output, E: Output>(
     replied(write_position(session.player.at(), false, out, &mut session.text))
 }
 
-/// So many steps back, or as many as there are.
+/// Undoes `count` steps, or all that are kept before the cursor if there are fewer.
 fn back_over<S: PrefixStore<Rc<Route>>>(player: &mut Player<S>, count: u64)
     ensures { player.new ≡
         at_cursor (player.old.cursor - min count (behind player.old)) player.old }
@@ -93,8 +98,9 @@ fn back_over<S: PrefixStore<Rc<Route>>>(player: &mut Player<S>, count: u64)
     }
 }
 
-/// Goes back over so many steps, or as many as there are, and writes where the player stands then.
-/// The text is scratch.
+/// Undoes `count` steps, or all that are kept before the cursor if there are fewer, and writes the
+/// position of the player to `out`. Overwrites `text`. Fails if `out` or memory allocation fails;
+/// the steps are undone even so.
 pub(crate) fn back<S: PrefixStore<Rc<Route>>, O: Output>(
     player: &mut Player<S>,
     count: u64,
@@ -111,8 +117,9 @@ pub(crate) fn back<S: PrefixStore<Rc<Route>>, O: Output>(
     write_position(player.at(), false, out, text)
 }
 
-/// Plays the loss of the session with the peer in place of the steps ahead, and answers how many
-/// that dropped.
+/// Plays the loss of the session with `peer`, a change of its state from Established to Idle at
+/// time 0. Returns the number of steps ahead, which this drops. Fails if memory allocation fails;
+/// `player` is left as it was then.
 pub(crate) fn play_loss<S: PrefixStore<Rc<Route>>>(
     player: &mut Player<S>,
     alloc: Global,

@@ -1,4 +1,6 @@
-//! The commands that ask the player's table.
+//! The commands that print parts of the player's table: `peers`, `table`, `route` and `lookup`.
+//! `carry_out` calls these functions. Each fails if `out` or memory allocation fails; a prefix of
+//! its reply may be written then.
 
 ghost use Rattle.std.specs.Prelude.{◌≡◌, ◌||◌};
 ghost use Rattle.bgpdump_lines.specs.Going.{Puts, PutsPart, is_write};
@@ -17,10 +19,11 @@ use std::alloc::Global;
 use std::collections::BTreeMap;
 use std::rc::Rc;
 
-/// How many routes are asked for at once.
+/// The number of routes that are fetched from a table at a time.
 const MANY: usize = 64;
 
-/// Writes the peers that have a route, each on a line. The text is scratch.
+/// Writes to `out` each peer that has a route, with the number of its routes, or `none` if there is
+/// no such peer. Overwrites `text`.
 pub(crate) fn peers<S: PrefixStore<Rc<Route>>, O: Output>(
     table: &Table<S>,
     out: &mut O,
@@ -36,7 +39,8 @@ pub(crate) fn peers<S: PrefixStore<Rc<Route>>, O: Output>(
     }
 }
 
-/// Writes these peers, each on a line with the number of its routes. The text is scratch.
+/// Writes to `out` each peer of `few`, with the number of its routes, or `none` if `few` is empty.
+/// Overwrites `text`.
 fn few_peers<O: Output>(
     few: &BTreeMap<Peer, u64>,
     out: &mut O,
@@ -55,8 +59,8 @@ fn few_peers<O: Output>(
     Ok(())
 }
 
-/// Writes the peers that have a route, each on a line, as they are found one after another. The text
-/// is scratch.
+/// Writes to `out` each peer that has a route, with the number of its routes, or `none` if there is
+/// no such peer. The peers are looked up in `table` one after another. Overwrites `text`.
 fn each_peer<S: PrefixStore<Rc<Route>>, O: Output>(
     table: &Table<S>,
     out: &mut O,
@@ -77,7 +81,7 @@ fn each_peer<S: PrefixStore<Rc<Route>>, O: Output>(
     Ok(())
 }
 
-/// Writes a peer, and how many routes it has. The text is scratch.
+/// Writes the `PEER` line of a peer with this number of routes to `out`. Overwrites `text`.
 fn write_peer<O: Output>(
     peer: &Peer,
     routes: u64,
@@ -97,8 +101,8 @@ fn write_peer<O: Output>(
     Ok(())
 }
 
-/// Writes all routes of the peer, each on a line, many at a time, and then how many they are. What
-/// stands in `text` is overwritten.
+/// Writes all routes of `peer` to `out`, each on a line, in the order of their prefixes, and then
+/// the number of them. Overwrites `text`.
 pub(crate) fn table<S: PrefixStore<Rc<Route>>, O: Output>(
     table: &Table<S>,
     alloc: Global,
@@ -126,6 +130,7 @@ pub(crate) fn table<S: PrefixStore<Rc<Route>>, O: Output>(
 }
 
 /// Writes the route that the peer has to the prefix. The text is scratch.
+/// Without such a route, writes `none`.
 pub(crate) fn route<S: PrefixStore<Rc<Route>>, O: Output>(
     table: &Table<S>,
     peer: &Peer,
@@ -143,8 +148,8 @@ pub(crate) fn route<S: PrefixStore<Rc<Route>>, O: Output>(
     }
 }
 
-/// Writes the route to the longest prefix that the peer has a route to and that contains the
-/// address. The text is scratch.
+/// Writes to `out` the route of `peer` whose prefix is the longest match for `addr`, or `none` if
+/// no prefix that it has a route to contains `addr`. Overwrites `text`.
 pub(crate) fn lookup<S: PrefixStore<Rc<Route>>, O: Output>(
     table: &Table<S>,
     peer: &Peer,
