@@ -3,9 +3,11 @@
 
     bench/measure.py PROGRAM STORES [FILE..]
 
-Without files it makes three of about 30 MB, a table, one of the old kind and updates, always the same octets. Of fifteen runs
-of the program and of limit, and three of bgpdump, the least processor time counts; output goes to the
-null device. limit decodes without checks or allocation: what one core can do (it takes a C compiler).
+Without files it makes five of about 30 MB, always the same octets: a table whose entries all have other attributes, one
+of the old kind, updates, a table as routers send it, in which a peer has the same attributes for runs of prefixes, and
+one whose runs are all of six. Of fifteen runs of the program and of limit, and three of bgpdump, the least processor
+time counts; output goes to the null device. limit decodes without checks or allocation: what one core can do (it takes
+a C compiler).
 
 The player goes to the end of the file, back to its start, and to the end again, in five runs. Each
 part is timed alone, and the whole with what follows it; the least processor times count, and the
@@ -24,6 +26,7 @@ import subprocess
 import sys
 import tempfile
 import time
+from functools import partial
 from pathlib import Path
 
 SIZE = 30_000_000
@@ -116,6 +119,58 @@ def write_table(out, chance):
         out.write(record(1700000000, 13, 2 if size == 4 else 4, body))
 
 
+class Runs:
+    """The attributes of a peer's entries, which stay the same for a run of its prefixes.
+
+    `length` draws how long a run is. `again` is the chance that a run has attributes that the peer had before.
+    """
+
+    def __init__(self, chance, reach, length, again):
+        self.chance, self.reach, self.length, self.again = chance, reach, length, again
+        self.left, self.before = 0, []
+
+    def next(self):
+        if self.left == 0:
+            self.left = self.length(self.chance)
+            if not self.before or self.chance.random() >= self.again:
+                self.before.append(attributes(self.chance, self.reach))
+                self.found = self.before[-1]
+            else:
+                self.found = self.chance.choice(self.before)
+        self.left -= 1
+        return self.found
+
+
+def of_six(_):
+    return 6
+
+
+def as_routers_send(chance):
+    """A run of one to a dozen, a half of them short."""
+    return chance.randint(1, 2) if chance.random() < 0.5 else chance.randint(3, 12)
+
+
+def write_table_of_runs(out, chance, length, again):
+    """As write_table() writes it, but with peers whose attributes stay the same for runs of prefixes."""
+    peers = [(size, chance.choice(TRANSITS), address(chance, size)) for size in [4] * 40 + [16] * 20]
+    index = b''.join(struct.pack('>BI', 2 if size == 4 else 3, n) + addr + struct.pack('>I', asn)
+                     for n, (size, asn, addr) in enumerate(peers))
+    out.write(record(1700000000, 13, 1, struct.pack('>IHH', 1, 0, 60) + index))
+    runs = [Runs(chance, attribute(3, addr) if size == 4 else attribute(14, bytes([16]) + addr), length, again)
+            for size, _, addr in peers]
+    tables = sorted(((size, prefix(chance, size)) for size in [4] * 10_500 + [16] * 2_100),
+                    key=lambda it: (it[0], it[1][1:].ljust(it[0], b'\0')))
+    for sequence, (size, spelled) in enumerate(tables):
+        first, last = (40, 60) if size == 16 else (0, 40)
+        chosen = chance.sample(range(first, last), chance.randint((last - first) // 2, last - first))
+        entries = struct.pack('>H', len(chosen))
+        for peer in chosen:
+            found = runs[peer].next()
+            entries += struct.pack('>HIH', peer, 1690000000 + sequence, len(found)) + found
+        body = struct.pack('>I', sequence) + spelled + entries
+        out.write(record(1700000000, 13, 2 if size == 4 else 4, body))
+
+
 def write_old_table(out, chance):
     """The entries of prefixes, up to 40 each, every sixth of IPv6, a record each (TABLE_DUMP).
 
@@ -173,10 +228,19 @@ def write_updates(out, chance):
         seconds += chance.random() < 0.01
 
 
+KINDS = (
+    ('table.mrt', write_table),
+    ('old-table.mrt', write_old_table),
+    ('updates.mrt', write_updates),
+    ('table-as-sent.mrt', partial(write_table_of_runs, length=as_routers_send, again=0.3)),
+    ('table-of-six.mrt', partial(write_table_of_runs, length=of_six, again=0)),
+)
+
+
 def made_files(folder):
-    """The three files, made where they aren't there yet."""
+    """The files, made where they aren't there yet."""
     files = []
-    for name, write in (('table.mrt', write_table), ('old-table.mrt', write_old_table), ('updates.mrt', write_updates)):
+    for name, write in KINDS:
         path = folder / name
         if not path.exists():
             part = folder / (name + '.part')
@@ -243,7 +307,7 @@ def measure_lines(program, limit, path):
             if name != 'bgpdump' or turn < 3:
                 best[name] = min(best.get(name, 1e9), run(command))
     for name, seconds in best.items():
-        print('%-14s %-9s %7.3f %9d %10s %7.1f' % (
+        print('%-17s %-9s %7.3f %9d %10s %7.1f' % (
             path.name, name, seconds, lines / seconds, peak_memory(commands[name]), seconds / best['ours']))
     return lines, best['ours']
 
@@ -278,7 +342,7 @@ def measure_player(command, lines, dump):
     peak = max(peak for _, peak in turns)
     for part, times in zip(WAY + ('all',), zip(*(times for times, _ in turns))):
         seconds = min(times)
-        print('%-14s %-9s %7.3f %9d %10.1f %7.1f %7d' % (
+        print('%-17s %-9s %7.3f %9d %10.1f %7.1f %7d' % (
             Path(command[-1]).name, part, seconds, lines / seconds, peak / 1024, seconds / dump,
             peak * 1024 / max(lines, 1)))
 
@@ -306,12 +370,12 @@ def main():
     folder.mkdir(exist_ok=True)
     program = str(Path(sys.argv[1]).resolve())
     files = [Path(word) for word in sys.argv[3:]] or made_files(folder)
-    print('file           program   seconds   lines/s   peak MiB   ratio')
+    print('file              program   seconds   lines/s   peak MiB   ratio')
     limit = built_limit(folder)
     measured = [measure_lines(program, limit, path) for path in files]
     if not shutil.which('bgpdump'):
         print("Debian's bgpdump isn't here to compare with: apt-get install bgpdump")
-    print('file           player    seconds   lines/s   peak MiB   ratio  octets')
+    print('file              player    seconds   lines/s   peak MiB   ratio  octets')
     script = written_script(folder)
     for path, (lines, dump) in zip(files, measured):
         measure_player([program, '--play', script, str(path)], lines, dump)
