@@ -1,10 +1,9 @@
 -- What a run writes goes through the buffers to the writers.
 use Rattle.std.proofs.Common.{◌≡◌, ◌∙◌, ◌⊎◌, ap, sym, refl, subst, inl, inr, IsNone, List, [], ◌++◌, ℕ, Option, Some, None, IfSome}
-use Rattle.std.specs.Io.KnownBytes.{Appends, Consumes, Keeps}
+use Rattle.std.specs.Io.KnownBytes.{Appends, Keeps}
 use Rattle.std.proofs.KnownBytes.{Appends-kept}
-use Rattle.mrt_wire.specs.Results.{Took, Frame}
 use Rattle.mrt_wire.specs.declared.Stamp.{Stamp}
-use Rattle.bgpdump_tool.specs.Run.{AppendsFront, EndedByInput, EndsSo, MayHold, Outputs, Texts, Writes, WritesFronts, outputs_of}
+use Rattle.bgpdump_tool.specs.Run.{AppendsFront, EndedByInput, EndsSo, Outputs, Texts, Writes, WritesFronts, outputs_of}
 use Rattle.bgpdump_tool.specs.declared.Outcome.{Outcome}
 use Rattle.bgpdump_tool.specs.declared.Outcome.TheVariants.{Done, Reported, ReadFault, WriteFault, InputTooLong, ScriptTooLong, Memory}
 use Rattle.mrt_wire.specs.Results.{Finding}
@@ -32,19 +31,6 @@ EndsSo-kept WriteFault texts old mid new ends kept = fronts_kept texts old mid n
 EndsSo-kept InputTooLong texts old mid new ends kept = fronts_kept texts old mid new ends kept
 EndsSo-kept Memory texts old mid new ends kept = fronts_kept texts old mid new ends kept
 EndsSo-kept ScriptTooLong texts old mid new ends kept = absurd ends
-
--- ---- what was taken of known octets
-
-known_taken : (old new : Option (List ℕ)) (octets taken : List ℕ) → old ≡ Some octets → Consumes old new taken → (after : List ℕ) × Took old new taken after × (octets ≡ taken ++ after)
-known_taken None new octets taken is consumed = cc
-known_taken (Some xs) None octets taken is consumed = absurd consumed
-known_taken (Some xs) (Some ys) octets taken is consumed = (ys, record { before = ap (λ o. Some o) consumed; now = refl }, cc)
-
--- known octets are what the input holds on the whole
-pub holds_known : (stamp : Stamp) (Saw : List Frame → List ℕ → Type 0) (old new : Option (List ℕ)) (octets taken : List ℕ) → old ≡ Some octets → Consumes old new taken → MayHold stamp Saw old new octets
-holds_known stamp Saw old new octets taken is consumed =
-    let known = known_taken old new octets taken is consumed in
-    record { taken = taken; after = known.0; more = known.0; took = known.1; whole = known.2; follows = λ frames rest splits saw none. none }
 
 -- ---- what the writers are left with
 

@@ -7,8 +7,7 @@ use Rattle.mrt_wire.specs.declared.BufferedInput.{BufferedInput}
 use Rattle.mrt_wire.specs.declared.Stamp.{Stamp}
 use Rattle.mrt_wire.specs.Results.{Took, Finding, Splits, Frame}
 use Rattle.bgpdump_tool.specs.Run.{EndedByInput, EndsSo, Outputs, OverTaken, Texts, Writes, all_results, outputs_of}
-use Rattle.bgpdump_tool.specs.Script.{IsScript, Line}
-use Rattle.bgpdump_tool.specs.Course.{play_texts}
+use Rattle.bgpdump_tool.specs.Course.{OverLines, play_texts}
 use Rattle.bgpdump_tool.specs.declared.play.TheConstants.{LONGEST_SCRIPT}
 use Rattle.bgpdump.specs.declared.run.Devices.{Devices}
 use Rattle.bgpdump.specs.declared.run.Ended.{Ended}
@@ -68,10 +67,6 @@ LeavesWhole remaining contents contents' stamp texts devices ended =
     EndedByInput ended.outcome
     → HasTaken remaining (λ left left'. OverTaken stamp left left' (λ frames rest. Leaves contents contents' (Writes (texts (all_results stamp frames []))) devices ended))
     devices.reader ended.input
-
--- this is so of the lines that the script asks for
-abbrev pub OverLines : List ℕ → (List Line → Type 0) → Type 0
-OverLines script IsSo = (lines : List Line) → IsScript lines script → IsSo lines
 
 -- so it is with the replies to a script that isn't too long
 abbrev pub HoldReplies : {R O E : Type 0} → (O → Option (List ℕ)) → (E → Option (List ℕ)) → Stamp → List ℕ → List ℕ → Ended R O E → Type 0

@@ -3,9 +3,9 @@
 ghost use Rattle.std.specs.Prelude.{◌≡◌, ◌≤◌, ◌<◌, ◌⊎◌, ℕ, List, false, length, Some, None, IfSome, IfOk, IfErr, IsNone};
 ghost use Rattle.std.specs.Io.Buffered.{writer_contents};
 ghost use Rattle.std.specs.Io.KnownBytes.{Consumes, Keeps};
-ghost use Rattle.bgpdump_tool.specs.Course.{cut_texts, play_texts};
+ghost use Rattle.bgpdump_tool.specs.Course.{OverLines, cut_texts, play_texts};
 ghost use Rattle.bgpdump_tool.specs.Run.{dump_texts, outputs_of};
-ghost use Rattle.bgpdump.specs.Endings.{lost_outcome, HasTaken, Leaves, LeavesSo, LeavesWhole, TookMost, KeepsBoth, OverLines, OverWriters, buffered_outputs, has_failed};
+ghost use Rattle.bgpdump.specs.Endings.{lost_outcome, HasTaken, Leaves, LeavesSo, LeavesWhole, TookMost, KeepsBoth, OverWriters, buffered_outputs, has_failed};
 
 use crate::files::read_outcome;
 use bgpdump_tool::{LONGEST_SCRIPT, Outcome, Output, WriteOutput, run_dump, run_play};

@@ -2,4 +2,5 @@ pub mod Lines
 pub mod Heading
 pub mod Kept
 pub mod Run
+pub mod KnownOctets
 pub mod Going

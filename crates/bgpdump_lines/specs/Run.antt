@@ -1,5 +1,5 @@
 -- The reports of a run, and what it takes from its input and writes to its outputs, where these tell their octets.
-use Rattle.std.specs.Prelude.{◌≡◌, ℕ, List, ◌++◌, Option, ◌≢◌, ◌⊎◌, [], None, ◌≤◌, length, ◌∷◌, decimal, codes, flat_map}
+use Rattle.std.specs.Prelude.{◌≡◌, ℕ, List, ◌++◌, Option, ◌≢◌, ◌⊎◌, [], None, Some, ◌≤◌, length, ◌∷◌, decimal, codes, flat_map}
 use Rattle.std.specs.Io.KnownBytes.{Appends}
 use Rattle.mrt_events.specs.declared.stamp.Stamp.{Stamp}
 use Rattle.mrt_wire.specs.Record.{Record, spelling, IsRecord, rest_kind, IsRest, IsBegun}
@@ -62,6 +62,12 @@ EndsSo Done texts old new = (texts.err ≡ []) × Writes texts old new
 EndsSo Reported texts old new = (texts.err ≢ []) × Writes texts old new
 EndsSo ScriptTooLong texts old new = ⊥
 EndsSo fault texts old new = WritesFronts texts old new
+
+-- a run over an input that shows its octets ended so, with these texts of what is found in them
+abbrev pub EndsOnOctets : Stamp → Outcome → (List Finding → Texts) → Option (List ℕ) → Outputs → Outputs → Type 0
+EndsOnOctets stamp outcome texts left old new =
+    (octets : List ℕ) (frames : List Frame) (rest : List ℕ) → left ≡ Some octets → Splits stamp None octets frames rest
+    → EndsSo outcome (texts (all_results stamp frames rest)) old new
 
 -- the run ended by the input: it failed, or it was too long
 abbrev pub EndedByInput : Outcome → Type 0

@@ -4,7 +4,7 @@ ghost use Rattle.std.specs.Prelude.{◌≡◌, ◌≢◌, ◌↔◌, ◌||◌, �
 ghost use Rattle.std.specs.Io.KnownBytes.{Consumes};
 ghost use Rattle.mrt_wire.specs.Results.{start_place, Took};
 ghost use Rattle.mrt_wire.specs.Answered.{answer_findings, is_nothing};
-ghost use Rattle.bgpdump_lines.specs.Run.{dump_texts, IsTaken, SawEnd, OverDevices, EndsOverAll, WritesWhole};
+ghost use Rattle.bgpdump_lines.specs.Run.{dump_texts, outputs_of, EndsOnOctets, IsTaken, SawEnd, OverDevices, EndsOverAll, WritesWhole};
 ghost use Rattle.bgpdump_lines.specs.Going.{is_read_fault, is_write_fault, Ends};
 
 use crate::kept_lines::KeptLines;
@@ -33,8 +33,13 @@ pub fn run_dump<I: Input, O: Output, E: Output>(
     requires out_sound { O.failed out.old ≡ false }
     requires err_sound { E.failed err.old ≡ false }
 
-    // Whatever the input may hold on the whole: its lines and reports were written, or fronts of
-    // them.
+    // Of an input that shows its octets: the lines and reports of what is found in them were
+    // written, or fronts of them.
+    ensures octets { EndsOnOctets stamp result dump_texts (I.left input.old)
+        (outputs_of O.written E.written out.old err.old)
+        (outputs_of O.written E.written out.new err.new) }
+
+    // Of any input, by what was taken: the same, whatever octets it may hold on the whole.
     ensures text { OverDevices I.left O.written E.written
         (EndsOverAll stamp result (SawEnd result) dump_texts)
         (input.old, out.old, err.old) (input.new, out.new, err.new) }

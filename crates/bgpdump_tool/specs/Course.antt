@@ -6,7 +6,7 @@ use Rattle.mrt_wire.specs.Results.{Frame, Finding}
 use Rattle.mrt_wire.specs.Record.{rest_kind}
 use Rattle.bgpdump_lines.specs.declared.outcome.Outcome.{Outcome}
 use Rattle.bgpdump_lines.specs.declared.outcome.Outcome.TheVariants.{Done, Reported, ReadFault, WriteFault, InputTooLong, ScriptTooLong, Memory}
-use Rattle.bgpdump_lines.specs.Run.{reports, Texts, joined_texts, Outputs, Writes, WritesFronts, EndedByInput, all_results, OverAll, OverTaken, EndsOverAll}
+use Rattle.bgpdump_lines.specs.Run.{reports, Texts, joined_texts, Outputs, Writes, WritesFronts, EndedByInput, all_results, OverAll, OverTaken, EndsOverAll, EndsOnOctets}
 use Rattle.bgpdump_tool.specs.declared.play.TheConstants.{LONGEST_SCRIPT}
 use Rattle.bgpdump_tool.specs.Script.{Line, Empty, Asks, NoCommand, IsScript, line_report}
 use Rattle.bgpdump_tool.specs.Meaning.{State, start, meaning, meets_end, faults_taken}
@@ -87,6 +87,15 @@ pub record Began (stamp : Stamp) (lines : List Line) (left left' : Option (List 
   pub whole : lines ≡ (done ++ last) ++ behind
   pub one : length last ≤ 1
   pub texts : OverAll stamp (IsEndSeen stamp (done ++ last)) left left' (λ found. WritesPast (play_texts done found) (play_texts (done ++ last) found) old new)
+
+-- this is so of the lines of a script
+abbrev pub OverLines : List ℕ → (List Line → Type 0) → Type 0
+OverLines script IsSo = (lines : List Line) → IsScript lines script → IsSo lines
+
+-- a run of a script that isn't too long, over an input that shows its octets, ended so
+abbrev pub PlaysOnOctets : Stamp → List ℕ → Outcome → Option (List ℕ) → Outputs → Outputs → Type 0
+PlaysOnOctets stamp script outcome left old new =
+    length script ≤ LONGEST_SCRIPT → OverLines script (λ lines. EndsOnOctets stamp outcome (play_texts lines) left old new)
 
 -- a run of a script that isn't too long ended so, whatever its input may hold on the whole
 abbrev pub PlaysOverAll : Stamp → List ℕ → Outcome → Option (List ℕ) → Option (List ℕ) → Outputs → Outputs → Type 0

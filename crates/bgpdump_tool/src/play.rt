@@ -7,8 +7,8 @@ ghost use Rattle.mrt_wire.specs.Results.{start_place, Took};
 ghost use Rattle.rib_player.specs.Timeline.{fresh};
 ghost use Rattle.bgpdump_lines.specs.declared.dump.TheConstants.{LIMIT};
 ghost use Rattle.bgpdump_lines.specs.Going.{is_read_fault, is_write_fault};
-ghost use Rattle.bgpdump_lines.specs.Run.{IsTaken, OverDevices};
-ghost use Rattle.bgpdump_tool.specs.Course.{PlaysOverAll, BeganLines, WritesCut, TakesOnlyWanted};
+ghost use Rattle.bgpdump_lines.specs.Run.{IsTaken, OverDevices, outputs_of};
+ghost use Rattle.bgpdump_tool.specs.Course.{PlaysOnOctets, PlaysOverAll, BeganLines, WritesCut, TakesOnlyWanted};
 ghost use Rattle.bgpdump_tool.specs.Carrying.{HasRoom, OverScenes, CarriesLine, PlaysLines};
 
 use crate::carrying::carry_out;
@@ -40,6 +40,12 @@ pub fn run_play<S: PrefixStore<Rc<Route>>, I: Input, O: Output, E: Output>(
     requires input_sound { I.failed input.old ≡ false }
     requires out_sound { O.failed out.old ≡ false }
     requires err_sound { E.failed err.old ≡ false }
+
+    // If the input shows its octets, the texts of the script over them are written, or prefixes of
+    // these texts.
+    ensures octets { PlaysOnOctets stamp script.now result (I.left input.old)
+        (outputs_of O.written E.written out.old err.old)
+        (outputs_of O.written E.written out.new err.new) }
 
     // The texts of the script over the whole input are written, or prefixes of them, whatever
     // octets may follow those taken. None follow if the run has met the end of the input.

@@ -4,14 +4,14 @@ use Rattle.mrt_wire.specs.Results.{Took}
 use Rattle.bgpdump_tool.specs.Run.{dump_texts, EndedByInput, all_results}
 use Rattle.bgpdump_tool.specs.declared.Outcome.TheVariants.{ReadFault, WriteFault, Memory}
 use Rattle.bgpdump.specs.Endings.{left_of}
-use Rattle.bgpdump.proofs.JoiningLaws.{holds_known, leaves_ended, leaves_written, lost_outcomes, of_input, told_by_input, told_unless_lost}
+use Rattle.bgpdump.proofs.JoiningLaws.{leaves_ended, leaves_written, lost_outcomes, of_input, told_by_input, told_unless_lost}
 use Rattle.bgpdump.proofs.run.dump.Goals as goal
 
 pub returns-clause-text : goal.returns-clause-text
 returns-clause-text g c octets frames rest known splits =
     leaves_ended g.O.Write.contents g.E.Write.contents _ _ _ c.run_dump-outcome.result c.close.result.outcome (dump_texts (all_results c.args.stamp frames rest)) c.close.result.writers
     c.in-Ok.ensures.written
-    (c.run_dump-outcome.ensures.text octets frames rest (holds_known c.args.stamp _ _ _ octets c.run_dump-outcome.ensures.taken.0 (c.in-Ok.ensures.left ∙ known) c.run_dump-outcome.ensures.taken.1) splits)
+    (c.run_dump-outcome.ensures.octets octets frames rest (c.in-Ok.ensures.left ∙ known) splits)
     c.close.ensures.told c.close.ensures.kept
 
 pub returns-clause-whole_records : goal.returns-clause-whole_records

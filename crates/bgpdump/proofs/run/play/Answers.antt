@@ -6,15 +6,14 @@ use Rattle.bgpdump.specs.Endings.{left_of}
 use Rattle.bgpdump_tool.specs.Course.{cut_texts, play_texts}
 use Rattle.bgpdump_tool.specs.Run.{EndedByInput, all_results, outputs_of}
 use Rattle.bgpdump_tool.specs.declared.Outcome.TheVariants.{ReadFault, WriteFault, Memory}
-use Rattle.bgpdump.proofs.JoiningLaws.{IsTold, holds_known, leaves_ended, leaves_untouched, leaves_written, lost_outcomes, of_input, told_by_input, told_unless_lost}
+use Rattle.bgpdump.proofs.JoiningLaws.{IsTold, leaves_ended, leaves_untouched, leaves_written, lost_outcomes, of_input, told_by_input, told_unless_lost}
 use Rattle.bgpdump.proofs.run.play.Goals as goal
 
 pub returns-clause-text : goal.returns-clause-text
 returns-clause-text g c short lines reads octets frames rest known splits =
-    let taken = c.run_play-outcome.ensures.taken short in
     leaves_ended g.O.Write.contents g.E.Write.contents _ _ _ c.run_play-outcome.result c.close.result.outcome (play_texts lines (all_results c.args.stamp frames rest)) c.close.result.writers
     c.in-Ok.ensures.written
-    (c.run_play-outcome.ensures.text short lines reads octets frames rest (holds_known c.args.stamp _ _ _ octets taken.0 (c.in-Ok.ensures.left ∙ known) taken.1) splits)
+    (c.run_play-outcome.ensures.octets short lines reads octets frames rest (c.in-Ok.ensures.left ∙ known) splits)
     c.close.ensures.told c.close.ensures.kept
 
 pub returns-clause-whole_records : goal.returns-clause-whole_records

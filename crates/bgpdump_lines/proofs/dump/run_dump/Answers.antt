@@ -1,3 +1,5 @@
+use Rattle.bgpdump_lines.specs.Run.{SawEnd, dump_texts}
+use Rattle.bgpdump_lines.specs.KnownOctets.{ends_on_octets}
 use Rattle.bgpdump_lines.proofs.EndLaws.{EndsSo-read, EndsSo-stopped, Writes-stopped, IsTaken-stopped, length-stopped}
 use Rattle.bgpdump_lines.proofs.dump.run_dump.Goals as goal
 
@@ -17,3 +19,12 @@ returns-in-Err-clause-taken g c = IsTaken-stopped c.args.stamp _ _ _ _ c.in-Err.
 
 pub returns-in-Err-clause-too_long : goal.returns-in-Err-clause-too_long
 returns-in-Err-clause-too_long g c = length-stopped c.args.stamp _ _ _ _ c.in-Err.outcome c.in-Err.ensures.ends
+
+pub returns-in-Ok-clause-octets : goal.returns-in-Ok-clause-octets
+returns-in-Ok-clause-octets g c =
+    ends_on_octets c.args.stamp _ (SawEnd _) dump_texts _ _ _ _ _ c.in-Ok.ensures.ends.2.so_far.consumed (returns-in-Ok-clause-text g c)
+
+pub returns-in-Err-clause-octets : goal.returns-in-Err-clause-octets
+returns-in-Err-clause-octets g c =
+    let taken = returns-in-Err-clause-taken g c in
+    ends_on_octets c.args.stamp _ (SawEnd _) dump_texts _ _ _ _ taken.0 taken.1 (returns-in-Err-clause-text g c)
