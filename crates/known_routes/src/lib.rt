@@ -1,5 +1,6 @@
-//! Routes that were seen, so that equal ones are one. They are here only to be found again: of an
-//! equal one that comes later the one that is here stands for it, and takes no memory twice.
+//! A table of the routes that were played. Of an equal route that comes later, the one that is here
+//! is taken instead, so that equal routes take memory once. `rib_player` calls it. Read `routes.rt`
+//! first, then the hash table: `places.rt`, and its slots in `place.rt`.
 #![tactic(auto)]
 
 mod ordered_routes;

@@ -1,4 +1,6 @@
-//! Routes in order, for those that find no place.
+//! Sorted routes: the overflow of the hash table of `places.rt`, for routes that find all their
+//! slots taken. A search halves the routes, whatever hashes they have. Read [`OrderedRoutes`]
+//! first.
 
 ghost use Rattle.std.specs.Prelude.{◌≡◌, ◌≤◌, ◌<◌, IfSome, length, vec_len};
 
@@ -8,37 +10,40 @@ use std::alloc::{AllocError, Global};
 use std::cmp::Ordering;
 use std::rc::Rc;
 
-/// How many routes a run has at most. A run of so many becomes two runs before it takes one more.
+/// The largest number of routes of a run. A full run is split into two before it takes one more.
 const LONGEST_RUN: usize = 64;
 
-/// How many routes are here at most. One more is put at a place, over the route that stands there,
-/// which isn't found any more.
+/// The largest number of routes in the overflow. Each further one is put into a slot of the hash
+/// table, over the route that is there, which isn't found any more.
 const MOST_ORDERED: usize = 1 << 22;
 
-/// For how many times as many as a list has there is room in it at most, once some went. With room
-/// for so many times as many and one time more, it moves to a smaller block.
+/// The largest factor by which the capacity of a list may exceed its length, once routes were
+/// removed. A list whose capacity divided by it, rounded down, is above the length is moved to a
+/// smaller block.
 const MOST_TIMES: usize = 4;
 
-/// A route, and its hash.
+/// A route with its hash.
 #[derive(Drop)]
 pub(crate) struct HashedRoute {
     pub(crate) hash: u32,
     pub(crate) route: Rc<Route>,
 }
 
-/// Routes in the order of their hashes, and those of one hash by all that they are. They stand in
-/// runs, one behind the other, so that a search halves first the runs and then one run, and a route
-/// that comes or goes moves one run alone.
+/// A list of routes in the order of their hashes and, of one hash, of [`compare_routes`]. It is cut
+/// into runs: short sorted lists, each of which comes after the one before.
 #[derive(Drop)]
 pub(crate) struct OrderedRoutes {
-    /// The runs, of which none is empty but where memory was refused.
+    // A search halves first the runs and then one run, and a route that comes or goes moves one run
+    // alone.
+    /// The runs, in order. None is empty, unless memory allocation failed.
     pub(crate) runs: Vec<Vec<HashedRoute>>,
-    /// How many routes they have.
+    /// The number of routes of all runs.
     pub(crate) count: usize,
 }
 
 impl HashedRoute {
-    /// Compares it with a route of this hash.
+    /// Compares this route with `route`, whose hash is `hash`: by their hashes, then by
+    /// [`compare_routes`].
     #[inline]
     fn compare_to(&self, hash: u32, route: &Route) -> Ordering {
         if self.hash != hash {
@@ -47,20 +52,22 @@ impl HashedRoute {
         compare_routes(&self.route, route)
     }
 
-    /// Returns whether nothing else holds the route.
+    /// Returns whether the route has no other owner.
     fn is_last_owner(&self) -> bool {
         Rc::strong_count(&self.route) == 1
     }
 }
 
-/// Returns the index of the first route of the run that doesn't stand before a route of this hash.
+/// Returns the index of the first route of the run that isn't before `route`, whose hash is `hash`.
+/// It is the length of the run if there is none.
 fn find_index(run: &[HashedRoute], hash: u32, route: &Route) -> usize
     ensures { result ≤ length run.now }
 {
     run.partition_point(|hashed| hashed.compare_to(hash, route) == Ordering::Less)
 }
 
-/// Returns whether the run begins behind a route of this hash.
+/// Returns whether the first route of the run is after `route`, whose hash is `hash`. An empty run
+/// isn't.
 #[inline]
 fn is_behind(run: &[HashedRoute], hash: u32, route: &Route) -> bool {
     match run.first() {
@@ -69,8 +76,8 @@ fn is_behind(run: &[HashedRoute], hash: u32, route: &Route) -> bool {
     }
 }
 
-/// Moves the list to a smaller block where it has room for far more than it has. It stays where
-/// that one is refused.
+/// Shrinks the capacity of the list to its length if it is far more (`MOST_TIMES`). If memory
+/// allocation for the smaller block fails, the list stays as it is.
 fn give_back_room<T: Drop>(list: &mut Vec<T>)
     ensures { list.new.items ≡ list.old.items }
 {
@@ -79,7 +86,8 @@ fn give_back_room<T: Drop>(list: &mut Vec<T>)
     }
 }
 
-/// Lets go of the routes of a run that nothing else holds, and returns how many octets they take.
+/// Removes the routes of a run that have no other owner, and returns the number of octets that they
+/// take.
 fn take_unowned_of(run: &mut Vec<HashedRoute>) -> u64 {
     let mut octets = 0u64;
     'routes: for hashed in run.iter() {
@@ -94,7 +102,7 @@ fn take_unowned_of(run: &mut Vec<HashedRoute>) -> u64 {
     octets
 }
 
-/// Takes the last half of a run away, and returns it. Refused, the run stays.
+/// Removes the second half of a run, and returns it in order. On an error, the run is unchanged.
 fn split_half(alloc: Global, run: &mut Vec<HashedRoute>) -> Result<Vec<HashedRoute>, AllocError> {
     let kept = run.len() / 2;
     let mut half = Vec::with_capacity(alloc, run.len() - kept)?;
@@ -108,7 +116,7 @@ fn split_half(alloc: Global, run: &mut Vec<HashedRoute>) -> Result<Vec<HashedRou
 }
 
 impl OrderedRoutes {
-    /// Returns none. They take no memory.
+    /// Returns an empty list, without allocating memory.
     pub(crate) fn none(alloc: Global) -> OrderedRoutes {
         OrderedRoutes {
             runs: Vec::new(alloc),
@@ -116,20 +124,20 @@ impl OrderedRoutes {
         }
     }
 
-    /// Returns whether they are as many as may be here.
+    /// Returns whether the list has as many routes as it may have.
     pub(crate) fn are_most(&self) -> bool {
         self.count >= MOST_ORDERED
     }
 
-    /// Returns the index of the run where a route of this hash belongs: of those that don't begin
-    /// behind it the last, or the first of all.
+    /// Returns the index of the run that `route`, whose hash is `hash`, belongs to: the last one
+    /// that doesn't begin after it, or 0 if there is none.
     fn find_run(&self, hash: u32, route: &Route) -> usize {
         self.runs
             .partition_point(|run| !is_behind(run, hash, route))
             .saturating_sub(1)
     }
 
-    /// Returns a route of this hash that equals this one, if it is here.
+    /// Returns a route of this hash that equals `route`, or `None` if there is none.
     pub(crate) fn find_route(&self, hash: u32, route: &Route) -> Option<&Rc<Route>>
         ensures { IfSome result (λ known. known.now.value ≡ route.now) }
     {
@@ -141,7 +149,7 @@ impl OrderedRoutes {
         None
     }
 
-    /// Makes two runs of the one at the index. Refused, it stays.
+    /// Splits the run at the index into two. On an error, it is unchanged.
     fn split_run(&mut self, index: usize) -> Result<(), AllocError>
         requires { index < vec_len self.old.runs }
     {
@@ -151,8 +159,8 @@ impl OrderedRoutes {
         Ok(())
     }
 
-    /// Returns the index of the run where a route of this hash belongs, which isn't full: a full
-    /// one becomes two first. Refused, it stays.
+    /// Returns the index of the run that `route`, whose hash is `hash`, is to be inserted into. A
+    /// full run is split before. On an error, the runs are unchanged.
     fn find_room(&mut self, hash: u32, route: &Route) -> Result<usize, AllocError> {
         let index = self.find_run(hash, route);
         if index >= self.runs.len() || self.runs[index].len() < LONGEST_RUN {
@@ -162,7 +170,7 @@ impl OrderedRoutes {
         Ok(self.find_run(hash, route))
     }
 
-    /// Puts a route of this hash where it belongs. Refused, it isn't put.
+    /// Inserts a route, whose hash is `hash`, in order. On an error, it isn't inserted.
     pub(crate) fn put_route(&mut self, hash: u32, route: Rc<Route>) -> Result<(), AllocError> {
         if self.runs.is_empty() {
             let first = Vec::new(*self.runs.allocator());
@@ -177,7 +185,7 @@ impl OrderedRoutes {
         Ok(())
     }
 
-    /// Lets go of this very route, if it is here, and returns whether it was.
+    /// Removes `route` itself, not one that equals it, and returns whether it was found.
     pub(crate) fn take_route(&mut self, hash: u32, route: &Rc<Route>) -> bool {
         let index = self.find_run(hash, route);
         if index >= self.runs.len() {
@@ -198,8 +206,9 @@ impl OrderedRoutes {
         true
     }
 
-    /// Lets go of the routes that nothing else holds, and returns how many octets they take. It asks
-    /// for smaller blocks at most, and does without those that are refused.
+    /// Removes the routes that have no other owner, and returns the number of octets that they
+    /// take. Lists with far more capacity than they need are shrunk, unless memory allocation for a
+    /// smaller block fails.
     pub(crate) fn take_unowned(&mut self) -> u64 {
         let mut octets = 0u64;
         let mut count = 0usize;

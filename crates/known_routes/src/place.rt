@@ -1,4 +1,6 @@
-//! A place for a route, and where a route is looked for among places.
+//! The slots of the hash table of `places.rt`, and the searches in a row of them. A row is a bucket
+//! of four slots; a hash has two rows. Each slot has a tag, an octet of the hash of its route,
+//! which is compared first. Read [`Place`] first, then [`find_in_row`].
 
 ghost use Rattle.std.specs.Prelude.{◌≡◌, true, IfSome};
 ghost use Rattle.known_routes.specs.Places.{is_taken, is_tagged};
@@ -6,34 +8,35 @@ ghost use Rattle.known_routes.specs.Places.{is_taken, is_tagged};
 use mrt_events::{Route, route_size, same_route};
 use std::rc::Rc;
 
-/// How many places a row has. A route may stand in two of them, so at eight places. With one more a
-/// row begins in one line of the cache and ends in the next.
+/// The number of slots of a row. A route may be in two rows, so in eight slots. With one more, a
+/// row would begin in one line of the cache and end in the next.
 const ROW: usize = 4;
 
-/// How many places stand before the first row. A large block begins 16 octets behind the start of a
-/// page, one place, so with these each row lies in one line of the cache. With one more none does.
+/// The number of slots before the first row. A large block begins 16 octets after the start of a
+/// page, the size of one slot, so that each row is in one line of the cache. With one more, none
+/// would be.
 const BEFORE_ROWS: usize = 3;
 
-/// By which a hash is multiplied for the second row: the odd number next to 2^32 divided by the
-/// golden ratio. By the even number above it the highest bit of a hash would be lost.
+/// The factor by which a hash is multiplied for its second row: the prime nearest to 2^32 divided
+/// by the golden ratio. An even factor would lose the highest bit of the hash.
 const SECOND_ROW: u32 = 0x9e37_79b1;
 
-/// How many bits a hash has. With one more rows would be taken of the first half alone.
+/// The number of bits of a hash. With one more, only rows of the first half would be taken.
 const HASH_BITS: u32 = 32;
 
-/// The tag of a place where no route stands. Those above it are tags of places that are taken.
+/// The tag of a slot without a route. The numbers above it are tags of slots with a route.
 pub(crate) const FREE: u8 = 0;
 
-/// Where a route may stand.
+/// A slot of the hash table.
 #[derive(Drop)]
 pub(crate) enum Place {
-    /// None does.
+    /// No route.
     Free,
-    /// The hash of a route, and the route.
+    /// A route, after its hash.
     Taken(u32, Rc<Route>),
 }
 
-/// Whether a route stands there.
+/// Returns whether the slot has a route.
 #[inline]
 pub(crate) fn is_taken(place: &Place) -> bool
     ensures { result ≡ is_taken place.now }
@@ -41,12 +44,12 @@ pub(crate) fn is_taken(place: &Place) -> bool
     matches!(place, Place::Taken(_, _))
 }
 
-/// Whether a route stands there that has no other owner.
+/// Returns whether the slot has a route without another owner.
 pub(crate) fn is_last_owner(place: &Place) -> bool {
     matches!(place, Place::Taken(_, route) if Rc::strong_count(route) == 1)
 }
 
-/// How many octets the route takes that stands there.
+/// Returns the number of octets that the route of the slot takes, or 0 if it has none.
 pub(crate) fn octets_at(place: &Place) -> u64 {
     match place {
         Place::Free => 0,
@@ -54,22 +57,25 @@ pub(crate) fn octets_at(place: &Place) -> u64 {
     }
 }
 
-/// The tag of a place where a route of this hash stands: of its bits the lowest, which say least of
-/// the row. Tags lie together, so that a look-up mostly reads them alone.
+/// Returns the tag of a slot that has a route of this hash: the lowest octet of the hash, or 1 if
+/// that is 0.
 #[inline]
 pub(crate) fn tag_of(hash: u32) -> u8
     ensures { is_tagged result ≡ true }
 {
+    // The lowest bits have the least influence on the row. Tags lie together, so that a search
+    // mostly reads them alone.
     hash.to_le_bytes()[0].max(FREE + 1)
 }
 
-/// Whether the place has this tag.
+/// Returns whether the slot at the index has this tag. An index out of bounds has none.
 #[inline]
 fn has_tag(tags: &[u8], index: usize, tag: u8) -> bool {
     tags.get(index).is_some_and(|other| *other == tag)
 }
 
-/// Where the row of a hash begins, of so many places.
+/// Returns the index of the first slot of the row of a hash, in a table of `count` slots. In a
+/// table without slots it is out of bounds.
 #[inline]
 fn row_of(hash: u32, count: usize) -> usize {
     let rows = (count.saturating_sub(BEFORE_ROWS) / ROW) as u64;
@@ -77,7 +83,8 @@ fn row_of(hash: u32, count: usize) -> usize {
     row.wrapping_mul(ROW).wrapping_add(BEFORE_ROWS)
 }
 
-/// Where the two rows begin in which a route of this hash may stand, of so many places.
+/// Returns the indices of the first slots of both rows of a hash, in a table of `count` slots. In a
+/// table without slots they are out of bounds.
 #[inline]
 pub(crate) fn rows_of(hash: u32, count: usize) -> [usize; 2] {
     [
@@ -86,7 +93,8 @@ pub(crate) fn rows_of(hash: u32, count: usize) -> [usize; 2] {
     ]
 }
 
-/// A route of this hash that equals this one, in the row that begins there, and where it stands.
+/// Returns a route of this hash that equals `route`, and the index of its slot, from the row that
+/// begins at the index `start`. `None` means that the row has none.
 #[inline]
 pub(crate) fn find_in_row<'a>(
     tags: &[u8],
@@ -110,19 +118,22 @@ pub(crate) fn find_in_row<'a>(
     None
 }
 
-/// Whether the last place of the row that begins there is free.
+/// Returns whether the last slot of the row that begins at the index `start` is free.
 #[inline]
 pub(crate) fn has_free_end(tags: &[u8], start: usize) -> bool {
     has_tag(tags, start.saturating_add(ROW - 1), FREE)
 }
 
-/// The first free place of the row that begins there.
+/// Returns the index of the first free slot of the row that begins at the index `start`, or `None`
+/// if it has none.
 #[inline]
 fn free_in_row(tags: &[u8], start: usize) -> Option<usize> {
     (start..start.saturating_add(ROW)).find(|index| has_tag(tags, *index, FREE))
 }
 
-/// A free place for a route of this hash, by the tags of all, or else the first of its rows.
+/// Returns the index of the slot that a route of this hash is to be put into: the first free one of
+/// its rows, or the first slot of the first row if both are full. `tags` are those of all slots; if
+/// there are none, the index is out of bounds.
 #[inline]
 pub(crate) fn place_for(tags: &[u8], hash: u32) -> usize {
     let [first, second] = rows_of(hash, tags.len());
@@ -131,7 +142,8 @@ pub(crate) fn place_for(tags: &[u8], hash: u32) -> usize {
         .unwrap_or(first)
 }
 
-/// Where this very route stands in the row that begins there.
+/// Returns the index of the slot that has `route` itself, not one that equals it, in the row that
+/// begins at the index `start`, or `None` if there is none.
 #[inline]
 fn index_in_row(places: &[Place], start: usize, route: &Rc<Route>) -> Option<usize> {
     (start..start.saturating_add(ROW)).find(|index| {
@@ -139,7 +151,8 @@ fn index_in_row(places: &[Place], start: usize, route: &Rc<Route>) -> Option<usi
     })
 }
 
-/// Where this very route stands in the rows of its hash.
+/// Returns the index of the slot that has `route` itself, not one that equals it, in either row of
+/// its hash, or `None` if there is none.
 pub(crate) fn index_of(places: &[Place], hash: u32, route: &Rc<Route>) -> Option<usize> {
     let [first, second] = rows_of(hash, places.len());
     index_in_row(places, first, route).or_else(|| index_in_row(places, second, route))

@@ -1,4 +1,5 @@
-//! Places for routes, which are found there by a hash.
+//! A hash table of routes: each is in a slot of one of two rows, or in an overflow where both are
+//! full. `routes.rt` looks up and puts routes by it. Read [`Places`] first, then `place.rt`.
 
 ghost use Rattle.std.specs.Prelude.{◌≡◌, ◌<◌, ◌≤◌, ◌+◌, ◌*◌, true, IfOk, IfSome, OnOk, OnErr, IsTrue, slice_index_or, vec_len, count_by};
 ghost use Rattle.known_routes.specs.Places.{is_taken, is_tagged, AreTagged};
@@ -15,49 +16,51 @@ use std::alloc::{AllocError, Global};
 use std::mem;
 use std::rc::Rc;
 
-/// How many places there are at first, and at least from then on. They become more where three
-/// quarters of them are taken and a route more comes.
+/// The number of slots of the first table, and the smallest number of a later one. The table grows
+/// when three quarters of its slots are taken and a route is added.
 const FIRST_PLACES: usize = 1024;
 
-/// How many places there are at most. Where three quarters of so many are taken they don't become
-/// more, and a route that finds its rows full goes beyond, where a search takes longer.
+/// The largest number of slots. A table of so many doesn't grow; a route whose rows are full goes
+/// to the overflow, where a search takes longer.
 pub(crate) const MOST_PLACES: usize = 1 << 24;
 
-/// How many places there are at most for each route, besides the first. Where a play begins with
-/// one more than these, the routes move to fewer places.
+/// The largest number of slots for each route, besides [`FIRST_PLACES`]. If a play begins with one
+/// more than that, the routes move to a smaller table.
 const MOST_TIMES: usize = 3;
 
-/// Of how many routes at places one is beyond at most before all are looked for there too behind
-/// rows that have a free place: of so many one. With one route more beyond they are.
+/// The ratio of the routes in slots to those that may be in the overflow before searches go on
+/// there after a row with a free slot. With one route more there, they do.
 const CROWDED_SHARE: usize = 16;
 
-/// Of how many routes at places one is put over another at most, where both of its rows are full:
-/// of so many one. Of routes that come at random fewer are. One more goes beyond, where a search
-/// takes longer.
+/// The ratio of the routes in slots to those that may be put over another because both of their
+/// rows are full. Of routes with random hashes, fewer are. One more goes to the overflow, where a
+/// search takes longer.
 const OVERWRITTEN_SHARE: usize = 12;
 
-/// Where a route beyond stands: at no place. No number is above it.
+/// The index of a route in the overflow, which is in no slot. No number is above it.
 const NOWHERE: usize = usize::MAX;
 
-/// Places, and how many of them are taken.
+/// A hash table of routes, with an overflow for those whose rows are full.
 #[derive(Drop)]
 pub(crate) struct Places {
+    /// The slots.
     pub(crate) places: Vec<Place>,
-    /// The tag of each place.
+    /// The tag of each slot, as [`tag_of`] gives it, or [`FREE`] if the slot has no route.
     pub(crate) tags: Vec<u8>,
+    /// The number of slots that have a route.
     pub(crate) taken: usize,
-    /// Other routes that found both of their rows full.
+    /// The overflow: routes that found both of their rows full.
     beyond: OrderedRoutes,
-    /// How many routes were put over others.
+    /// The number of routes that were put over others.
     overwritten: usize,
-    /// How many octets all routes here take.
+    /// The number of octets that all routes of the table take.
     pub(crate) held: u64,
     ghost counted: { taken ≡ count_by is_taken places.items },
     ghost tagged: { AreTagged places.items tags.items },
 }
 
 impl Places {
-    /// None.
+    /// Returns a table without slots, without allocating memory.
     pub(crate) fn none(alloc: Global) -> Places
         ensures { vec_len result.places ≡ 0 }
     {
@@ -71,7 +74,7 @@ impl Places {
         }
     }
 
-    /// So many, of which none is taken.
+    /// Returns a table of `count` slots without routes.
     pub(crate) fn free(alloc: Global, count: usize) -> Result<Places, AllocError>
         ensures { IfOk result (λ free. vec_len free.places ≡ count) }
     {
@@ -91,20 +94,23 @@ impl Places {
         })
     }
 
-    /// Whether so many routes are beyond that rows with a free place are looked beyond too.
+    /// Returns whether so many routes are in the overflow that a search goes on there after a row
+    /// with a free slot.
     #[inline]
     fn is_crowded(&self) -> bool {
         self.beyond.count > self.taken / CROWDED_SHARE
     }
 
-    /// Whether no route is looked for behind this row: its last place is free, and few are beyond.
-    /// Rows are filled from the front.
+    /// Returns whether a search ends after the row that begins at the index `row`: its last slot is
+    /// free, and few routes are in the overflow.
     #[inline]
     fn is_last_row(&self, row: usize) -> bool {
+        // Rows are filled from the front.
         has_free_end(&self.tags, row) && !self.is_crowded()
     }
 
-    /// A route of this hash that equals this one, and where it stands, or `NOWHERE` for one beyond.
+    /// Returns a route of this hash that equals `route`, and the index of its slot, or [`NOWHERE`]
+    /// for one in the overflow. `None` means that none was found.
     #[inline]
     pub(crate) fn find_route(&self, hash: u32, route: &Route) -> Option<(usize, &Rc<Route>)>
         ensures { IfSome result (λ found. found.1.now.value ≡ route.now) }
@@ -125,31 +131,33 @@ impl Places {
         Some((NOWHERE, self.beyond.find_route(hash, route)?))
     }
 
-    /// Returns whether a route whose rows are full is put over another: few were yet, or as many
-    /// are beyond as may be.
+    /// Returns whether a route whose rows are full is put over another: if few were yet, or if the
+    /// overflow is full.
     fn is_overwriting(&self) -> bool {
         self.overwritten < self.taken / OVERWRITTEN_SHARE || self.beyond.are_most()
     }
 
-    /// Puts a route beyond, and returns where it stands then. Refused, it isn't put. It stands out
-    /// of line, since few routes go there.
+    /// Adds a route of this hash to the overflow, and returns [`NOWHERE`]. On an error, it isn't
+    /// added.
     #[inline(never)]
     fn put_beyond(&mut self, hash: u32, route: Rc<Route>) -> Result<usize, AllocError>
         ensures places { vec_len self.new.places ≡ vec_len self.old.places }
         ensures taken { self.new.taken ≡ self.old.taken }
     {
+        // It isn't inlined, since few routes go there.
         self.beyond.put_route(hash, route)?;
         Ok(NOWHERE)
     }
 
-    /// Puts a route at a free place of its rows, and returns where it stands then. Where these are
-    /// full it is put over the first route of the first row, while few are, or else beyond.
-    /// Refused, it isn't put. Its octets aren't added. A free place isn't read, as its tag tells
-    /// that it is one, since few places are in the cache.
+    /// Puts a route of this hash into a free slot of its rows, and returns the index of the slot.
+    /// If they are full, the route is put over the first one of the first row while few were
+    /// (`OVERWRITTEN_SHARE`), or else into the overflow, at [`NOWHERE`]. A table without slots
+    /// drops it. Its octets aren't added to `held`. On an error, nothing is put.
     pub(crate) fn put(&mut self, hash: u32, route: Rc<Route>) -> Result<usize, AllocError>
         ensures places { vec_len self.new.places ≡ vec_len self.old.places }
         ensures taken { self.old.taken ≤ self.new.taken }
     {
+        // A free slot isn't read, since its tag shows that it is free: few slots are in the cache.
         let index = place_for(&self.tags, hash);
         if index >= self.tags.len() {
             return Ok(NOWHERE);
@@ -171,7 +179,7 @@ impl Places {
         Ok(index)
     }
 
-    /// Frees the place at the index, if a route stands there.
+    /// Removes the route of the slot at the index, if there is one.
     pub(crate) fn free_at(&mut self, index: usize)
         ensures { vec_len self.new.places ≡ vec_len self.old.places }
     {
@@ -183,7 +191,7 @@ impl Places {
         }
     }
 
-    /// Lets go of this very route, if it stands here.
+    /// Removes `route` itself, not one that equals it, if it is found.
     pub(crate) fn take_route(&mut self, hash: u32, route: &Rc<Route>)
         ensures { vec_len self.new.places ≡ vec_len self.old.places }
     {
@@ -194,7 +202,8 @@ impl Places {
         }
     }
 
-    /// Puts the routes of a run here too. Refused, some of them aren't put.
+    /// Puts the routes of a run of another table's overflow here. On an error, some of them aren't
+    /// put.
     fn put_run(&mut self, run: Vec<HashedRoute>) -> Result<(), AllocError>
         ensures { vec_len self.new.places ≡ vec_len self.old.places }
     {
@@ -204,7 +213,7 @@ impl Places {
         Ok(())
     }
 
-    /// Puts the routes here too that were beyond other places. Refused, some of them aren't put.
+    /// Puts the routes of another table's overflow here. On an error, some of them aren't put.
     fn put_runs(&mut self, beyond: OrderedRoutes) -> Result<(), AllocError>
         ensures { vec_len self.new.places ≡ vec_len self.old.places }
     {
@@ -214,12 +223,13 @@ impl Places {
         Ok(())
     }
 
-    /// Puts the routes of other places here, where none stands yet. Those beyond stay so where they
-    /// are many, since they would take longer than those at places. Refused, some routes aren't
-    /// put.
+    /// Moves the routes of another table here, where there are none. On an error, some of them are
+    /// dropped.
     fn take_over(&mut self, mut others: Places) -> Result<(), AllocError>
         ensures { vec_len self.new.places ≡ vec_len self.old.places }
     {
+        // A large overflow is moved as it is, since putting its routes would take longer than
+        // putting those in slots.
         if others.is_crowded() {
             mem::swap(&mut self.beyond, &mut others.beyond);
         }
@@ -240,7 +250,8 @@ impl Places {
         self.put_runs(beyond)
     }
 
-    /// The fewest places that there are, with the same routes.
+    /// Returns a table of [`FIRST_PLACES`] slots with the routes of this one. On an error, the
+    /// routes are dropped.
     fn put_at_fewest(self, alloc: Global) -> Result<Places, AllocError>
         ensures { IfOk result (λ fewest. vec_len fewest.places ≡ FIRST_PLACES) }
     {
@@ -249,7 +260,8 @@ impl Places {
         Ok(fewest)
     }
 
-    /// Lets go of the routes that have no other owner. It takes no memory.
+    /// Removes the routes that have no other owner. It allocates no memory but for smaller blocks
+    /// of the overflow, and keeps the larger ones if that fails.
     pub(crate) fn let_go(&mut self)
         ensures { vec_len self.new.places ≡ vec_len self.old.places }
     {
@@ -262,7 +274,7 @@ impl Places {
         self.held = self.held.saturating_sub(octets);
     }
 
-    /// Whether there aren't too many places for the routes.
+    /// Returns whether there aren't too many slots for the routes in them (`MOST_TIMES`).
     pub(crate) fn are_fitting(&self) -> bool
         ensures { IsTrue result →
             vec_len self.now.places ≤ MOST_TIMES * self.now.taken + FIRST_PLACES }
@@ -274,8 +286,9 @@ impl Places {
         self.places.len() <= most
     }
 
-    /// As many places as the routes get, with the same routes. Where memory is refused the places
-    /// stay, or, where routes moved already, there are none.
+    /// Moves the routes to a new table of two and a third slots for each, but at least
+    /// [`FIRST_PLACES`] and at most [`MOST_PLACES`]. On an error, the table is unchanged, or has no
+    /// slots and no routes if they were moved already.
     pub(crate) fn resize(&mut self, alloc: Global) -> Result<(), AllocError>
         ensures most { OnOk result (vec_len self.new.places ≤ MOST_PLACES) }
         ensures fitting { OnOk result

@@ -1,4 +1,5 @@
-//! Numbers that equal routes share, or equal peers, and others mostly don't.
+//! Hashes of routes and of peers: equal ones have the same hash, and others mostly don't.
+//! `routes.rt` looks up routes by them, and `rib_player` looks up peers. Read [`hash_of`] first.
 
 ghost use Rattle.std.specs.Prelude.{◌+◌, ◌≤◌};
 ghost use Rattle.ip_prefix.specs.Network.{octet_count};
@@ -6,40 +7,39 @@ ghost use Rattle.ip_prefix.specs.Network.{octet_count};
 use ip_prefix::{Addr, Family};
 use mrt_events::{Peer, Route};
 
-/// By which a number is multiplied so that the highest bits of the product hang on all of it: the
-/// odd number next to 2^64 divided by the golden ratio. By the even number above it the highest bit
-/// would be lost.
+/// The factor of each step of a hash: the odd number nearest to 2^64 divided by the golden ratio,
+/// so that the highest bits of the product depend on all bits. An even factor would lose the
+/// highest bit.
 const MULTIPLIER: u64 = 0x9e37_79b9_7f4a_7c15;
 
-/// How far a hash is turned before another number is mixed in. Turned by a bit more, it is another
-/// hash and as good.
+/// The number of bits by which a hash is rotated before another number is mixed in. A rotation by a
+/// bit more gives another hash, which is as good.
 const TURN: u32 = 5;
 
-/// What is mixed in for a number of 32 bits that is absent: the first that no such number is. One
-/// above it would do as well.
+/// The number that is mixed in for an absent number of 32 bits: the least that no such number has.
+/// One above it would do as well.
 const ABSENT: u64 = 1 << 32;
 
-/// What stands for an absent origin: others go by their codes, below it. One above it would do as
-/// well.
+/// The number that stands for an absent ORIGIN, above all its codes. One above it would do as well.
 const NO_ORIGIN: u64 = 3;
 
-/// How many bits of a hash are left out: the lowest, which hang on the least. With one more left
-/// out half of all places would never be taken.
+/// The number of lowest bits of a hash that are dropped, since they depend on the fewest bits. With
+/// one more, half of all slots would never be taken.
 const LOWEST_BITS: u32 = 32;
 
-/// The hash with another number in it.
+/// Returns `hash` with `number` mixed in.
 #[inline]
 fn mixed(hash: u64, number: u64) -> u64 {
     (hash.rotate_left(TURN) ^ number).wrapping_mul(MULTIPLIER)
 }
 
-/// The hash with a number, or its absence, in it.
+/// Returns `hash` with a number, or its absence, mixed in.
 #[inline]
 fn with_number(hash: u64, number: Option<u32>) -> u64 {
     mixed(hash, number.map_or(ABSENT, u64::from))
 }
 
-/// Four octets of an address from a place on, as a number.
+/// Returns the four octets of an address from the index `place` on as a big-endian number.
 #[inline]
 fn four_octets(addr: &Addr, place: usize) -> u32
     requires { place + 4 ≤ octet_count addr.now.family }
@@ -52,7 +52,7 @@ fn four_octets(addr: &Addr, place: usize) -> u32
     ])
 }
 
-/// The hash with all octets of an address in it.
+/// Returns `hash` with all octets of an address mixed in.
 #[inline]
 fn with_address(hash: u64, addr: &Addr) -> u64 {
     let first = mixed(hash, u64::from(four_octets(addr, 0)));
@@ -66,7 +66,7 @@ fn with_address(hash: u64, addr: &Addr) -> u64 {
     }
 }
 
-/// The hash with numbers in it, and how many they are.
+/// Returns `hash` with the length of a list and all its numbers mixed in.
 #[inline]
 fn with_numbers(hash: u64, numbers: &[u32]) -> u64 {
     let mut hash = mixed(hash, numbers.len() as u64);
@@ -76,7 +76,7 @@ fn with_numbers(hash: u64, numbers: &[u32]) -> u64 {
     hash
 }
 
-/// The hash of a route, by all that it is.
+/// Returns the hash of a route, by all its attributes and its time.
 pub(crate) fn hash_of(route: &Route) -> u32 {
     let attrs = &route.attrs;
     let origin = attrs.origin.map_or(NO_ORIGIN, |origin| origin as u64);
@@ -104,7 +104,7 @@ pub(crate) fn hash_of(route: &Route) -> u32 {
     (hash >> LOWEST_BITS) as u32
 }
 
-/// The hash of a peer. Of its bits the highest hang on all of the peer.
+/// Returns the hash of a peer. Its highest bits depend on all bits of the peer.
 #[inline]
 pub fn peer_hash(peer: &Peer) -> u64 {
     with_address(u64::from(peer.asn), &peer.addr)

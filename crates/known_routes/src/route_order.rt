@@ -1,20 +1,20 @@
-//! An order of routes by all that they are.
+//! A total order of routes, by their times and all their attributes. It is for searches in
+//! `ordered_routes.rt` alone, and says nothing of which route a router would prefer.
 
 use bgp_wire::{Aggregator, Attrs, Origin, Segment};
 use mrt_events::Route;
 use std::cmp::Ordering;
 
-/// What stands for an absent origin: others go by their codes, below it. One above it would do as
-/// well.
+/// The number that stands for an absent ORIGIN, above all its codes. One above it would do as well.
 const NO_ORIGIN: u64 = 3;
 
-/// Compares two lists of numbers, number by number.
+/// Compares two lists of numbers, number by number, a list before those that continue it.
 #[inline]
 fn compare_numbers(one: &[u32], other: &[u32]) -> Ordering {
     one.cmp(&other)
 }
 
-/// Compares two segments: their kinds, then their numbers.
+/// Compares two segments: by kind, then by AS numbers.
 fn compare_segments(one: &Segment, other: &Segment) -> Ordering {
     match (one.kind as u64).cmp(&(other.kind as u64)) {
         Ordering::Equal => { compare_numbers(one.numbers.as_slice(), other.numbers.as_slice()) }
@@ -22,7 +22,7 @@ fn compare_segments(one: &Segment, other: &Segment) -> Ordering {
     }
 }
 
-/// Compares two paths: how many segments they have, then segment by segment.
+/// Compares two paths: by the number of segments, then segment by segment.
 fn compare_paths(ones: &[Segment], others: &[Segment]) -> Ordering {
     let counts = ones.len().cmp(&others.len());
     if counts != Ordering::Equal {
@@ -37,7 +37,7 @@ fn compare_paths(ones: &[Segment], others: &[Segment]) -> Ordering {
     Ordering::Equal
 }
 
-/// Compares two aggregators: their addresses, then their numbers.
+/// Compares two aggregators: by address, then by AS number.
 fn compare_aggregators(one: &Aggregator, other: &Aggregator) -> Ordering {
     match one.addr.cmp(&other.addr) {
         Ordering::Equal => one.asn.cmp(&other.asn),
@@ -45,7 +45,7 @@ fn compare_aggregators(one: &Aggregator, other: &Aggregator) -> Ordering {
     }
 }
 
-/// Compares two aggregators or their absence, which comes first.
+/// Compares two optional aggregators. `None` comes first.
 fn compare_optional_aggregators(one: &Option<Aggregator>, other: &Option<Aggregator>) -> Ordering {
     match (one, other) {
         (Some(one), Some(other)) => compare_aggregators(one, other),
@@ -53,14 +53,14 @@ fn compare_optional_aggregators(one: &Option<Aggregator>, other: &Option<Aggrega
     }
 }
 
-/// Compares two origins or their absence, which comes last.
+/// Compares two optional origins by their codes. `None` comes last.
 fn compare_origins(one: Option<Origin>, other: Option<Origin>) -> Ordering {
     let one = one.map_or(NO_ORIGIN, |origin| origin as u64);
     let other = other.map_or(NO_ORIGIN, |origin| origin as u64);
     one.cmp(&other)
 }
 
-/// Compares the attributes of two routes but for path and communities.
+/// Compares the attributes of two routes, but for paths and communities.
 fn compare_short_attributes(one: &Attrs, other: &Attrs) -> Ordering {
     one.next_hop
         .cmp(&other.next_hop)
@@ -71,10 +71,10 @@ fn compare_short_attributes(one: &Attrs, other: &Attrs) -> Ordering {
         .then(compare_optional_aggregators(&one.aggregator, &other.aggregator))
 }
 
-/// Compares two routes by all that they are, so that those that differ in anything are never equal
-/// in it. It stands out of line, since few routes share a hash.
+/// Compares two routes by time and by all attributes, so that only equal ones compare equal.
 #[inline(never)]
 pub(crate) fn compare_routes(one: &Route, other: &Route) -> Ordering {
+    // It isn't inlined, since few routes have the same hash.
     let (ones, others) = (&one.attrs, &other.attrs);
     let short = one
         .time

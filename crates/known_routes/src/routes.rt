@@ -1,4 +1,6 @@
-//! The routes that were played, so that equal ones are one.
+//! The table of known routes, by which equal routes become one. The player looks up the routes of
+//! an event by [`KnownRoutes::known`], and reports the routes that its steps drop by
+//! [`KnownRoutes::note_gone`]. Read [`KnownRoutes`] first, then `places.rt`.
 
 ghost use Rattle.std.specs.Prelude.{◌≡◌, ◌≤◌, ◌+◌, ◌*◌, IfOk, IfSome, vec_len};
 ghost use Rattle.known_routes.specs.declared.routes.TheConstants.{LASTS};
@@ -12,51 +14,53 @@ use mrt_events::{Peer, Route, route_size, same_route};
 use std::alloc::{AllocError, Global};
 use std::rc::Rc;
 
-/// How many numbers and segments the path and the communities of a route have at most that is
-/// looked for once an item, however many owners it has. With one more it is looked for only while
-/// it has few.
+/// The largest number of AS numbers, segments and communities of a route that is looked up for each
+/// item, however many owners it has. One with one more is looked up only while it has few.
 const MOST_NUMBERS: usize = 1024;
 
-/// How many owners a longer route has at most that is looked for once an item, one of which is the
-/// item. So it is at few items, and looking for it at each takes a few times as long as it took to
-/// make it. With one owner more it may be at many items, and is kept as it came.
+/// The largest number of owners of a longer route that is looked up for each item, one of which is
+/// the item. So it is at few items, and looking it up at each takes a few times as long as it took
+/// to make it. With one owner more it may be at many items, and is kept as it came.
 const LOOKED_FOR_OWNERS: usize = 4;
 
-/// For how many hashes of peers it is noted where their last routes stand. Of more peers some share
-/// what is noted, so that the last route of one takes the place of another's.
+/// The number of hashes of peers for which the slot of the last route is noted. Of more peers, some
+/// share a hash, and the slot of one replaces the slot of another.
 const LASTS: usize = 4096;
 
-/// How many bits of a peer's hash are left out then. With one more only half of what may be noted
-/// is.
+/// The number of lowest bits of a peer's hash that are dropped for an index of these. With one
+/// more, only half of them are used.
 const LOWEST_BITS: u32 = 52;
 
-/// How many owners a route has at most that may soon have none but this table: one that goes, this
-/// table, a source, and an item of an event. With one more some other owner is left.
+/// The largest number of owners of a route that may soon have none but this table: one that goes,
+/// this table, a source, and an item of an event. With one more, some other owner is left.
 const FEW_OWNERS: usize = 4;
 
-/// Of the octets of all routes here which part may be held by nothing else, one in so many: a
-/// quarter of those that others hold. With one octet more these routes are let go of.
+/// The ratio of the octets of all routes here to those that routes without another owner may take,
+/// which is a quarter of what the others take. With one octet more, these routes are dropped.
 const RELEASED_SHARE: u64 = 5;
 
-/// How many octets are added to those of the routes here before that part is taken, so that little
-/// isn't gone over often: a mebibyte may be held besides. It grows by an octet with four of these.
+/// The number of octets that are added to those of all routes before they are divided by
+/// [`RELEASED_SHARE`], so that all routes aren't gone over for a few: a mebibyte more may be held.
+/// It grows by an octet with four of these.
 const RELEASED_ROOM: u64 = 4 << 20;
 
-/// Routes that were played. They are here only to be found again: of an equal route that comes
-/// later the one that is here stands for it, so that it takes no memory of its own. Nothing is owed
-/// of which routes are here. So one may be let go at any time.
+/// A table of routes that were played, which are here only to be found again: an equal route that
+/// comes later is replaced by the one here, and takes no memory of its own. Which routes are here
+/// is unspecified, and any may be dropped at any time.
 #[derive(Drop)]
 pub struct KnownRoutes {
     alloc: Global,
+    /// The routes, by their hashes.
     routes: Places,
-    /// How many stood here when a play began, or when the places became more since.
+    /// The number of routes in slots when the last play began, or when the table last grew since.
     stood: usize,
-    /// How many octets the routes take that may have lost their last other owner since all were
-    /// gone over.
+    /// The number of octets of routes that may have lost their last other owner since all routes
+    /// were last gone over.
     released: u64,
-    /// How many octets the routes take that were noted since a play began.
+    /// The number of octets of the routes that were added since the last play began.
     noted: u64,
-    /// Where the last route of a peer of each hash was put or found.
+    /// The index of the slot that the last route of a peer was put into or found in, by the hash of
+    /// the peer.
     lasts: Vec<u32>,
     ghost bounded: { vec_len routes.places ≤ MOST_PLACES },
     ghost few: { vec_len lasts ≤ LASTS },
@@ -67,7 +71,7 @@ impl KnownRoutes {
     ghost use Rattle.std.specs.Prelude.{max};
     ghost use Rattle.known_routes.specs.Known.{route_count, stood_count};
 
-    /// No routes. They take no memory.
+    /// Returns an empty table, without allocating memory.
     pub fn new(alloc: Global) -> Self
         ensures { stood_count result ≡ 0 }
     {
@@ -81,8 +85,9 @@ impl KnownRoutes {
         }
     }
 
-    /// Returns the route of a peer, or one that is here and equal. The peer's last one is looked at
-    /// first. One that is new here is copied where it has much room for more than it has.
+    /// Returns a route of the table that equals `route`, or else adds `route` and returns it. The
+    /// last route of the peer is compared first. A new route with much spare capacity is added as a
+    /// copy without it. On an error, nothing is added.
     pub fn known(&mut self, peer: &Peer, route: &Rc<Route>) -> Result<Rc<Route>, AllocError>
         ensures value { IfOk result (λ known. known.value ≡ route.now.value) }
         ensures stood { stood_count self.new ≤ max (stood_count self.old) (route_count self.new) }
@@ -104,10 +109,8 @@ impl KnownRoutes {
         Ok(kept)
     }
 
-    /// Returns the route of a peer, or one that is here and equal, but the route itself where it is
-    /// long and has many owners. So all items of an event together cost a bound each, and a few
-    /// times what it took to make their routes: of a long route with few owners there are only few
-    /// items.
+    /// Returns what [`KnownRoutes::known`] does, but `route` itself if it is long and has many
+    /// owners.
     pub fn known_if_short(
         &mut self,
         peer: &Peer,
@@ -116,13 +119,16 @@ impl KnownRoutes {
         ensures value { IfOk result (λ known. known.value ≡ route.now.value) }
         ensures stood { stood_count self.new ≤ max (stood_count self.old) (route_count self.new) }
     {
+        // So all items of an event together cost a bound each, and a few times what it took to make
+        // their routes: a long route with few owners is at few items.
         if Rc::strong_count(route) <= LOOKED_FOR_OWNERS || is_short(route) {
             return self.known(peer, route);
         }
         route.clone()
     }
 
-    /// The route that stands where the last one of a peer was, if it equals this one.
+    /// Returns the route of the slot that the last route of a peer was in, if it equals `route`.
+    /// `last` is the index for the peer in `lasts`.
     #[inline]
     fn last(&self, last: usize, route: &Route) -> Option<&Rc<Route>>
         ensures { IfSome result (λ known. known.now.value ≡ route.now) }
@@ -134,7 +140,8 @@ impl KnownRoutes {
         }
     }
 
-    /// Notes where the last route of a peer stands.
+    /// Notes the index of the slot that the last route of a peer is in. `last` is the index for the
+    /// peer in `lasts`; if that has no items, nothing is noted.
     fn note_last(&mut self, last: usize, index: usize)
         ensures routes { route_count self.new ≡ route_count self.old }
         ensures stood { stood_count self.new ≡ stood_count self.old }
@@ -144,8 +151,8 @@ impl KnownRoutes {
         }
     }
 
-    /// Makes places for more routes, and for the last ones of peers where there are none. Refused,
-    /// the places stay.
+    /// Moves the routes to a larger table, and allocates `lasts` if that is empty. On an error, the
+    /// table stays as it was, or has no routes if they were moved already.
     fn add_places(&mut self) -> Result<(), AllocError>
         ensures { stood_count self.new ≤ max (stood_count self.old) (route_count self.new) }
     {
@@ -158,8 +165,8 @@ impl KnownRoutes {
         Ok(())
     }
 
-    /// Notes a route that isn't here and takes so many octets, and answers where it stands then, if it
-    /// does. Refused, none is noted.
+    /// Adds a route that isn't here, with its hash and the octets that it takes, and returns the
+    /// index of its slot, or `usize::MAX` if it is in none. On an error, it isn't added.
     fn note(&mut self, hash: u32, route: Rc<Route>, octets: u64) -> Result<usize, AllocError>
         ensures { stood_count self.new ≤ max (stood_count self.old) (route_count self.new) }
     {
@@ -173,12 +180,13 @@ impl KnownRoutes {
         Ok(index)
     }
 
-    /// An owner of the route is about to go. Where there is one other, which may be this table, it
-    /// is let go of here. Where there are few, they may be this table, a source and an event alone,
-    /// so that nobody may hold it soon.
+    /// Notes that an owner of the route is about to go. If one other owner is left, the route is
+    /// removed from the table; if few are, its octets count as released.
     pub fn note_gone(&mut self, route: &Rc<Route>)
         ensures { stood_count self.new ≡ stood_count self.old }
     {
+        // The one other owner may be this table. Few may be this table, a source and an event
+        // alone, so that nobody else may hold the route soon.
         let owners = Rc::strong_count(route);
         if owners == 2 {
             self.routes.take_route(hash_of(route), route);
@@ -187,8 +195,8 @@ impl KnownRoutes {
         }
     }
 
-    /// Some item's route, or all, aren't kept: nobody else may hold those that were noted since the
-    /// play began.
+    /// Notes that the routes of some items aren't kept: all that were added since the last play
+    /// began count as released.
     pub fn note_unused(&mut self)
         ensures { stood_count self.new ≡ stood_count self.old }
     {
@@ -196,9 +204,8 @@ impl KnownRoutes {
         self.noted = 0;
     }
 
-    /// Lets go of the routes that have no other owner, as soon as so much may be held by them alone
-    /// that it is to go: more than a quarter of what others hold, and of a mebibyte. It takes no
-    /// memory.
+    /// Removes the routes that have no other owner, if the octets of released routes are more than
+    /// the share that may be held: a quarter of what other routes take, and a mebibyte.
     pub fn let_go(&mut self)
         ensures { stood_count self.new ≡ stood_count self.old }
     {
@@ -209,15 +216,15 @@ impl KnownRoutes {
         }
     }
 
-    /// Begins a play. What the event before held may go now, and the places become fewer where they
-    /// are too many for the routes.
+    /// Begins a play: removes routes as [`KnownRoutes::let_go`] does, and moves the rest to a
+    /// smaller table if it has too many slots for them.
     pub fn begin(&mut self)
         ensures { stood_count self.new ≡ route_count self.new }
     {
         self.let_go();
         self.noted = 0;
-        // Fewer places take less memory. Where the smaller block is refused, nothing grew that would
-        // have to be answered: all are given back.
+        // A smaller table takes less memory. If allocating it fails, all routes are dropped: the
+        // play needs none of them, so that it gets no error.
         if !self.routes.are_fitting() && self.routes.resize(self.alloc).is_err() {
             self.routes = Places::none(self.alloc);
         }
@@ -225,7 +232,8 @@ impl KnownRoutes {
     }
 }
 
-/// Whether path and communities have so few numbers that the route may be asked for once an item.
+/// Returns whether path and communities have so few numbers that the route is looked up for each
+/// item.
 fn is_short(route: &Route) -> bool {
     let attrs = &route.attrs;
     let mut numbers = attrs.communities.as_slice().len();

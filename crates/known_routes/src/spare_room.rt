@@ -1,4 +1,5 @@
-//! Routes without the room that they have for more.
+//! Copies of routes without spare capacity. [`KnownRoutes`](crate::KnownRoutes) copies a new route
+//! by [`copy_roomy`] where it has much, and the reader fills the original again.
 
 ghost use Rattle.std.specs.Prelude.{◌≡◌, IfOk};
 
@@ -8,27 +9,29 @@ use std::alloc::{AllocError, Global};
 use std::mem::size_of;
 use std::rc::Rc;
 
-/// How many octets of room a route has at most for more than it has, besides a part of what it
-/// takes. One that has an octet more is copied to blocks without room for more.
+/// The number of octets of spare capacity that a route may have, besides those of [`SPARE_SHARE`].
+/// One that has an octet more is copied to blocks without spare capacity.
 const MOST_SPARE: u64 = 40;
 
-/// That part: of so many octets one. With a number one above it less room is left to a route.
+/// The ratio of the octets that a route takes to those that its spare capacity may take besides
+/// [`MOST_SPARE`]. With a number one above it, less spare capacity is left to a route.
 const SPARE_SHARE: u64 = 4;
 
-/// How many octets a number of a path or a community takes: no more and no fewer.
+/// The number of octets of an AS number of a path or of a community: no more and no fewer.
 const NUMBER_OCTETS: usize = size_of::<u32>();
 
-/// How many octets the place of a segment takes: no more and no fewer.
+/// The number of octets of a segment in the list of a path: no more and no fewer.
 const SEGMENT_OCTETS: usize = size_of::<Segment>();
 
-/// Adds how many octets of room a list has for more items than it has, of so many octets each.
+/// Returns `octets` and the octets of the spare capacity of a list, each item of which takes `size`
+/// octets.
 #[inline]
 fn add_spare<T>(octets: u64, list: &Vec<T>, size: usize) -> u64 {
     let spare = list.capacity().wrapping_sub(list.len());
     octets.wrapping_add((spare as u64).wrapping_mul(size as u64))
 }
 
-/// Returns whether the route, which takes so many octets, has much room for more than it has.
+/// Returns whether a route, which takes `octets` octets, has much spare capacity.
 #[inline]
 fn has_much_room(route: &Route, octets: u64) -> bool {
     let attrs = &route.attrs;
@@ -41,7 +44,7 @@ fn has_much_room(route: &Route, octets: u64) -> bool {
     spare > MOST_SPARE && spare - MOST_SPARE > octets / SPARE_SHARE
 }
 
-/// Returns a copy of the route, whose blocks have no room for more.
+/// Returns a copy of the route without spare capacity.
 #[inline(never)]
 fn copy_route(alloc: Global, route: &Route) -> Result<Rc<Route>, AllocError>
     ensures { IfOk result (λ copy. copy.value ≡ route.now) }
@@ -50,7 +53,8 @@ fn copy_route(alloc: Global, route: &Route) -> Result<Rc<Route>, AllocError>
     Ok(Rc::new(alloc, copy)?)
 }
 
-/// Returns the route, which takes so many octets, or a copy without room for more where it has much.
+/// Returns `route`, or a copy without spare capacity if it has much. `octets` is the number of
+/// octets that it takes.
 #[inline]
 pub(crate) fn copy_roomy(
     alloc: Global,

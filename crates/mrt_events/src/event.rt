@@ -1,4 +1,6 @@
-//! What accepted records say.
+//! Events and their parts: items, routes and times. `mrt_wire` makes an [`Event`] of each accepted
+//! record, and the printer and the player go through its items. Read [`Event`] first, then
+//! [`Item`].
 
 ghost use Rattle.std.specs.Prelude.{◌≡◌};
 
@@ -9,35 +11,35 @@ use std::alloc::AllocError;
 use std::marker::Model;
 use std::rc::Rc;
 
-/// When a record was written.
+/// The time at which a record was written.
 #[derive(Clone, Copy, Debug, PartialEq, Eq)]
 pub struct Time {
     /// Seconds since 1970.
     pub seconds: u32,
-    /// Microseconds behind the seconds, where the record has them (RFC 6396, section 3).
+    /// Microseconds after `seconds`. `None` for a record without them (RFC 6396, section 3).
     pub micros: Option<u32>,
 }
 
-/// Which kind of record an event comes from.
+/// The kind of record that an event was made from.
 #[derive(Clone, Copy, Debug, PartialEq, Eq)]
 pub enum Tag {
-    /// An entry of a routing table (RFC 6396, section 4.2).
+    /// An entry of a routing table: a TABLE_DUMP record (RFC 6396, section 4.2).
     TableDump,
-    /// A part of a routing table (RFC 6396, section 4.3).
+    /// Entries of a routing table for one prefix: a TABLE_DUMP_V2 record (RFC 6396, section 4.3).
     TableDump2,
-    /// A message or a state change (RFC 6396, section 4.4).
+    /// A message or a state change: a BGP4MP record (RFC 6396, section 4.4).
     Bgp4mp,
-    /// The same with microseconds (RFC 6396, section 3).
+    /// A message or a state change, with microseconds: a BGP4MP_ET record (RFC 6396, section 3).
     Bgp4mpEt,
 }
 
-/// A route to a prefix, as a peer announced it.
+/// The attributes and the time of a route. Peer and prefix are beside it, as in [`Item::Announce`].
 #[derive(Debug, Drop)]
 pub struct Route {
-    /// Its path attributes.
+    /// The path attributes.
     pub attrs: Attrs,
-    /// The time that goes with it, in seconds since 1970: that of its record, or for a table's
-    /// entry what its reader was asked for.
+    /// The time of the route, in seconds since 1970: the time of its record or, for an entry of a
+    /// table, the one that the [`Stamp`](crate::Stamp) of the reader selects.
     pub time: u32,
 }
 
@@ -52,42 +54,45 @@ impl Clone for Route {
     }
 }
 
-/// The number of the state Established of a session (RFC 6396, section 4.4.1).
+/// The number of the session state Established (RFC 6396, section 4.4.1).
 pub const ESTABLISHED: u16 = 6;
 
-/// One thing that an event says of a peer.
+/// A change of a peer's route to a prefix, or of the state of its session.
 #[derive(Debug, Drop)]
 pub enum Item {
-    /// The peer has this route to the prefix from now on.
+    /// An announcement: from now on the peer has this route to the prefix. An entry of a table is
+    /// one too.
     Announce(Peer, Prefix, Rc<Route>),
-    /// The peer has no route to the prefix any more.
+    /// A withdrawal: from now on the peer has no route to the prefix.
     Withdraw(Peer, Prefix),
-    /// The session with the peer went from the first state to the second (RFC 4271,
-    /// section 8.2.2; their numbers are those of RFC 6396, section 4.4.1).
+    /// A change of the session with the peer from the first state to the second (RFC 4271, section
+    /// 8.2.2), by their numbers (RFC 6396, section 4.4.1).
     State(Peer, u16, u16),
 }
 
-/// A range of items that announce prefixes of one peer with one route.
+/// A range of items that announce prefixes of one peer with one route. It may be empty.
 #[derive(Clone, Copy, Debug, PartialEq, Eq)]
 pub struct Shared {
-    /// The place of the first.
+    /// The index of the first item.
     pub start: usize,
-    /// The place behind the last.
+    /// The index after the last item.
     pub end: usize,
 }
 
-/// Two such ranges, one behind the other, each of which may be empty.
+/// Two adjacent ranges of items. Those of each range announce prefixes of one peer with one route.
+/// Either range may be empty.
 #[derive(Clone, Copy, Debug, PartialEq, Eq)]
 pub struct SharedRanges {
-    /// The place of the first item of the first range.
+    /// The index of the first item of the first range.
     pub start: usize,
-    /// The place behind its last, where the second range begins.
+    /// The index after the last item of the first range, where the second range begins.
     pub middle: usize,
-    /// The place behind the last item of the second range.
+    /// The index after the last item of the second range.
     pub end: usize,
 }
 
-/// Items in order. Contracts see what they say, each route by its value.
+/// A list of items in order, with the ranges of it that are known to share a route. In contracts it
+/// is the list of items, each route by its value.
 #[derive(Debug, Drop)]
 pub struct Items {
     items: Vec<Item>,
@@ -111,7 +116,7 @@ impl Items {
     ghost use Rattle.mrt_events.specs.Event.{saying};
     ghost use Rattle.mrt_events.specs.SharedRoute.{AreOfOneRoute, AreSharedIn};
 
-    /// The items of the vector, of which nothing is known.
+    /// Returns the items of a vector, without a range that is known to share a route.
     pub fn from_vec(items: Vec<Item>) -> Items
         ensures { result ≡ map saying items.items }
     {
@@ -125,7 +130,8 @@ impl Items {
         }
     }
 
-    /// The items of the vector, of which those in each range are known to share a route.
+    /// Returns the items of a vector, where those of each range of `shared` announce prefixes of
+    /// one peer with one route.
     pub fn sharing(items: Vec<Item>, shared: SharedRanges) -> Items
         requires { AreSharedIn shared (map saying items.items) }
         ensures { result ≡ map saying items.items }
@@ -133,7 +139,7 @@ impl Items {
         Items { items, shared }
     }
 
-    /// The items as a vector.
+    /// Converts the items into a vector, in order.
     pub fn into_vec(self) -> Vec<Item>
         ensures { map saying result.items ≡ self }
     {
@@ -141,15 +147,15 @@ impl Items {
         items
     }
 
-    /// The items.
+    /// Returns the items as a slice, in order.
     pub fn as_slice(&self) -> &[Item]
         ensures { map saying result.now ≡ self.now }
     {
         &self.items
     }
 
-    /// Which of the items are known to announce prefixes of one peer with one route. It may be
-    /// none, also where several do.
+    /// Returns a range of items that are known to announce prefixes of one peer with one route: the
+    /// longer one of [`Items::shared_ranges`]. It may be empty although several items do.
     pub fn shared(&self) -> Shared
         ensures ordered { result.start ≤ result.end }
         ensures within { result.end ≤ length self.now }
@@ -162,7 +168,8 @@ impl Items {
         Shared { start, end: middle }
     }
 
-    /// The same, both ranges, of which the longer one is answered there.
+    /// Returns both ranges of items that are known to announce prefixes of one peer with one route.
+    /// Either may be empty although several items do.
     pub fn shared_ranges(&self) -> SharedRanges
         ensures { AreSharedIn result self.now }
     {
@@ -170,14 +177,15 @@ impl Items {
     }
 }
 
-/// What one accepted record says. In this order of the fields no gap stands in front of the items,
-/// so that an event is moved in whole words.
+/// The content of an accepted record.
 #[derive(Debug, Drop)]
 pub struct Event {
-    /// Which kind of record it is.
+    // In this order of the fields no padding is before the items, so that an event is moved in
+    // whole words.
+    /// The kind of the record.
     pub tag: Tag,
-    /// When the record was written.
+    /// The time at which the record was written.
     pub time: Time,
-    /// What it says, in order.
+    /// The items, in order.
     pub items: Items,
 }

@@ -1,4 +1,5 @@
-//! Laws of what the contracts cite: of the order of peers.
+//! Theorems about the order of peers, which contracts cite. The functions have no code and nothing
+//! calls them: what they state is proved as the crate is checked. `docs/proved.md` names them.
 
 ghost use Rattle.std.specs.Prelude.{◌≡◌, Some};
 ghost use Rattle.std.specs.Ordering.{eq_by_cmp};
@@ -9,8 +10,8 @@ ghost use Rattle.mrt_events.specs.Event.{peer_cmp};
 
 use crate::peer::Peer;
 
-/// Peers are ordered by address and then by AS number. The order is total, only equal ones tie,
-/// and each comparison says what it says.
+/// Proves that peers are ordered by address and then by AS number, that the order is total, and
+/// that only equal peers compare equal. `==` and the comparisons of [`Peer`] agree with it.
 pub fn peer_order()
     ensures parts { (a b : Peer) → ⟦<Peer as Ord>⟧.cmp a b ≡ peer_cmp a b }
     ensures partial { (a b : Peer) →

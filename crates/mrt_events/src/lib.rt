@@ -1,5 +1,6 @@
-//! What the records that routers write say of routes (MRT, RFC 6396): events, and the peers and routes
-//! in them.
+//! The events of MRT records (RFC 6396): announcements, withdrawals and state changes of peers.
+//! `mrt_wire` makes them, `bgpdump_lines` prints them, and `rib_player` plays them. Read [`Event`]
+//! first, then [`Item`].
 #![tactic(auto)]
 
 mod event;

@@ -1,36 +1,40 @@
-//! How much memory a route takes.
+//! The number of octets that a route is counted with. `mrt_wire` bounds its pool of routes by
+//! [`route_room`], and `known_routes` drops routes by [`route_size`]. That a route takes no more
+//! isn't proved.
 
 use crate::event::Route;
 use bgp_wire::Segment;
 
-/// How many octets a route takes at least: its fixed attributes, and what its three blocks of memory
-/// take besides what lies in them.
+/// The number of octets that every route takes at least: its fixed attributes, and the overhead of
+/// its three blocks of memory.
 const ROUTE_OCTETS: u64 = 192;
 
-/// How many octets a segment takes at least: its place in the path, and its block of memory.
+/// The number of octets that a segment takes at least: its element in the list of the path, and its
+/// block of memory.
 const SEGMENT_OCTETS: u64 = 64;
 
-/// How many octets a number of a path or a community takes.
+/// The number of octets of an AS number of a path or of a community.
 const NUMBER_OCTETS: u64 = 4;
 
-/// How many octets of room a route has at most for more than it has, where it was read from octets:
-/// for 4 segments (`fit` of `bgp_paths`), for 32 communities (`Communities` of `bgp_wire`), and what
-/// the allocator rounds up. Where more is left to it, it takes more than is counted.
+/// The number of octets of spare capacity that a route has at most if it was read from octets: for
+/// 4 segments (`fit` of `bgp_paths`), for 32 communities (`Communities` of `bgp_wire`), and what
+/// the allocator rounds up. A route with more takes more than is counted.
 const SPARE_OCTETS: u64 = 288;
 
-/// How many octets of room such a route's segment has at most, for 8 numbers more (`AsNumbers`). Where
-/// more is left to it, it takes more than is counted.
+/// The number of octets of spare capacity that a segment of such a route has at most, for 8 AS
+/// numbers (`AsNumbers`). A segment with more takes more than is counted.
 const SEGMENT_SPARE: u64 = 32;
 
-/// So many times so many octets.
+/// Returns `count` times `octets`, or `u64::MAX` on overflow.
 #[inline]
 fn octets_of(count: usize, octets: u64) -> u64 {
     (count as u64).saturating_mul(octets)
 }
 
-/// How many numbers the segments have together. They stand in memory, so that the sum never wraps.
+/// Returns the number of AS numbers of all segments together.
 #[inline]
 fn number_count(segments: &[Segment]) -> usize {
+    // The numbers are all in memory, so that the sum never wraps.
     let mut count: usize = 0;
     'segments: for segment in segments {
         count = count.wrapping_add(segment.numbers.as_slice().len());
@@ -38,7 +42,8 @@ fn number_count(segments: &[Segment]) -> usize {
     count
 }
 
-/// How many octets a route takes, by what it has, whatever room it was given.
+/// Returns the number of octets that a route takes, by the lengths of its lists, whatever their
+/// capacity.
 pub fn route_size(route: &Route) -> u64 {
     let attrs = &route.attrs;
     let segments = attrs.path.segments.as_slice();
@@ -50,7 +55,8 @@ pub fn route_size(route: &Route) -> u64 {
         .saturating_add(communities)
 }
 
-/// How many octets a route that was read from octets takes at most, with all that it has room for.
+/// Returns the largest number of octets that a route takes if it was read from octets, with the
+/// spare capacity of its lists.
 pub fn route_room(route: &Route) -> u64 {
     let segments = route.attrs.path.segments.as_slice().len();
     route_size(route)

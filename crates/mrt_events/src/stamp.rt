@@ -1,10 +1,11 @@
-//! Which time the routes of a table have.
+//! The choice of the time that the routes of tables get. A user of `mrt_wire` makes its source with
+//! one; the program takes it from the option `-t`.
 
-/// Which time the entries of a table are given.
+/// The choice of the time that the routes of a table's entries get.
 #[derive(Clone, Copy, Debug, PartialEq, Eq)]
 pub enum Stamp {
-    /// That of the dump.
+    /// The time of the record.
     Dump,
-    /// That at which the entry was originated.
+    /// The time at which the entry was originated.
     Change,
 }

@@ -1,4 +1,5 @@
-//! What an event does, pair by pair.
+//! The changes that an event makes to pairs of a peer and a prefix. `steps.rt` calls
+//! [`changes_of`], and makes the entries of a step from them. Read [`Changes`] first.
 
 ghost use Rattle.std.specs.Prelude.{◌≡◌, [], ◌∷◌, ◌≢◌, IfOk, IfSome, IfNone, OnOk, map, slice_get};
 ghost use Rattle.std.specs.List.{AllByRecursion, list_any};
@@ -22,20 +23,21 @@ use std::alloc::{AllocError, Global};
 use std::collections::BTreeSet;
 use std::rc::Rc;
 
-/// What the last items of an event do. Of the items that concern a pair the last decides, so items
-/// are noted from the last to the first, but for those that stand before the loss of their peer.
+/// The changes of the last items of an event.
 #[derive(Drop)]
 pub(crate) struct Changes {
+    // Of the items of a pair the last one decides, so items are noted from the last to the first.
+    // Those before the loss of their peer aren't noted.
     pub(crate) alloc: Global,
-    /// The entries of the pairs that items name, with the route that they have then. Of those of a
-    /// pair the first counts.
+    /// An entry for each noted item that announces or withdraws, with the route that its pair has
+    /// after the item. Of the entries of a pair, the first counts.
     pub(crate) entries: Vec<Entry>,
-    /// The peers whose session is lost, before all that is noted of them in `entries`.
+    /// The peers whose session is lost, before all items that `entries` has of them.
     pub(crate) lost: BTreeSet<Peer>,
 }
 
 impl Changes {
-    /// Whether the peer's session is lost, before all that is noted of the peer.
+    /// Returns whether the peer is in `lost`.
     #[inline]
     fn has_lost(&self, peer: &Peer) -> bool
         ensures { result ≡ list_any (eq_by_cmp peer_cmp peer.now) self.now.lost.keys }
@@ -43,7 +45,8 @@ impl Changes {
         !self.lost.is_empty() && self.lost.contains(peer)
     }
 
-    /// Notes the route that the peer has to the prefix then, or its absence.
+    /// Notes that the pair of `peer` and `prefix` has this route after an item, or none. If a later
+    /// item loses the peer's session, nothing is noted.
     fn note_route<S: PrefixStore<Rc<Route>>>(
         &mut self,
         table: &Table<S>,
@@ -64,7 +67,9 @@ impl Changes {
         Ok(())
     }
 
-    /// Notes what the items do, which stand before all that are noted. A shared route is that of each.
+    /// Notes what `items` do, all of which are before the items noted so far. If `shared` is there,
+    /// it is taken as the route of each announcement; else each route is looked up by
+    /// [`KnownRoutes::known_if_short`].
     fn note_each<S: PrefixStore<Rc<Route>>>(
         &mut self,
         table: &Table<S>,
@@ -99,7 +104,8 @@ impl Changes {
         Ok(())
     }
 
-    /// Notes what items do that share a route, which stand before all that are noted.
+    /// Notes what `items` do, which announce prefixes of one peer with one route, and are before
+    /// the items noted so far. The route is looked up in `known` once.
     fn note_shared<S: PrefixStore<Rc<Route>>>(
         &mut self,
         table: &Table<S>,
@@ -118,7 +124,7 @@ impl Changes {
     }
 }
 
-/// What the event does.
+/// Returns the changes that the event makes, with routes of `known` in place of equal ones.
 pub(crate) fn changes_of<S: PrefixStore<Rc<Route>>>(
     alloc: Global,
     event: &Event,
@@ -144,9 +150,8 @@ pub(crate) fn changes_of<S: PrefixStore<Rc<Route>>>(
     Ok(changes)
 }
 
-/// The peer, shared with the entry that was made last, or with the table. The number behind that of
-/// the last entry's peer is tried first, since peers get numbers in the order of the record that
-/// names them first, and others mostly name them in that order too.
+/// Returns a pointer to the peer: the one of the entry `last` if that is of this peer, or the one
+/// of the table, or else a new one.
 pub(crate) fn shared_peer<S: PrefixStore<Rc<Route>>>(
     alloc: Global,
     table: &Table<S>,
@@ -155,6 +160,8 @@ pub(crate) fn shared_peer<S: PrefixStore<Rc<Route>>>(
 ) -> Result<Rc<NumberedPeer>, AllocError>
     ensures { IfOk result (λ shared. shared.value ≡ peer.now) }
 {
+    // The number after the one of the last entry's peer is tried first, since peers get numbers in
+    // the order of the record that names them first, and others mostly name them in that order too.
     let mut number = NO_NUMBER;
     if let Some(entry) = last {
         let before = entry.shared_peer();

@@ -1,4 +1,6 @@
-//! Some of the numbers from 0 on, which are found without a look at the others.
+//! A set of numbers, as a list of them in which the chosen ones come first, so that these are
+//! listed without a look at the others. `stores.rt` keeps by it which stores have a route. Read
+//! [`Chosen`] first.
 
 ghost use Rattle.std.specs.Prelude.{◌≡◌, ◌<◌, ◌≤◌, ◌++◌, ◌∷◌, ℕ, [], false, not, Some, length, OnOk, slice_get, vec_len, vec_capacity};
 ghost use Rattle.rib_player.specs.Places.{AreInverse, IsReplaced, IsSwapped, ListsAll, changed_place};
@@ -7,21 +9,21 @@ ghost use Rattle.std.proofs.Props.{props};
 use crate::room::give_back_room;
 use std::alloc::{AllocError, Global};
 
-/// Numbers from 0 on, of which some are chosen. Each has a place, and those that are chosen stand
-/// in front.
+/// The numbers from 0 up to a count, some of which are chosen.
 #[derive(Drop)]
 pub(crate) struct Chosen {
-    /// The numbers, in the order of their places.
+    /// The numbers, the chosen ones first.
     numbers: Vec<usize>,
-    /// The place of each number.
+    /// The index of each number in `numbers`.
     places: Vec<usize>,
-    /// How many are chosen.
+    /// The number of chosen ones.
     count: usize,
     ghost inverse: { AreInverse numbers.items places.items } by { Prim.hlevel props },
     ghost within: { count ≤ vec_len numbers },
 }
 
-/// What stands at two places changes places, where `places` says of each number where it stands.
+/// Swaps the numbers at the indices `one` and `other`, and their indices in `places`, which is the
+/// inverse of `numbers`.
 fn exchange(numbers: &mut Vec<usize>, places: &mut Vec<usize>, one: usize, other: usize)
     requires inverse { AreInverse numbers.old.items places.old.items }
     requires one { one < vec_len numbers.old }
@@ -43,7 +45,7 @@ fn exchange(numbers: &mut Vec<usize>, places: &mut Vec<usize>, one: usize, other
 impl Chosen {
     ghost use Rattle.rib_player.specs.Chosen.{HasRoom, choices};
 
-    /// No numbers.
+    /// Returns an empty set, without allocating memory.
     pub(crate) fn new(alloc: Global) -> Chosen
         ensures { choices result ≡ [] }
     {
@@ -54,7 +56,7 @@ impl Chosen {
         }
     }
 
-    /// Makes room for a number more.
+    /// Reserves capacity for one more number. On an error, the set is unchanged.
     pub(crate) fn reserve(&mut self) -> Result<(), AllocError>
         ensures room { OnOk result (HasRoom self.new) }
         ensures kept { choices self.new ≡ choices self.old }
@@ -63,7 +65,8 @@ impl Chosen {
         self.places.reserve(1)
     }
 
-    /// Adds the next number, which isn't chosen.
+    /// Adds the next number, which isn't chosen. There must be capacity for it
+    /// ([`Chosen::reserve`]).
     pub(crate) fn add(&mut self)
         requires { HasRoom self.old }
         ensures { choices self.new ≡ choices self.old ++ false ∷ [] }
@@ -73,7 +76,7 @@ impl Chosen {
         self.places.push_reserved(number);
     }
 
-    /// Chooses the number, or no longer. It takes no memory.
+    /// Makes `number` chosen or not, as `is` says, without allocating memory.
     #[inline]
     pub(crate) fn choose(&mut self, number: usize, is: bool)
         requires { number < length (choices self.old) }
@@ -84,7 +87,7 @@ impl Chosen {
         }
     }
 
-    /// Chooses a number that isn't chosen, or no longer one that is.
+    /// Makes `number` chosen or not, as `is` says, where it isn't so yet.
     fn turn(&mut self, number: usize, is: bool)
         requires { slice_get (choices self.old) number ≡ Some (not is) }
         ensures { IsReplaced (choices self.old) (choices self.new) number is }
@@ -99,7 +102,8 @@ impl Chosen {
         }
     }
 
-    /// Takes the number out, and the last one gets its number. It takes no memory.
+    /// Removes `number`, and renumbers the last number to it, as [`Vec::swap_remove`] does. It
+    /// allocates no memory.
     pub(crate) fn remove(&mut self, number: usize)
         requires { number < length (choices self.old) }
         ensures { IsSwapped (choices self.old) (choices self.new) number }
@@ -113,14 +117,14 @@ impl Chosen {
         self.places.pop();
     }
 
-    /// Those that are chosen.
+    /// Returns the chosen numbers. Their order is unspecified.
     pub(crate) fn numbers(&self) -> &[usize]
         ensures { ListsAll (choices self.now) result.now }
     {
         &self.numbers[..self.count]
     }
 
-    /// Gives back room that is too much for the numbers that there are.
+    /// Shrinks the lists if they have far more capacity than numbers (`room.rt`).
     pub(crate) fn give_back_room(&mut self)
         ensures { choices self.new ≡ choices self.old }
     {

@@ -1,6 +1,7 @@
-//! Claims of pairs. A pair is claimed once if it has a route before all kept steps, and once by each
-//! of them that brings it: before which it has no route and behind which it has one. A pair is a key
-//! exactly where it is claimed. The key is the first claim; those beyond it are counted here.
+//! The claims of pairs of a peer and a prefix; a pair is a key of the table while it has one. It has
+//! a claim if it has a route at the floor, before all kept steps, and one for each kept step that
+//! brings it: it has no route before the step and one after it. The key stands for the first claim,
+//! and the others are counted here. `journal.rt` calls [`put_entry`] and [`give_up_claims`].
 
 ghost use Rattle.std.specs.Prelude.{◌≡◌, ◌+◌, ◌<◌, ◌≤◌, ◌||◌, ◌&&◌, true, false, is_some, length, nat_lt, [], ◌∷◌, None, OnOk, OnErr};
 ghost use Rattle.std.specs.FinMap as finite;
@@ -32,17 +33,18 @@ use std::collections::BTreeMap;
 use std::mem::size_of;
 use std::rc::Rc;
 
-/// How often pairs are claimed besides their keys. Only those stand here that were withdrawn and
-/// announced again among the kept steps. The counts of a peer lie in memory of their own, so that
-/// places for peers take little where they are free.
+/// The number of claims of pairs beyond the first, which the key stands for. Only pairs that were
+/// withdrawn and announced again in the kept steps have any.
 #[derive(Drop)]
 pub(crate) struct Claims {
+    // The counts of a peer are boxed, so that free slots of the map take little memory.
     alloc: Global,
+    /// The counts of each peer that has any.
     pub(crate) peers: BTreeMap<Peer, Box<Counts>>,
 }
 
 impl Claims {
-    /// None beyond the keys.
+    /// Returns counts that are all 0, without allocating memory.
     pub(crate) fn new(alloc: Global) -> Claims
         ensures { (q : Pair) → claims_beyond result q ≡ 0 }
     {
@@ -52,7 +54,7 @@ impl Claims {
         }
     }
 
-    /// Counts a claim more of the pair. Refused, nothing has changed.
+    /// Adds a claim of the pair. On an error, the counts are unchanged.
     fn add(&mut self, pair: &Pair) -> Result<(), AllocError>
         requires { claims_beyond self.old pair.now < GREATEST_COUNT }
         ensures counted { OnOk result ((q : Pair) → claims_beyond self.new q
@@ -70,7 +72,7 @@ impl Claims {
         Ok(())
     }
 
-    /// Counts a claim less of the pair, where there is one, and answers whether there is.
+    /// Gives up a claim of the pair that is counted here, and returns whether there was one.
     fn take(&mut self, pair: &Pair) -> bool
         ensures some { result ≡ nat_lt 0 (claims_beyond self.old pair.now) }
         ensures counted { (q : Pair) → claims_beyond self.new q
@@ -87,9 +89,9 @@ impl Claims {
     }
 }
 
-/// Goes from one side of a new step to the other with one of its entries. Where the step brings the
-/// pair, that is a claim: the key, where the pair was none, or else one beyond it. Refused, nothing
-/// has changed but the entry.
+/// Applies one entry of a new step to the table, and adds a claim if the step brings the pair: it
+/// becomes a key or, if it is one, gets a claim beyond the key. On an error, table and claims are
+/// unchanged, and the entry is unspecified.
 pub(crate) fn put_entry<S: PrefixStore<Rc<Route>>>(
     table: &mut Table<S>,
     claims: &mut Claims,
@@ -121,8 +123,8 @@ pub(crate) fn put_entry<S: PrefixStore<Rc<Route>>>(
     Ok(())
 }
 
-/// Gives up the claims that go with a step at this end: of each pair one beyond the key, where there
-/// is one, or else the key. It takes no memory.
+/// Gives up the claims that go with a step at this end (`Entry::gives_up`): of each pair one beyond
+/// the key or, if there is none, the key. It allocates no memory.
 pub(crate) fn give_up_claims<S: PrefixStore<Rc<Route>>>(
     table: &mut Table<S>,
     claims: &mut Claims,
@@ -151,28 +153,28 @@ pub(crate) fn give_up_claims<S: PrefixStore<Rc<Route>>>(
     }
 }
 
-/// How many addresses IPv4 has: the number of each is below it. One that were above it would be
-/// counted as one of the prefixes that are longer.
+/// The number of addresses of IPv4, so that each address is a number below it. One that were above
+/// it would be counted as one of the prefixes that are longer.
 const ADDRESSES: u64 = 1 << 32;
 
-/// How many bits lie below an address of IPv4 in the half of a prefix that begins with it.
+/// The number of bits after an address of IPv4 in the first half of a prefix, which begins with it.
 const BELOW: u32 = 32;
 
-/// How often prefixes are claimed besides their keys, those of each family by themselves.
+/// The number of claims of the prefixes of a peer beyond the keys, for each family.
 #[derive(Drop)]
 pub(crate) struct Counts {
     v4: FewCounts<u64>,
     v6: FewCounts<Prefix>,
 }
 
-/// How many octets the counts of a peer take at most, besides lists and trees, which a family has
-/// only where two of its prefixes are counted. Counts of one octet more are refused when the crate
-/// is checked.
+/// The number of octets that the counts of a peer take at most, besides the lists and maps that a
+/// family gets once two of its prefixes are counted. With one octet more, the check of the crate
+/// fails.
 const COUNTS_OCTETS: usize = 72;
 
 const _: () = prove!(size_of::<Counts>() <= COUNTS_OCTETS);
 
-/// A prefix of IPv4 as a number: its least address, and above that how many bits it has.
+/// Returns a prefix of IPv4 as a number: 2^32 times its length, plus its least address.
 #[inline]
 fn v4_key(prefix: &Prefix) -> u64
     requires { prefix.now.family ≡ V4 }
@@ -183,7 +185,7 @@ fn v4_key(prefix: &Prefix) -> u64
 }
 
 impl Counts {
-    /// None.
+    /// Returns counts that are all 0.
     fn new() -> Counts
         ensures { (n : Network) → count_of result n ≡ 0 }
     {
@@ -193,14 +195,14 @@ impl Counts {
         }
     }
 
-    /// Whether none is counted.
+    /// Returns whether no prefix is counted.
     fn is_empty(&self) -> bool
         ensures { result ≡ true → (n : Network) → count_of self.now n ≡ 0 }
     {
         self.v4.is_empty() && self.v6.is_empty()
     }
 
-    /// Counts a claim more of the prefix. Refused, nothing has changed.
+    /// Adds a claim of the prefix. On an error, the counts are unchanged.
     fn more(&mut self, alloc: Global, prefix: &Prefix) -> Result<(), AllocError>
         requires { count_of self.old prefix.now < GREATEST_COUNT }
         ensures counted { OnOk result ((n : Network) → count_of self.new n
@@ -214,7 +216,7 @@ impl Counts {
         }
     }
 
-    /// Counts a claim less of the prefix, where there is one, and answers whether there is.
+    /// Gives up a claim of the prefix that is counted here, and returns whether there was one.
     fn less(&mut self, prefix: &Prefix) -> bool
         ensures some { result ≡ nat_lt 0 (count_of self.old prefix.now) }
         ensures counted { (n : Network) → count_of self.new n

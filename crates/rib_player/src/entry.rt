@@ -1,4 +1,7 @@
-//! The entries of steps, in little memory.
+//! The entries of steps, in little memory. An entry has a pair of a peer and a prefix, the route
+//! that the pair has on the other side of the step, and two marks: whether the pair has a route
+//! before the step, and after it. `entry/crossing.rt` swaps the routes of entries and table. Read
+//! [`Entry`] first.
 
 ghost use Rattle.std.specs.Prelude.{◌≡◌, None, IfOk, option_copied};
 ghost use Rattle.rib_player.specs.History.{pair_of};
@@ -17,17 +20,19 @@ use std::marker::Model;
 use std::mem::size_of;
 use std::rc::Rc;
 
-/// A pair that a step names, and its route, or the absence of one, on the other side of the
-/// step: after it while it is undone, else before it.
+/// An entry of a step: a pair that the step names, and its route on the other side of the step, or
+/// none. That side is before the step while it is applied, and after it while it is undone.
 #[derive(Drop)]
 pub(crate) struct Entry {
     kept: Kept,
 }
 
-/// On which sides of its step an entry's pair has a route.
+/// The marks of an entry: whether its pair has a route before the step, and after it.
 #[derive(Clone, Copy)]
 struct Marks {
+    /// Whether the pair has a route before the step.
     before: bool,
+    /// Whether the pair has a route after the step.
     behind: bool,
 }
 
@@ -37,35 +42,37 @@ pub(crate) struct Step {
     pub(crate) entries: Vec<Entry>,
 }
 
-/// An end of the kept steps, at which one of them goes: the first is forgotten, the last is dropped.
+/// An end of the list of kept steps, at which one of them goes.
 #[derive(Clone, Copy)]
 pub(crate) enum End {
+    /// The end of the first step, which is forgotten.
     First,
+    /// The end of the last step, which is dropped.
     Last,
 }
 
-/// A pair with its marks, and the route, where there is one. The entries of a peer share it. An
-/// IPv4 prefix lies beside the marks, so that an entry takes three words; an IPv6 prefix lies with
-/// its peer in memory of its own.
+/// The contents of an entry: its marks, its pair, and its route if there is one.
 #[derive(Drop)]
 enum Kept {
+    // An IPv4 prefix is beside the marks, so that an entry takes three words; an IPv6 prefix is
+    // boxed with its peer. The entries of a peer share it.
     V4Absent(Marks, V4Prefix, Rc<NumberedPeer>),
     V4Present(Marks, V4Prefix, Rc<NumberedPeer>, Rc<Route>),
     V6Absent(Marks, Box<V6Pair>),
     V6Present(Marks, Box<V6Pair>, Rc<Route>),
-    /// Nothing, while an entry is put together anew.
+    /// No contents, while an entry is changed. No caller finds an entry so.
     Taken,
 }
 
-/// A pair with a prefix of IPv6.
+/// A pair of a peer and an IPv6 prefix.
 #[derive(Drop)]
 struct V6Pair {
     prefix: Prefix,
     peer: Rc<NumberedPeer>,
 }
 
-/// How many octets an entry takes at most, besides an IPv6 prefix. An entry of one octet more is
-/// refused when the crate is checked.
+/// The number of octets that an entry takes at most, besides an IPv6 prefix. With one octet more,
+/// the check of the crate fails.
 const ENTRY_OCTETS: usize = 24;
 
 const _: () = prove!(size_of::<Entry>() <= ENTRY_OCTETS);
@@ -82,7 +89,8 @@ impl Model for Entry {
 }
 
 impl Entry {
-    /// An entry that wasn't put yet, with the route that its pair has behind the step.
+    /// Returns an entry of a step that isn't applied yet. `other` is the route that the pair has
+    /// after the step.
     pub(crate) fn new(
         alloc: Global,
         peer: Rc<NumberedPeer>,
@@ -111,7 +119,7 @@ impl Entry {
         })
     }
 
-    /// The peer of its pair, and the prefix.
+    /// Returns the peer and the prefix of the pair.
     #[inline]
     fn parts(&self) -> (&Rc<NumberedPeer>, Prefix)
         ensures peer { result.0.now.value ≡ self.now.pair.peer }
@@ -126,7 +134,7 @@ impl Entry {
         }
     }
 
-    /// The pair.
+    /// Returns the pair of the entry.
     #[inline]
     pub(crate) fn pair(&self) -> Pair
         ensures { result ≡ self.now.pair }
@@ -138,7 +146,7 @@ impl Entry {
         }
     }
 
-    /// The peer of its pair, which other entries may share.
+    /// Returns a pointer to the peer of the pair, which other entries may share.
     #[inline]
     pub(crate) fn shared_peer(&self) -> &Rc<NumberedPeer>
         ensures { result.now.value ≡ self.now.pair.peer }
@@ -146,7 +154,7 @@ impl Entry {
         self.parts().0
     }
 
-    /// The peer of its pair.
+    /// Returns the peer of the pair.
     #[inline]
     pub(crate) fn peer(&self) -> &Peer
         ensures { result.now ≡ self.now.pair.peer }
@@ -154,7 +162,7 @@ impl Entry {
         self.shared_peer().peer()
     }
 
-    /// The prefix of its pair.
+    /// Returns the prefix of the pair.
     #[inline]
     pub(crate) fn prefix(&self) -> Prefix
         ensures { result ≡ self.now.pair.prefix }
@@ -162,7 +170,7 @@ impl Entry {
         self.parts().1
     }
 
-    /// Its route, where it has one.
+    /// Returns the route on the other side of the step, or `None` if the pair has none there.
     #[inline]
     pub(crate) fn route(&self) -> Option<&Rc<Route>>
         ensures { option_copied result ≡ self.now.other }
@@ -174,8 +182,9 @@ impl Entry {
         }
     }
 
-    /// Whether a claim of its pair is given up where its step goes at this end: a forgotten step
-    /// clears the pair, which has a route before it and none behind it; a dropped one brings it.
+    /// Returns whether a claim of the pair is given up as the step goes at this end: at the first
+    /// end if the step clears the pair, which has a route before it and none after it; at the last
+    /// end if the step brings the pair, which has none before it and one after it.
     #[inline]
     pub(crate) fn gives_up(&self, end: End) -> bool
         ensures { result ≡ gives_up end (mark_of self.now) }
@@ -193,7 +202,7 @@ impl Entry {
         }
     }
 
-    /// Notes on which sides of the step its pair has a route.
+    /// Sets the marks: whether the pair has a route before the step, and after it.
     #[inline]
     fn set_marks(&mut self, new: Marks)
         ensures { self.new ≡ record {
@@ -214,7 +223,7 @@ impl Entry {
 }
 
 impl Kept {
-    /// The same without its route, and the route.
+    /// Splits contents into those without a route, and the route if there is one.
     #[inline]
     fn without_route(self) -> (Kept, Option<Rc<Route>>)
         requires { IsWhole self }
@@ -231,7 +240,7 @@ impl Kept {
         }
     }
 
-    /// The same, which has no route, with the route, or its absence.
+    /// Returns the contents with `other` as their route. They must have none.
     #[inline]
     fn with_route(self, other: Option<Rc<Route>>) -> Kept
         requires whole { IsWhole self }

@@ -1,4 +1,5 @@
-//! How often keys are counted, in little memory where few are.
+//! Counts of keys, in little memory while there are few of them. `claims.rt` counts the claims of
+//! the prefixes of a peer by them. Read [`FewCounts`] first.
 
 ghost use Rattle.std.specs.Prelude.{◌≡◌, [], ◌∷◌, ◌+◌, ◌<◌, ◌&&◌, true, nat_lt, length, take, drop, Some, None, IfOk, IfSome, IfNone, OnOk, OnErr};
 ghost use Rattle.std.specs.Map.{lookup};
@@ -11,27 +12,27 @@ ghost use Rattle.rib_player.specs.FewCounts.{count_at, count_in, IsFirst};
 use std::alloc::{AllocError, Global};
 use std::collections::BTreeMap;
 
-/// How many keys a list holds at most. What is counted where there are as many, be it of another
-/// key or of one of these, moves all to a tree. Its first node has room for fifteen: 248 octets for
+/// The number of keys that a list has at most. Adding to a list of so many, be it another key or
+/// one of these, moves all counts to a map. Its first node has room for fifteen: 248 octets for
 /// numbers, where the list has 128, and 488 for prefixes, where it has 256.
 const FEW: usize = 8;
 
-/// How often keys are counted. One key takes no memory besides this, which has 32 octets for
-/// numbers and 40 for prefixes. In a list there are 16 octets, or 32, for as many keys as there
-/// were at most; in a tree of several nodes at most 39, or 74, for each key.
+/// A count for each key. One key takes no memory besides this value, which has 32 octets for
+/// numbers and 40 for prefixes. A list has 16 octets, or 32, for each key, of as many as there were
+/// at most; a map of several nodes has at most 39, or 74, for each key.
 #[derive(Drop)]
 pub(crate) enum FewCounts<K: Ord> {
     /// No key.
     None,
-    /// One key.
+    /// One key, and its count.
     One(K, u64),
-    /// A few keys, with room for as many as there were at most.
+    /// A few keys and their counts, with capacity for as many as there were at most.
     Few(Vec<(K, u64)>),
-    /// More keys, or those that are left of more.
+    /// More keys and their counts, or what is left of more.
     Many(BTreeMap<K, u64>),
 }
 
-/// Returns the first place of the key in the list. `None` means that it has none.
+/// Returns the index of the first item of the list with this key, or `None` if there is none.
 fn find_place<K: Ord + Copy>(counts: &[(K, u64)], key: &K) -> Option<usize>
     ensures some { IfSome result (λ place. IsFirst K.cmp key.now counts.now place) }
     ensures none { IfNone result (lookup (tree.is_at (K.cmp key.now)) counts.now ≡ None) }
@@ -44,7 +45,7 @@ fn find_place<K: Ord + Copy>(counts: &[(K, u64)], key: &K) -> Option<usize>
     None
 }
 
-/// Counts one more of the key in the list. An `Err` means want of memory: nothing has changed.
+/// Adds one to the count of the key in the list. On an error, the counts are unchanged.
 fn add_to_list<K: Ord + Copy>(counts: &mut Vec<(K, u64)>, key: K) -> Result<(), AllocError>
     requires { count_in K.cmp counts.old.items key < GREATEST_COUNT }
     ensures counted { OnOk result ((k : K) → count_in K.cmp counts.new.items k
@@ -60,8 +61,8 @@ fn add_to_list<K: Ord + Copy>(counts: &mut Vec<(K, u64)>, key: K) -> Result<(), 
     Ok(())
 }
 
-/// Counts one less of the key in the list, where it is counted, and answers whether it is. The room
-/// of a key that is counted no longer stays with the list.
+/// Subtracts one from the count of the key in the list, and returns whether it was above 0. A key
+/// whose count is 0 then is removed; the list keeps its capacity.
 fn take_from_list<K: Ord + Copy + Drop>(counts: &mut Vec<(K, u64)>, key: &K) -> bool
     ensures some { result ≡ nat_lt 0 (count_in K.cmp counts.old.items key.now) }
     ensures counted { (k : K) → count_in K.cmp counts.new.items k
@@ -79,7 +80,7 @@ fn take_from_list<K: Ord + Copy + Drop>(counts: &mut Vec<(K, u64)>, key: &K) -> 
     count > 0
 }
 
-/// Returns a tree with the counts of the list. An `Err` means want of memory for it.
+/// Returns a map with the counts of the list.
 fn copy_to_tree<K: Ord + Copy + Drop>(
     alloc: Global,
     counts: &[(K, u64)],
@@ -97,7 +98,7 @@ fn copy_to_tree<K: Ord + Copy + Drop>(
     Ok(made)
 }
 
-/// Counts one more of the key in the tree. An `Err` means want of memory: nothing has changed.
+/// Adds one to the count of the key in the map. On an error, the counts are unchanged.
 fn add_to_tree<K: Ord + Copy + Drop>(
     counts: &mut BTreeMap<K, u64>,
     key: K,
@@ -113,7 +114,8 @@ fn add_to_tree<K: Ord + Copy + Drop>(
     Ok(())
 }
 
-/// Counts one less of the key in the tree, where it is counted, and answers whether it is.
+/// Subtracts one from the count of the key in the map, and returns whether it was above 0. A key
+/// whose count is 0 then is removed.
 fn take_from_tree<K: Ord + Copy + Drop>(counts: &mut BTreeMap<K, u64>, key: &K) -> bool
     ensures some { result ≡ nat_lt 0 (count_in K.cmp counts.old.entries key.now) }
     ensures counted { (k : K) → count_in K.cmp counts.new.entries k
@@ -131,8 +133,7 @@ fn take_from_tree<K: Ord + Copy + Drop>(counts: &mut BTreeMap<K, u64>, key: &K) 
     some
 }
 
-/// Returns a tree with the counts of the list, and one more of the key. An `Err` means want of
-/// memory for it.
+/// Returns a map with the counts of the list, and one more for the key.
 fn copy_and_add<K: Ord + Copy + Drop>(
     alloc: Global,
     counts: &[(K, u64)],
@@ -147,8 +148,8 @@ fn copy_and_add<K: Ord + Copy + Drop>(
     Ok(made)
 }
 
-/// Counts one more of the key in the list, or returns a tree with what is counted then, and leaves
-/// the list. An `Err` means want of memory: nothing has changed.
+/// Adds one to the count of the key in the list, and returns `None`. If the list is full, it is
+/// unchanged, and a map with the new counts is returned. On an error, the list is unchanged.
 fn add_to_few<K: Ord + Copy + Drop>(
     alloc: Global,
     counts: &mut Vec<(K, u64)>,
@@ -169,8 +170,8 @@ fn add_to_few<K: Ord + Copy + Drop>(
     Ok(Some(copy_and_add(alloc, counts, key)?))
 }
 
-/// Returns the count of the only key, and one more of the key, which may be the same. An `Err`
-/// means want of memory for a list of both.
+/// Returns the counts of the key `only`, which is counted `count` times, and of one more of `key`,
+/// which may be equal.
 fn add_to_one<K: Ord + Copy + Drop>(
     alloc: Global,
     only: K,
@@ -190,7 +191,8 @@ fn add_to_one<K: Ord + Copy + Drop>(
     Ok(FewCounts::Few(both))
 }
 
-/// Returns the count of the only key, or one less if it is this key, and whether it is.
+/// Returns the count of the key `only`, which is counted `count` times, or one less if `key` is
+/// equal, and whether one was subtracted.
 fn take_from_one<K: Ord + Copy + Drop>(only: K, count: u64, key: &K) -> (FewCounts<K>, bool)
     ensures some { result.1 ≡ nat_lt 0 (count_in K.cmp ((only, count) ∷ []) key.now) }
     ensures counted { (k : K) → count_at K.cmp result.0 k
@@ -206,14 +208,14 @@ fn take_from_one<K: Ord + Copy + Drop>(only: K, count: u64, key: &K) -> (FewCoun
 }
 
 impl<K: Ord + Copy + Drop> FewCounts<K> {
-    /// Whether no key is counted.
+    /// Returns whether no key is counted.
     pub(crate) fn is_empty(&self) -> bool
         ensures { result ≡ true → (k : K) → count_at K.cmp self.now k ≡ 0 }
     {
         matches!(self, FewCounts::None)
     }
 
-    /// Counts one more of the key. An `Err` means want of memory: nothing has changed.
+    /// Adds one to the count of the key. On an error, the counts are unchanged.
     pub(crate) fn more(&mut self, alloc: Global, key: K) -> Result<(), AllocError>
         requires { count_at K.cmp self.old key < GREATEST_COUNT }
         ensures counted { OnOk result ((k : K) → count_at K.cmp self.new k
@@ -234,7 +236,7 @@ impl<K: Ord + Copy + Drop> FewCounts<K> {
         Ok(())
     }
 
-    /// Counts one less of the key, where it is counted, and answers whether it is.
+    /// Subtracts one from the count of the key, and returns whether it was above 0.
     pub(crate) fn less(&mut self, key: &K) -> bool
         ensures some { result ≡ nat_lt 0 (count_at K.cmp self.old key.now) }
         ensures counted { (k : K) → count_at K.cmp self.new k

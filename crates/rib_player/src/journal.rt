@@ -1,4 +1,6 @@
-//! The steps that are kept, so that they can be undone and redone.
+//! The journal of a player: the steps that are kept, so that they can be undone and redone.
+//! `player.rt` applies, undoes, redoes and drops steps by its functions. Read [`Journal`] first,
+//! then `entry.rt` for the entries of a step, and [`put_entries`].
 
 ghost use Rattle.std.specs.Prelude.{◌≡◌, ◌+◌, ◌<◌, ◌≤◌, ◌||◌, true, false, is_some, length, take, IfSome, OnOk, OnErr};
 ghost use Rattle.std.specs.List.{AllByRecursion, sum_by};
@@ -25,18 +27,19 @@ use std::alloc::{AllocError, Global};
 use std::collections::VecDeque;
 use std::rc::Rc;
 
-/// The steps that are kept, and a cursor between them.
+/// The kept steps, and the cursor between them.
 #[derive(Drop)]
 pub(crate) struct Journal {
+    /// The kept steps, the oldest first.
     pub(crate) steps: VecDeque<Step>,
-    /// How many of them stand before the cursor.
+    /// The number of kept steps before the cursor.
     pub(crate) cursor: usize,
-    /// How many were forgotten.
+    /// The number of steps that were forgotten.
     pub(crate) floor: u64,
 }
 
-/// Goes from one side of a step to the other. The routes of the table and of the entries change
-/// places.
+/// Undoes a step that is applied, or redoes one that is undone: swaps the routes of the entries and
+/// the table.
 pub(crate) fn cross<S: PrefixStore<Rc<Route>>>(table: &mut Table<S>, entries: &mut [Entry])
     requires { IsKept table.old.keys (sides_of entries.old) }
     ensures keys { table.new.keys ≡ table.old.keys }
@@ -52,8 +55,9 @@ pub(crate) fn cross<S: PrefixStore<Rc<Route>>>(table: &mut Table<S>, entries: &m
     table.note_passed(passed);
 }
 
-/// Goes from one side of a step to the other: that which stands at the index. Of those that are reached
-/// together it is crossed first if it stands at this place among them.
+/// Undoes or redoes the step at the index, and prefetches what the steps around it need. `first` is
+/// the index, among the steps that are prefetched together, of the one that comes first in this
+/// direction.
 pub(crate) fn cross_step<S: PrefixStore<Rc<Route>>>(
     table: &mut Table<S>,
     steps: &mut VecDeque<Step>,
@@ -71,9 +75,8 @@ pub(crate) fn cross_step<S: PrefixStore<Rc<Route>>>(
     cross(table, step.entries.as_mut_slice());
 }
 
-/// Goes from one side of a new step to the other that clears all routes of a peer, and does nothing
-/// else: the table's routes become those of the entries. So it passes by each node of the peer's store
-/// once. Refused, the table is as it was.
+/// Applies a new step that clears all routes of a peer, and does nothing else: moves the routes
+/// from the table to the entries. On an error, the table is unchanged.
 pub(crate) fn take_peer_routes<S: PrefixStore<Rc<Route>>>(
     alloc: Global,
     table: &mut Table<S>,
@@ -87,6 +90,7 @@ pub(crate) fn take_peer_routes<S: PrefixStore<Rc<Route>>>(
         gives_up_by Last (marks_of entries.new) q ≡ false) }
     ensures kept { OnErr result (table.new.routes ≡ table.old.routes) }
 {
+    // So each node of the peer's store is passed once.
     let mut routes = Vec::with_capacity(alloc, entries.len())?;
     table.take_routes(peer, &mut routes);
     let mut index = 0;
@@ -97,8 +101,9 @@ pub(crate) fn take_peer_routes<S: PrefixStore<Rc<Route>>>(
     Ok(())
 }
 
-/// Goes from one side of a new step to the other, with the claims that it makes, or at once where it
-/// clears the routes of a peer alone. Refused, it takes back what it did.
+/// Applies a new step to the table, and adds the claims that it makes. `lost` is the peer if all
+/// that the step does is to clear its routes. On an error, table and claims are unchanged; the
+/// entries are unspecified.
 pub(crate) fn put_entries<S: PrefixStore<Rc<Route>>>(
     alloc: Global,
     table: &mut Table<S>,
@@ -143,8 +148,9 @@ pub(crate) fn put_entries<S: PrefixStore<Rc<Route>>>(
     Ok(())
 }
 
-/// Lets go of a step, entry by entry, since entries may share a route.
+/// Drops a step, and notes in `known` that its owners of routes go.
 pub(crate) fn let_go_of(known: &mut KnownRoutes, step: Step) {
+    // It does so entry by entry, since entries may share a route.
     'entries: for entry in step.entries {
         if let Some(route) = entry.route() {
             known.note_gone(route);
@@ -152,7 +158,8 @@ pub(crate) fn let_go_of(known: &mut KnownRoutes, step: Step) {
     }
 }
 
-/// Makes room for a step more. What is too much for the steps that are kept is given back.
+/// Reserves capacity for one more step, after shrinking a list with far more capacity than steps.
+/// On an error, the steps are unchanged.
 pub(crate) fn make_room(steps: &mut VecDeque<Step>) -> Result<(), AllocError>
     ensures room { OnOk result (deque_len steps.new < deque_capacity steps.new) }
     ensures steps { steps.new.items ≡ steps.old.items }
@@ -164,7 +171,8 @@ pub(crate) fn make_room(steps: &mut VecDeque<Step>) -> Result<(), AllocError>
     steps.reserve(1)
 }
 
-/// Drops the steps behind the cursor, with their claims.
+/// Drops the steps after the cursor, from the last on, and gives up their claims. `cursor` is the
+/// number of steps before it.
 pub(crate) fn drop_ahead<S: PrefixStore<Rc<Route>>>(
     steps: &mut VecDeque<Step>,
     cursor: usize,

@@ -1,4 +1,6 @@
-//! Laws of the player's definitions.
+//! Theorems about the definitions that the contracts of the player and its table cite. The
+//! functions have no code and nothing calls them: what they state is proved as the crate is
+//! checked. `docs/proved.md` names them.
 #![tactic(auto, using(crate::proofs::LawRules::law_lemmas))]
 
 ghost use Rattle.std.specs.Prelude.{◌≡◌, ℕ, ◌≤◌, ◌<◌, ◌+◌, ◌-◌, ◌++◌, ◌∷◌, ◌||◌, [], List, is_some, length, take, slice_get, nat_lt, min, Option, Some, None};
@@ -22,18 +24,20 @@ ghost use Rattle.rib_player.specs.Timeline.{Timeline, end_of, table_at, current,
 ghost use Rattle.rib_player.specs.Calls.{Call, StandsFor, names_at, undone, redone, after_call, after_calls, history_after, history_after_calls};
 ghost use Rattle.rib_player.specs.Claims.{one_if, claims, first_clears, last_brings, event_brings, without_last};
 
-/// The number that the definitions name: the state Established (RFC 6396, section 4.4.1).
+/// Proves the value of the number that the definitions name: the session state Established (RFC
+/// 6396, section 4.4.1).
 pub fn state_numbers()
     ensures established { ESTABLISHED ≡ 6 }
 {}
 
-/// The order of pairs is total, and only equal ones tie.
+/// Proves that the order of pairs is total, and that only equal pairs compare equal.
 pub fn pair_order()
     ensures total { IsTotalOrder pair_cmp }
     ensures ties { IsAntisymmetric pair_cmp }
 {}
 
-/// Tables have what their definitions say, at each pair.
+/// Proves what is at each pair of the table of a history and of a table after an event, and which
+/// pairs an event names.
 pub fn routes_at_pairs()
     ensures table { (history : List Event) (pair : Pair) →
         finite.get (table history) pair ≡ route pair history }
@@ -45,8 +49,8 @@ pub fn routes_at_pairs()
         ≡ is_named (finite.get routes pair) (effect pair event) }
 {}
 
-/// The routes of a peer are those at its pairs, and the peers that have a route are in order, each
-/// of them once.
+/// Proves that the routes of a peer are those at its pairs, and that the list of peers that have a
+/// route has each of them once, in order.
 pub fn routes_of_peers()
     ensures routes { (routes : Routes) (peer : Peer) (prefix : Network) →
         finite.get (peer_routes routes peer) prefix ≡ finite.get routes (pair_of peer prefix) }
@@ -56,8 +60,8 @@ pub fn routes_of_peers()
     ensures order { (routes : Routes) → IsStrictlySortedBy peer_cmp (routed_peers routes) }
 {}
 
-/// From the least on, one after the other, come all peers that have a route, in order, and then
-/// none.
+/// Proves that a walk from the least peer that has a route to the next greater one, and so on,
+/// meets all peers that have a route, in order, and then ends.
 pub fn walk_over_peers()
     ensures all { (routes : Routes) →
         routed_above routes None ≡ routed_peers routes }
@@ -69,18 +73,17 @@ pub fn walk_over_peers()
         → routed_above routes low ≡ [] }
 {}
 
-/// The wanted pairs of a player, which are the keys of its table, are those that have a route at
-/// the cursor or that a kept step names, before it or after it.
+/// Proves which pairs are wanted, and so are the keys of a player's table: those that have a route
+/// at the cursor, or that a kept step names, before or after the cursor.
 pub fn wanted_pairs()
     ensures { (t : Timeline) (pair : Pair) → set.contains (wanted t) pair
         ≡ (is_some (finite.get (current t) pair)
         || list_any (λ step. set.contains step pair) t.steps) }
 {}
 
-/// A pair is claimed once if it has a route at the floor, and once by each kept step that brings it,
-/// before which it has none and behind which it has one. The wanted pairs are those with a claim. A
-/// step that is forgotten gives up one for each pair that it clears, one that is dropped one for each
-/// that it brings; and one that is played adds one for each that it brings.
+/// Proves that the wanted pairs are those with a claim (`claims.rt`), and how these change:
+/// forgetting the first step takes one from each pair that it clears, dropping the last step takes
+/// one from each pair that it brings, and playing an event adds one for each pair that it brings.
 pub fn claimed_pairs()
     ensures wanted { (t : Timeline) (history : List Event) (pair : Pair) → StandsFor t history →
         set.contains (wanted t) pair ≡ nat_lt 0 (claims t pair) }
@@ -95,14 +98,14 @@ pub fn claimed_pairs()
         claims (after_play t e) pair ≡ claims t pair + one_if (event_brings t e pair) }
 {}
 
-/// The table of a history that goes on by an event is that event applied to its table.
+/// Proves that the table of a history with one event more is the history's table after that event.
 pub fn one_event_more()
     ensures { (history : List Event) (event : Event) →
         table (history ++ event ∷ []) ≡ table_after (table history) event }
 {}
 
-/// A player that stands for a history has, at each position that it keeps, the table of the
-/// events before it, and each step that it keeps names what the event there does.
+/// Proves that a player that stands for a history has, at each kept position, the table of the
+/// events before it, and that each kept step names the pairs of its event.
 pub fn tables_by_position()
     ensures tables { (t : Timeline) (history : List Event) → StandsFor t history →
         (i : ℕ) → t.floor ≤ i → i ≤ length history → table_at t i ≡ table (take i history) }
@@ -115,14 +118,14 @@ pub fn tables_by_position()
         (pair : Pair) → finite.get (current t) pair ≡ route pair (take t.cursor history) }
 {}
 
-/// A player that stands for a history stands for the stated one after each call.
+/// Proves which history a player stands for after a call, where it stood for one before.
 pub fn history_after_one_call()
     ensures { (t : Timeline) (history : List Event) (call : Call) → StandsFor t history →
         StandsFor (after_call t call) (history_after t.cursor history call) }
 {}
 
-/// After any calls of a new player, refused ones among them, it stands for the stated history;
-/// and so does any player that stood for one.
+/// Proves which history a new player, or one that stood for a history, stands for after a list of
+/// calls, failed ones among them.
 pub fn history_after_all_calls()
     ensures new { (calls : List Call) →
         StandsFor (after_calls fresh calls) (history_after_calls fresh [] calls) }
@@ -130,8 +133,8 @@ pub fn history_after_all_calls()
         StandsFor (after_calls t calls) (history_after_calls t history calls) }
 {}
 
-/// Undoing a step that was played gives back the table before it, and redoing one that was
-/// undone gives back the player.
+/// Proves that undoing a played step restores the table before it, and that redoing an undone one
+/// restores the player.
 pub fn one_step_back()
     ensures undo { (t : Timeline) (history : List Event) (event : Event) → StandsFor t history →
         current (after_undo (after_play t event)) ≡ current t }
@@ -139,8 +142,9 @@ pub fn one_step_back()
         t.floor < t.cursor → after_redo (after_undo t) ≡ t }
 {}
 
-/// Forgetting keeps the table at each position that is left, and so that at the cursor; it lets go
-/// of no step where none is too many; and forgetting twice is forgetting to the smaller number.
+/// Proves that forgetting keeps the table at each position that is left, and at the cursor; that it
+/// changes nothing if no step is to go; and that forgetting twice is forgetting to the smaller
+/// number.
 pub fn forgotten_steps()
     ensures tables { (t : Timeline) (keep : ℕ) → (i : ℕ) → (after_forget t keep).floor ≤ i →
         table_at (after_forget t keep) i ≡ table_at t i }
@@ -151,8 +155,8 @@ pub fn forgotten_steps()
         after_forget (after_forget t keep) less ≡ after_forget t (min keep less) }
 {}
 
-/// Events that were played and undone leave the first table, and redone they leave that of the
-/// history with these events.
+/// Proves that playing events and undoing them leaves the table as it was, and that redoing them
+/// leads to the table of the history with these events.
 pub fn steps_back_and_forth()
     ensures back { (t : Timeline) (history events : List Event) → StandsFor t history →
         current (after_calls t (undone events)) ≡ current t }

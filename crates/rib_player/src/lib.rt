@@ -1,4 +1,6 @@
-//! A table of routes for each peer of a collector, played forwards and backwards, event by event.
+//! A table of routes for each peer of a collector, on which events are played, undone and redone. A
+//! [`Player`] has the table and the steps, and a [`Table`] answers look-ups; `bgpdump_tool` runs
+//! scripts by them. Read `player.rt` first, then `journal.rt`, `steps.rt` and `claims.rt`.
 #![tactic(auto)]
 
 mod changes;

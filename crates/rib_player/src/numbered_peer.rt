@@ -1,15 +1,17 @@
-//! A peer as entries share it.
+//! A peer with the number of its store, which the entries of the peer share. By the number,
+//! `stores.rt` finds the store without a search.
 
 ghost use Rattle.std.specs.Prelude.{◌≡◌};
 
 use mrt_events::Peer;
 use std::marker::Model;
 
-/// No store has this number, above which there is none.
+/// The number of a peer that has no store. No store has it, and no number is above it.
 pub(crate) const NO_NUMBER: usize = usize::MAX;
 
-/// A peer, and the number that its store had when this was made. The store may have gone since, or
-/// have another number: who goes by it looks whose it is.
+/// A peer, and the number that its store had when this value was made. The store may have gone
+/// since, or have another number, so whoever uses the number compares the peer that has it now. In
+/// contracts it is the peer.
 #[derive(Drop)]
 pub(crate) struct NumberedPeer {
     peer: Peer,
@@ -25,14 +27,14 @@ impl Model for NumberedPeer {
 }
 
 impl NumberedPeer {
-    /// The peer, whose store has this number.
+    /// Returns the peer with this number of its store.
     pub(crate) fn new(peer: Peer, number: usize) -> NumberedPeer
         ensures { result ≡ peer }
     {
         NumberedPeer { peer, number }
     }
 
-    /// The peer.
+    /// Returns the peer.
     #[inline]
     pub(crate) fn peer(&self) -> &Peer
         ensures { result.now ≡ self.now }
@@ -40,7 +42,7 @@ impl NumberedPeer {
         &self.peer
     }
 
-    /// The number, which may be another's by now.
+    /// Returns the number, which another peer's store may have by now.
     #[inline]
     pub(crate) fn number(&self) -> usize {
         self.number

@@ -1,4 +1,6 @@
-//! A routing table per peer that is played forwards and backwards, event by event.
+//! The player: a table of routes for each peer, on which events are played one step each, and from
+//! which the steps are undone and redone. `bgpdump_tool` runs the commands of a script on it. Read
+//! [`Player`] and [`Player::play`] first, then `journal.rt`.
 
 ghost use Rattle.std.specs.Prelude.{◌≡◌, ◌<◌, ◌↔◌, IfOk, OnOk, OnErr, IsOk, sum_by};
 ghost use Rattle.std.specs.FinSet as set;
@@ -22,34 +24,34 @@ use std::marker::Model;
 use std::rc::Rc;
 use thiserror::Error;
 
-/// Why an event can't be played.
+/// The error of [`Player::play`].
 #[derive(Clone, Copy, Debug, PartialEq, Eq, Error)]
 pub enum PlayFault {
-    /// Memory was refused. The player is as it was, the steps ahead included.
+    /// Memory allocation failed. The player is unchanged, including the steps after the cursor.
     #[error("out of memory")]
     Memory,
 }
 
-/// No step stands there.
+/// The error of [`Player::undo`] and [`Player::redo`]: there is no step on that side of the cursor.
 #[derive(Clone, Copy, Debug, PartialEq, Eq)]
 pub struct Nothing;
 
-/// A table of routes that events are played on, one step each, and a cursor that goes back and
-/// forth over these steps. Between the calls the table is that of the steps before the cursor. The
-/// oldest steps can be forgotten: what they did stays, and their memory is given back.
+/// A table of routes on which events are played, one step each, and a cursor that moves back and
+/// forth over these steps. Between the calls, the table is the one after the steps before the
+/// cursor. The oldest steps can be forgotten: what they did stays, and their memory is freed.
 #[derive(Drop)]
 pub struct Player<S: PrefixStore<Rc<Route>>> {
     alloc: Global,
     table: Table<S>,
-    /// The steps that are kept, and the cursor.
+    /// The kept steps, and the cursor.
     journal: Journal,
-    /// What pairs are claimed besides the table's keys.
+    /// The claims of pairs, besides those that the table's keys stand for.
     claims: Claims,
-    /// The routes of steps, so that equal ones are one.
+    /// The routes that were played, by which equal ones become one.
     known: KnownRoutes,
-    /// The peers that the record names which is played.
+    /// The numbers of the peers of a table's record that is being played.
     marks: Marks,
-    /// Where steps were reached before they were crossed.
+    /// The groups of steps that were prefetched last.
     reached: Reached,
 }
 
@@ -76,7 +78,7 @@ impl<S: PrefixStore<Rc<Route>>> Model for Player<S> {
 }
 
 impl<S: PrefixStore<Rc<Route>>> Player<S> {
-    /// An empty table, and no step.
+    /// Returns a player with an empty table and no steps.
     pub fn new(alloc: Global) -> Self
         ensures { result ≡ fresh }
     {
@@ -98,7 +100,8 @@ impl<S: PrefixStore<Rc<Route>>> Player<S> {
         }
     }
 
-    /// How many steps stand before the cursor, forgotten ones too.
+    /// Returns the position of the cursor: the number of steps before it, including the forgotten
+    /// ones.
     pub fn at(&self) -> u64
         ensures cursor { result ≡ self.now.cursor }
         ensures well_formed { IsWellFormed self.now }
@@ -106,21 +109,23 @@ impl<S: PrefixStore<Rc<Route>>> Player<S> {
         self.journal.floor + self.journal.cursor as u64
     }
 
-    /// How many steps were forgotten: the lowest position that it can go back to.
+    /// Returns the lowest position that the cursor can go back to: the number of steps that were
+    /// forgotten.
     pub fn floor(&self) -> u64
         ensures { result ≡ self.now.floor }
     {
         self.journal.floor
     }
 
-    /// How many steps stand after the cursor.
+    /// Returns the number of steps after the cursor.
     pub fn ahead(&self) -> u64
         ensures { result ≡ ahead_of self.now }
     {
         (self.journal.steps.len() - self.journal.cursor) as u64
     }
 
-    /// How many pairs of a peer and a prefix the kept steps name, in all; `u64::MAX` where more.
+    /// Returns the number of pairs of a peer and a prefix that each kept step names, added up, or
+    /// `u64::MAX` if it is larger.
     pub fn named(&self) -> u64
         ensures { result ≡ counted (sum_by set.len self.now.steps) }
     {
@@ -132,7 +137,7 @@ impl<S: PrefixStore<Rc<Route>>> Player<S> {
         total
     }
 
-    /// The table at the cursor.
+    /// Returns the table at the cursor.
     pub fn table(&self) -> &Table<S>
         ensures keys { result.now.keys ≡ wanted self.now }
         ensures routes { result.now.routes ≡ current self.now }
@@ -140,7 +145,8 @@ impl<S: PrefixStore<Rc<Route>>> Player<S> {
         &self.table
     }
 
-    /// Plays the event as the next step, and answers how many steps ahead it dropped.
+    /// Drops the steps after the cursor, plays the event as the next step, and returns the number
+    /// of steps dropped. The cursor must be below `u64::MAX`. On an error, the player is unchanged.
     pub fn play(&mut self, event: &Event) -> Result<u64, PlayFault>
         requires { self.old.cursor < GREATEST_COUNT }
         ensures after_play { OnOk result (self.new ≡ after_play self.old event.now) }
@@ -156,7 +162,8 @@ impl<S: PrefixStore<Rc<Route>>> Player<S> {
         played
     }
 
-    /// Undoes the step before the cursor. It takes no memory.
+    /// Undoes the step before the cursor, without allocating memory. Fails, and changes nothing, if
+    /// no kept step is there.
     pub fn undo(&mut self) -> Result<(), Nothing>
         ensures after_undo { self.new ≡ after_undo self.old }
         ensures can { IsOk result ↔ (self.old.floor < self.old.cursor) }
@@ -175,7 +182,8 @@ impl<S: PrefixStore<Rc<Route>>> Player<S> {
         Ok(())
     }
 
-    /// Redoes the step after the cursor. It takes no memory.
+    /// Redoes the step after the cursor, without allocating memory. Fails, and changes nothing, if
+    /// no step is there.
     pub fn redo(&mut self) -> Result<(), Nothing>
         ensures after_redo { self.new ≡ after_redo self.old }
         ensures can { IsOk result ↔ (self.old.cursor < end_of self.old) }
@@ -196,7 +204,8 @@ impl<S: PrefixStore<Rc<Route>>> Player<S> {
 }
 
 impl<S: PrefixStore<Rc<Route>>> Player<S> {
-    /// Plays the event as the next step. What a refused one noted isn't released.
+    /// Plays the event as the next step, and returns the number of steps that were dropped. On an
+    /// error, the player is unchanged, and the caller has to call [`KnownRoutes::note_unused`].
     fn play_step(&mut self, event: &Event) -> Result<u64, PlayFault>
         requires { self.old.cursor < GREATEST_COUNT }
         ensures after_play { OnOk result (self.new ≡ after_play self.old event.now) }
@@ -232,7 +241,7 @@ impl<S: PrefixStore<Rc<Route>>> Player<S> {
         Ok(dropped as u64)
     }
 
-    /// Forgets the first of the kept steps.
+    /// Forgets the first of the kept steps. There must be one before the cursor.
     fn forget_first(&mut self)
         requires { self.old.floor < self.old.cursor }
         ensures { self.new ≡ without_first 1 self.old }
@@ -245,16 +254,17 @@ impl<S: PrefixStore<Rc<Route>>> Player<S> {
         }
     }
 
-    /// Gives back the routes that nobody else holds any more, once they take much: behind a play, when
-    /// its event is gone, so that they don't stay until the next one is played. It takes no memory.
+    /// Drops the routes that nothing but the table of known routes owns, if they take much memory.
+    /// Call it once the event of a play was dropped, or these routes stay until the next play or
+    /// [`Player::forget`].
     pub fn give_back_routes(&mut self)
         ensures { self.new ≡ self.old }
     {
         self.known.let_go();
     }
 
-    /// Forgets the oldest steps, so that at most so many are kept before the cursor, and answers
-    /// how many it forgot. It takes no memory, and the steps ahead stay.
+    /// Forgets the oldest steps, so that at most `keep` are kept before the cursor, and returns the
+    /// number of steps forgotten. The steps after the cursor stay.
     pub fn forget(&mut self, keep: u64) -> u64
         ensures after_forget { self.new ≡ after_forget self.old keep }
         ensures forgotten { result ≡ forgettable self.old keep }

@@ -1,9 +1,10 @@
-//! Has the processor fetch what the entries of steps need, before their routes change places with the
-//! table's, so that it waits for the nodes of several pairs at once. That changes nothing.
+//! Prefetches of the nodes that the entries of steps need, before their routes are swapped with the
+//! table's, so that the processor waits for the nodes of several pairs at once. They change
+//! nothing. `journal.rt` calls [`reach_entries`] and [`reach_steps`].
 //!
-//! Pairs of a step are reached where they are of one peer, as in a message of updates, and its store
-//! has many keys. A record of a table names one prefix of many peers, and needs nodes that the record
-//! before mostly needed too; the nodes of few keys are in the cache anyway.
+//! The nodes for the entries of a step are prefetched if these are of one peer, as in a message,
+//! and its store has many keys. A record of a table names one prefix of many peers, and needs nodes
+//! that the record before mostly needed too; the nodes of few keys are in the cache anyway.
 
 ghost use Rattle.std.specs.Prelude.{◌<◌, ◌≤◌, length};
 
@@ -14,23 +15,26 @@ use prefix_store::{PLACES_AT_ONCE, Places, PrefixStore};
 use std::collections::VecDeque;
 use std::rc::Rc;
 
-/// How many entries are reached at once. One more is reached with those behind it.
+/// The number of entries whose nodes are prefetched at once. One more is left to the next ones.
 const ENTRIES_AT_ONCE: usize = PLACES_AT_ONCE as usize;
 
-/// How many steps of fewer entries are reached together. One more is reached with those behind it.
+/// The number of steps, of fewer entries each, whose nodes are prefetched together. One more is
+/// left to the next ones.
 pub(crate) const STEPS_TOGETHER: usize = 8;
 
-/// How many keys a store has at least whose nodes are reached: with these and more they are, with
-/// one key less they aren't.
+/// The smallest number of keys of a store whose nodes are prefetched. With one key less they
+/// aren't.
 const LEAST_KEYS: u64 = 4096;
 
-/// Reaches the places that were added since. Answers how much was passed.
+/// Prefetches the nodes for the prefixes in `places`, empties it, and returns the number of nodes
+/// passed.
 fn reach_places<S: PrefixStore<Rc<Route>>>(places: &mut Places<'_, S>) -> u64 {
     let added = places.take_all();
     S::reach(&added)
 }
 
-/// Adds the prefixes of entries, and reaches each eight. Answers how much was passed.
+/// Adds the prefixes of entries to `places`, prefetches their nodes each time there are eight, and
+/// returns the number of nodes passed.
 fn add_entries<'a, S: PrefixStore<Rc<Route>>>(
     places: &mut Places<'a, S>,
     store: &'a S,
@@ -45,12 +49,13 @@ fn add_entries<'a, S: PrefixStore<Rc<Route>>>(
     passed
 }
 
-/// The store of the entries' peer, where it has many keys. They are of one, as those of a message, where
-/// the first and the last are; where others stand between, too much is reached.
+/// Returns the store of the entries' peer, if the first and the last of them are of one peer, and
+/// its store has many keys.
 fn only_store<'a, S: PrefixStore<Rc<Route>>>(
     table: &'a Table<S>,
     entries: &[Entry],
 ) -> Option<&'a S> {
+    // Entries of a message are of one peer. Where others are between, too much is prefetched.
     let peer = entries.first()?.shared_peer();
     if entries.last()?.peer() != peer.peer() {
         return None;
@@ -62,8 +67,9 @@ fn only_store<'a, S: PrefixStore<Rc<Route>>>(
     Some(store)
 }
 
-/// Reaches the next entries of a step from the index on, where that is a multiple of as many as are
-/// reached at once, and the step has as many. Answers how much was passed.
+/// Prefetches the nodes for the next entries of a step from the index on, and returns the number of
+/// nodes passed. Does nothing unless the index is a multiple of [`ENTRIES_AT_ONCE`], and the step
+/// has at least so many entries.
 #[inline]
 pub(crate) fn reach_entries<S: PrefixStore<Rc<Route>>>(
     table: &Table<S>,
@@ -84,17 +90,21 @@ pub(crate) fn reach_entries<S: PrefixStore<Rc<Route>>>(
     passed.wrapping_add(reach_places(&mut places))
 }
 
-/// From which steps on some were reached together last, and the time before. Who goes back and forth
-/// over a place doesn't reach them each time.
+/// The two groups of steps whose nodes were prefetched last, each as the index of its first step,
+/// or `usize::MAX`.
 #[derive(Clone, Copy)]
 pub(crate) struct Reached {
+    // So going back and forth over a position doesn't prefetch their nodes each time.
+    /// The group of the last time.
     pub(crate) last: usize,
+    /// The group of the time before.
     pub(crate) before: usize,
 }
 
-/// Reaches the steps that are reached together with the next one, where that is crossed first of them,
-/// as the one that stands at this place, names a pair, and they weren't reached just now. Those of many
-/// entries are reached as they are crossed. Answers how much was passed.
+/// Prefetches the nodes for the group of [`STEPS_TOGETHER`] steps that has the step `next`, and
+/// returns the number of nodes passed. Does nothing unless `first` is the index of that step in its
+/// group, the step names a pair, and the group isn't in `reached`. Steps of many entries are left
+/// to [`reach_entries`].
 pub(crate) fn reach_steps<S: PrefixStore<Rc<Route>>>(
     table: &Table<S>,
     steps: &VecDeque<Step>,

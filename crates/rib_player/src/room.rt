@@ -1,16 +1,18 @@
-//! Room of lists, of which some is given back where it is far too much for what stands there.
+//! Bounds of the capacity of lists, which are shrunk where it is far more than their length. A play
+//! shrinks so the lists of steps, of stores and of marks.
 
 ghost use Rattle.std.specs.Prelude.{◌≡◌};
 
-/// How many times as much as stands there, there may be room for. Where there is room for as many
-/// times one element more, the list is made shorter.
+/// The largest factor by which the capacity of a list may exceed its length. A list whose capacity
+/// divided by it, rounded down, is above the length is shrunk.
 pub(crate) const MOST_TIMES: usize = 4;
 
-/// For how many times this there may be room, however little stands there. A list of one element
-/// more may have room for as many times of its own.
+/// The number that is taken for the length of shorter lists. A list of one element more may have
+/// capacity for [`MOST_TIMES`] times its own length.
 pub(crate) const LEAST_ROOM: usize = 1024;
 
-/// Gives back what is too much room for a list, unless memory is refused for the smaller one.
+/// Shrinks a list that has far more capacity than elements, unless memory allocation for the
+/// smaller block fails.
 pub(crate) fn give_back_room<T>(list: &mut Vec<T>)
     ensures { list.new.items ≡ list.old.items }
 {

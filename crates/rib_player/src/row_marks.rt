@@ -1,4 +1,6 @@
-//! Marks of numbers that were seen in a row of peers, so that one that comes again is known.
+//! Marks of the numbers of peers that were seen in a row of entries, as of a table's record, so
+//! that a number that comes again is found. `stores.rt` sees by them whether the entries are of
+//! different peers.
 
 ghost use Rattle.std.specs.Prelude.{◌≡◌, ℕ, true, false, IsTrue, IfOk};
 ghost use Rattle.rib_player.specs.Numbered.{is_marked};
@@ -6,17 +8,17 @@ ghost use Rattle.rib_player.specs.Numbered.{is_marked};
 use crate::room::give_back_room;
 use std::alloc::{AllocError, Global};
 
-/// Which numbers were seen in a row of peers.
+/// A set of the numbers that were seen in the current row.
 #[derive(Drop)]
 pub(crate) struct Marks {
-    /// The row in which each number was seen last.
+    /// The last row in which each number was seen.
     pub(crate) rows: Vec<u64>,
-    /// The row that is looked at.
+    /// The current row.
     pub(crate) row: u64,
 }
 
 impl Marks {
-    /// Returns none.
+    /// Returns an empty set, without allocating memory.
     pub(crate) fn new(alloc: Global) -> Marks {
         Marks {
             rows: Vec::new(alloc),
@@ -24,14 +26,16 @@ impl Marks {
         }
     }
 
-    /// Begins another row, where so many peers have numbers.
+    /// Begins a new row, in which no number was seen, of peers whose numbers are below `count`. The
+    /// list is shrunk if it has far more capacity than that (`room.rt`).
     pub(crate) fn begin(&mut self, count: usize) {
         self.row = self.row.wrapping_add(1);
         self.rows.truncate(count);
         give_back_room(&mut self.rows);
     }
 
-    /// Whether the number is known to be new in this row. It is marked then.
+    /// Marks the number as seen in this row, and returns `true` if it wasn't seen before.
+    /// `usize::MAX` isn't marked, and `false` is returned for it.
     pub(crate) fn is_new(&mut self, number: usize) -> Result<bool, AllocError>
         ensures new { IfOk result (λ is_new. IsTrue is_new → is_marked self.old number ≡ false) }
         ensures marked { IfOk result (λ is_new. IsTrue is_new →

@@ -1,4 +1,5 @@
-//! The entries of a step: each pair once, and those of a lost session from its store.
+//! The entries of a step: one for each pair that has a route before or after the event. `player.rt`
+//! calls [`step_for`]; read that first, then `changes.rt`.
 
 ghost use Rattle.std.specs.Prelude.{◌≡◌, ◌++◌, IsTrue, IfOk, OnOk, IfSome, None, false, map};
 ghost use Rattle.std.specs.List.{AllByRecursion};
@@ -21,11 +22,11 @@ use prefix_store::PrefixStore;
 use std::alloc::{AllocError, Global};
 use std::rc::Rc;
 
-/// How many routes of a lost session are asked for at once. One more is asked for with the next
-/// ones.
+/// The number of routes of a lost session that are read from the store at once. One more is read
+/// with the next ones.
 const MANY: usize = 64;
 
-/// Appends the entries of the pairs of a peer that have these routes, and none then.
+/// Appends an entry, with no route after the step, for each prefix of `found` and the peer.
 fn add_cleared(
     alloc: Global,
     peer: &Rc<NumberedPeer>,
@@ -41,7 +42,8 @@ fn add_cleared(
     Ok(())
 }
 
-/// The entries of all pairs of a peer that have a route, and none then: many at a time.
+/// Returns an entry, with no route after the step, for each prefix to which the peer has a route,
+/// in order. The routes are read from the store, [`MANY`] at a time.
 fn lost_entries<S: PrefixStore<Rc<Route>>>(
     alloc: Global,
     peer: &Peer,
@@ -68,8 +70,8 @@ fn lost_entries<S: PrefixStore<Rc<Route>>>(
     }
 }
 
-/// The entries of the pairs that the event may name, with the route that they have then. Of those
-/// of a pair the first counts.
+/// Returns the entries of the pairs that the event may name, with the route after it: those of the
+/// changes, then those of lost peers. Of the entries of a pair, the first counts.
 fn entries_then<S: PrefixStore<Rc<Route>>>(
     changes: Changes,
     table: &Table<S>,
@@ -92,10 +94,10 @@ fn entries_then<S: PrefixStore<Rc<Route>>>(
     Ok(entries)
 }
 
-/// How many entries are compared with each other at most. With one more they are sorted.
+/// The number of entries that are compared with each other at most. With one more they are sorted.
 const FEW: usize = 8;
 
-/// Whether one of these is of the entry's pair.
+/// Returns whether one of the entries is of the pair of `entry`.
 fn has_pair(entries: &[Entry], entry: &Entry) -> bool
     ensures { result ≡ false → AllByRecursion
         (λ side. eq_by_cmp pair_cmp side.0 entry.now.pair ≡ false) (sides_of entries.now) }
@@ -108,7 +110,7 @@ fn has_pair(entries: &[Entry], entry: &Entry) -> bool
     false
 }
 
-/// Whether no two of these are of one pair.
+/// Returns whether all entries are of different pairs.
 fn are_different(entries: &[Entry]) -> bool
     ensures { IsTrue result → AreDistinct (sides_of entries.now) }
 {
@@ -120,11 +122,12 @@ fn are_different(entries: &[Entry]) -> bool
     true
 }
 
-/// Whether each of these is of the peer of the one before it, and of a prefix below that one's, as
-/// those of a message are whose prefixes stand in order, since the last is noted first.
+/// Returns whether all entries are of one peer, each of a lesser prefix than the one before.
 fn are_falling(entries: &[Entry]) -> bool
     ensures { IsTrue result → AreDistinct (sides_of entries.now) }
 {
+    // The entries of a message whose prefixes are in order are so, since the last item is noted
+    // first.
     let Some((first, rest)) = entries.split_first() else {
         return true;
     };
@@ -138,9 +141,7 @@ fn are_falling(entries: &[Entry]) -> bool
     true
 }
 
-/// The same, one for each pair. As the entries of a table's record have it, mostly no peer stands
-/// there twice, and as those of a message have it, where the first and the last are of one peer, no
-/// prefix.
+/// Returns the first entry of each pair, in unspecified order.
 fn each_once<S: PrefixStore<Rc<Route>>>(
     entries: Vec<Entry>,
     table: &Table<S>,
@@ -150,6 +151,8 @@ fn each_once<S: PrefixStore<Rc<Route>>>(
     ensures found { IfOk result (λ once. (q : Pair) →
         found (sides_of once.items) q ≡ found (sides_of entries.items) q) }
 {
+    // They are sorted where two may be of one pair. In a table's record mostly no peer comes twice;
+    // in a message, whose first and last entry are of one peer, mostly no prefix does.
     let is_known = match (entries.first(), entries.last()) {
         (Some(first), Some(last)) if entries.len() == 1 || same_peer(first.peer(), last.peer()) => {
             are_falling(&entries)
@@ -165,9 +168,9 @@ fn each_once<S: PrefixStore<Rc<Route>>>(
     Ok(ordered)
 }
 
-/// The event's step over a table, which names pairs that have a route before or then, and the peer
-/// whose routes it clears, where that is all that it does. The entries of such a step, which may be
-/// many, are walked from the peer's store, and stand nowhere else.
+/// Returns the entries of the event's step on the table: one for each pair that it sets or clears
+/// and that has a route before or after it. Returns a peer if clearing its routes is all that the
+/// step does.
 pub(crate) fn step_for<S: PrefixStore<Rc<Route>>>(
     alloc: Global,
     event: &Event,
@@ -180,6 +183,8 @@ pub(crate) fn step_for<S: PrefixStore<Rc<Route>>>(
     ensures cleared { IfOk result (λ new. IfSome new.1 (λ peer.
         ClearAllOf table.now.routes peer (sides_of new.0.items))) }
 {
+    // The entries of such a step, which may be many, are read from the peer's store, and aren't
+    // copied.
     let changes = changes_of(alloc, event, table, known)?;
     if changes.entries.is_empty() && changes.lost.len() == 1 {
         if let Some(peer) = changes.lost.first().copied() {

@@ -1,4 +1,5 @@
-//! The routes of all peers.
+//! The table of the routes of all peers, which the player changes and lends for look-ups. Read
+//! [`Table`] first, then `stores.rt`.
 
 ghost use Rattle.std.specs.Prelude.{◌≡◌, ◌<◌, ◌≤◌, cond, Some, true, false, not, slice_get, Option, None, if◌then◌else◌, map, IfSome, IfNone, IfOk, OnOk, OnErr, take, vec_capacity, option_map, option_copied};
 ghost use Rattle.std.specs.Ordering.{eq_by_cmp};
@@ -27,22 +28,21 @@ use std::marker::Model;
 use std::ops::Bound;
 use std::rc::Rc;
 
-/// How many peers have a key, at least, where those that have a route are listed. With one peer
-/// less they are walked.
+/// The number of peers with a key, at least, for which [`Table::few_peers`] lists those that have a
+/// route. With one peer less it lists none.
 const LEAST_PEERS: usize = 64;
 
-/// Of how many peers that have a key one may have a route, where those are listed. Where one more
-/// has, all that have a key are walked.
+/// The ratio of the peers with a key to the most peers with a route that [`Table::few_peers`]
+/// lists. If one more has a route, it lists none.
 const FEW_OF: usize = 4;
 
-/// The routes of all peers: at most one for each peer and prefix. Each peer that has a key has a
-/// store of its own.
+/// The routes of all peers, at most one for each peer and prefix, and the keys: pairs of peer and
+/// prefix that have room for a route. Each peer that has a key has a store of its own.
 #[derive(Drop)]
 pub struct Table<S: PrefixStore<Rc<Route>>> {
     alloc: Global,
     pub(crate) stores: Stores<S>,
-    /// How many nodes were passed to reach pairs before their routes changed. Nothing reads it; without
-    /// it a compiler may leave out the fetching.
+    /// The number of nodes passed by prefetches. It is unread; a compiler keeps these for it.
     passed: u64,
 }
 
@@ -65,7 +65,7 @@ impl<S: PrefixStore<Rc<Route>>> Model for Table<S> {
 }
 
 impl<S: PrefixStore<Rc<Route>>> Table<S> {
-    /// No keys and no routes.
+    /// Returns a table without keys and routes, without allocating memory.
     pub(crate) fn new(alloc: Global) -> Self
         ensures { result ≡ record { keys = set.empty; routes = finite.empty } }
     {
@@ -76,22 +76,22 @@ impl<S: PrefixStore<Rc<Route>>> Table<S> {
         }
     }
 
-    /// Notes that so many nodes were passed to reach pairs.
+    /// Adds to the number of nodes passed by prefetches.
     pub(crate) fn note_passed(&mut self, passed: u64)
         ensures { self.new ≡ self.old }
     {
         self.passed = self.passed.wrapping_add(passed);
     }
 
-    /// Gives back room that is too much for the peers that there are.
+    /// Shrinks the lists of stores if they have far more capacity than stores (`room.rt`).
     pub(crate) fn give_back_room(&mut self)
         ensures { self.new ≡ self.old }
     {
         self.stores.give_back_room();
     }
 
-    /// The route at the pair, or its absence, and the argument change places. This number of its
-    /// peer is tried first.
+    /// Swaps the route of the pair in the table with `route`, either of which may be none. The pair
+    /// must be a key. `number` is tried first for the peer's store.
     pub(crate) fn exchange(&mut self, pair: &Pair, number: usize, route: &mut Option<Rc<Route>>)
         requires { set.contains self.old.keys pair.now ≡ true }
         ensures keys { self.new.keys ≡ self.old.keys }
@@ -107,9 +107,9 @@ impl<S: PrefixStore<Rc<Route>>> Table<S> {
         self.stores.note_count(number, count);
     }
 
-    /// Puts the route at the pair, which is made a key where it was none: what was there and the
-    /// argument change places. Answers whether the key is new. Refused, it may drop the store that
-    /// it made for the key, and that key with it. This number of its peer is tried first.
+    /// Makes the pair a key if it is none, and swaps its route in the table with `route`. Returns
+    /// whether the key is new. `number` is tried first for the peer's store. On an error, table and
+    /// `route` are unchanged.
     pub(crate) fn put(
         &mut self,
         pair: &Pair,
@@ -125,6 +125,7 @@ impl<S: PrefixStore<Rc<Route>>> Table<S> {
         ensures held { OnErr result (self.new.routes ≡ self.old.routes) }
         ensures kept { OnErr result (route.new ≡ route.old) }
     {
+        // If the new store of a peer can't be inserted, it is dropped with its one key.
         let mut number = number;
         if let Some(store) = self.stores.get_mut(&mut number, &pair.peer) {
             let made = store.put(&pair.prefix, route);
@@ -139,7 +140,7 @@ impl<S: PrefixStore<Rc<Route>>> Table<S> {
         Ok(true)
     }
 
-    /// Drops a key that has no route, and its peer's store with the last one.
+    /// Removes a key that has no route, and drops the store of the peer with its last key.
     pub(crate) fn discard(&mut self, pair: &Pair)
         requires key { set.contains self.old.keys pair.now ≡ true }
         requires free { finite.get self.old.routes pair.now ≡ None }
@@ -156,8 +157,8 @@ impl<S: PrefixStore<Rc<Route>>> Table<S> {
         }
     }
 
-    /// Takes all routes of the peer, in the order of their prefixes, into a list that has room for
-    /// them; the keys stay. What stood in the list is dropped.
+    /// Moves all routes of the peer to `taken`, in the order of their prefixes; the keys stay.
+    /// `taken` is cleared first, and must have capacity for them.
     pub(crate) fn take_routes(&mut self, peer: &Peer, taken: &mut Vec<Rc<Route>>)
         requires { finite.len (peer_routes self.old.routes peer.now) ≤ vec_capacity taken.old }
         ensures keys { self.new.keys ≡ self.old.keys }
@@ -175,7 +176,7 @@ impl<S: PrefixStore<Rc<Route>>> Table<S> {
         self.stores.note_routes(number, false);
     }
 
-    /// The route that the peer has to the prefix.
+    /// Returns the route of the peer to exactly this prefix, or `None` if it has none.
     pub fn get(&self, peer: &Peer, prefix: &Prefix) -> Option<&Rc<Route>>
         ensures { option_map (λ route. route.now.value) result ≡
             finite.get self.now.routes (pair_of peer.now prefix.now) }
@@ -183,7 +184,7 @@ impl<S: PrefixStore<Rc<Route>>> Table<S> {
         self.find_route(NO_NUMBER, peer, prefix)
     }
 
-    /// The route that the peer has to the prefix. This number of the peer is tried first.
+    /// Returns the route of the peer to exactly this prefix. `number` is tried first for its store.
     #[inline]
     pub(crate) fn find_route(
         &self,
@@ -197,9 +198,9 @@ impl<S: PrefixStore<Rc<Route>>> Table<S> {
         self.find_store(number, peer)?.get(prefix)
     }
 
-    /// The longest prefix that the peer has a route to and that contains the address, and its
-    /// route: what a router that had the peer's routes alone would forward by (RFC 1812, section
-    /// 5.2.4.3).
+    /// Returns the longest prefix to which the peer has a route and that contains the address, and
+    /// its route, or `None` if none does. By it a router forwards that has the peer's routes alone
+    /// (RFC 1812, section 5.2.4.3).
     pub fn longest(&self, peer: &Peer, addr: &Addr) -> Option<(Prefix, &Rc<Route>)>
         ensures { IsBest self.now.routes peer.now addr.now
             (option_map (λ found. (found.0, found.1.now.value)) result) }
@@ -207,8 +208,8 @@ impl<S: PrefixStore<Rc<Route>>> Table<S> {
         self.store(peer)?.longest(addr)
     }
 
-    /// The least prefix above the given one, or of all, that the peer has a route to, and its
-    /// route.
+    /// Returns the least prefix above `prefix`, or of all for `None`, to which the peer has a
+    /// route, and its route. `None` means that there is none.
     pub fn after(&self, peer: &Peer, prefix: Option<&Prefix>) -> Option<(Prefix, &Rc<Route>)>
         ensures { option_map (λ found. (found.0, found.1.now.value)) result ≡
             slice_get (routes_above self.now.routes peer.now (option_copied prefix.entry)) 0 }
@@ -216,9 +217,9 @@ impl<S: PrefixStore<Rc<Route>>> Table<S> {
         self.store(peer)?.after(prefix)
     }
 
-    /// The next prefixes above the given one, or of all, that the peer has a route to, in order, and
-    /// their routes: as many as the list has room for, or all that are left. What stood in the list
-    /// is dropped.
+    /// Fills `found` with the next prefixes above `prefix`, or of all for `None`, to which the peer
+    /// has a route, in order, and their routes: as many as it has capacity for, or all that are
+    /// left. `found` is cleared first, and keeps its capacity.
     pub fn next_routes<'a>(
         &'a self,
         peer: &Peer,
@@ -235,8 +236,8 @@ impl<S: PrefixStore<Rc<Route>>> Table<S> {
         }
     }
 
-    /// The least peer above the given one, or of all, that has a route, and how many it has;
-    /// `u64::MAX` where more. It steps over peers whose keys have no route.
+    /// Returns the least peer above `peer`, or of all for `None`, that has a route, and the number
+    /// of its routes (`u64::MAX` if it is larger). `None` means that there is none.
     pub fn peer_after(&self, peer: Option<&Peer>) -> Option<(Peer, u64)>
         ensures { result ≡
             option_map (λ p. (p, counted (finite.len (peer_routes self.now.routes p))))
@@ -258,10 +259,10 @@ impl<S: PrefixStore<Rc<Route>>> Table<S> {
         None
     }
 
-    /// Returns the peers that have a route, in order, and how many each has (`u64::MAX` where
-    /// more), where they are few of those that have a key: at most a quarter of 64 and more.
-    /// `Ok(None)` means that they aren't; `peer_after` steps over few others then. An `Err` means
-    /// want of memory for the list.
+    /// Returns the peers that have a route, in order, and the number of routes of each (`u64::MAX`
+    /// if it is larger). `Ok(None)` means that they aren't listed, since they are more than a
+    /// quarter of the peers with a key, or these are fewer than 64: then [`Table::peer_after`]
+    /// steps over few others. On an error, memory allocation for the list failed.
     pub fn few_peers(&self) -> Result<Option<BTreeMap<Peer, u64>>, AllocError>
         ensures { IfOk result (λ few. IfSome few (λ peers.
             peers.entries ≡ counted_peers self.now.routes)) }
@@ -283,7 +284,7 @@ impl<S: PrefixStore<Rc<Route>>> Table<S> {
         Ok(Some(found))
     }
 
-    /// The peer's store, where it has a key.
+    /// Returns the store of the peer, or `None` if the peer has no key.
     #[inline]
     pub fn store(&self, peer: &Peer) -> Option<&S>
         ensures keys { IfSome result (λ store. (n : Network) →
@@ -300,7 +301,7 @@ impl<S: PrefixStore<Rc<Route>>> Table<S> {
         self.find_store(NO_NUMBER, peer)
     }
 
-    /// The peer's store, where it has a key. This number of the peer is tried first.
+    /// Returns the store of the peer, or `None` if it has no key. `number` is tried first for it.
     #[inline]
     fn find_store(&self, number: usize, peer: &Peer) -> Option<&S>
         ensures keys { IfSome result (λ store. (n : Network) →

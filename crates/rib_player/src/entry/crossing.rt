@@ -1,4 +1,5 @@
-//! An entry and the table exchange their routes.
+//! Swaps of the routes of an entry and the table, by which steps are applied, undone and redone.
+//! `journal.rt` and `claims.rt` call them.
 
 ghost use Rattle.std.specs.Prelude.{◌≡◌, [], ◌∷◌, true, not, is_some, IfOk, OnOk, OnErr};
 ghost use Rattle.std.specs.FinMap as finite;
@@ -17,7 +18,7 @@ use std::mem::replace;
 use std::rc::Rc;
 
 impl Entry {
-    /// Whether its pair has a route in the table.
+    /// Returns whether the pair has a route in the table.
     #[inline]
     pub(crate) fn is_routed<S: PrefixStore<Rc<Route>>>(&self, table: &Table<S>) -> bool
         ensures { result ≡ is_some (finite.get table.now.routes self.now.pair) }
@@ -28,7 +29,8 @@ impl Entry {
             .is_some()
     }
 
-    /// Its route and the table's change places.
+    /// Swaps the route of the entry and the table's route of the pair, either of which may be none.
+    /// The pair must be a key.
     #[inline(always)]
     pub(crate) fn exchange<S: PrefixStore<Rc<Route>>>(&mut self, table: &mut Table<S>)
         requires { set.contains table.old.keys self.old.pair ≡ true }
@@ -47,7 +49,8 @@ impl Entry {
         self.kept = absent.with_route(other);
     }
 
-    /// Notes the route that its pair has before the step, which leaves it none.
+    /// Sets `route` as the one that the pair has before the step, which clears it. The table isn't
+    /// changed.
     #[inline]
     pub(crate) fn note_cleared(&mut self, route: Rc<Route>)
         ensures { self.new ≡ cleared_entry self.old route }
@@ -60,9 +63,9 @@ impl Entry {
         });
     }
 
-    /// Its route and the table's change places, where its pair is made a key if it was none; it
-    /// notes on which sides of the step the pair has a route. Answers whether the key is new.
-    /// Refused, nothing has changed.
+    /// Applies the entry of a new step: makes the pair a key if it is none, swaps the routes of
+    /// entry and table, and sets the marks. Returns whether the key is new. On an error, entry and
+    /// table are unchanged.
     #[inline]
     pub(crate) fn put<S: PrefixStore<Rc<Route>>>(
         &mut self,
