@@ -58,10 +58,10 @@ impl SpareRoutes {
 
     /// Swaps `route` for the next route of the ring, which may have other owners too.
     #[inline(always)]
-    fn exchange(&mut self, alloc: Global, route: &mut Rc<Route>) -> Result<(), AllocError> {
+    fn exchange_route(&mut self, alloc: Global, route: &mut Rc<Route>) -> Result<(), AllocError> {
         match self.routes.get_mut(self.next) {
             Some(spare) => mem::swap(spare, route),
-            None => self.add(alloc, route)?,
+            None => self.add_route(alloc, route)?,
         }
         self.next = (self.next + 1) % MOST_SPARES;
         Ok(())
@@ -69,7 +69,7 @@ impl SpareRoutes {
 
     /// Adds `route` to the ring, and replaces it by one without attributes.
     #[inline(never)]
-    fn add(&mut self, alloc: Global, route: &mut Rc<Route>) -> Result<(), AllocError>
+    fn add_route(&mut self, alloc: Global, route: &mut Rc<Route>) -> Result<(), AllocError>
         requires { vec_len self.old.routes < MOST_SPARES }
         ensures { self.new.next ≡ self.old.next }
     {
@@ -161,7 +161,7 @@ impl ReadRoute {
     {
         self.known = false;
         if Rc::strong_count(&self.route) > 1 {
-            spares.exchange(alloc, &mut self.route)?;
+            spares.exchange_route(alloc, &mut self.route)?;
         }
         fill_shared(&mut self.route, alloc, sent, time)?;
         self.octets.clear();
