@@ -363,7 +363,7 @@ def faults_of_claims():
 
 def place_of(block, lines):
     """Where a block of the page begins, and where it ends; both at the end where it isn't there."""
-    head = block[0].partition(':**' if block[0].startswith('**`') else '.**')[0]
+    head = re.match(r'\*\*(?:\d+\. |.*?\*\*)', block[0]).group(0)
     start = next((place for place, line in enumerate(lines) if line.startswith(head)), len(lines))
     end = start + 2
     while end < len(lines) and lines[end].startswith('- '):
@@ -376,7 +376,7 @@ def written(text, blocks):
     lines = text.split('\n')
     for block in blocks:
         start, end = place_of(block, lines)
-        lines[start:end] = block
+        lines[start:end] = block if start < end else [*block, '']
     return '\n'.join(lines)
 
 
@@ -403,6 +403,8 @@ def main():
         LISTS.write_text(written(text, blocks))
         return
     if len(sys.argv) > 1:
+        if sys.argv[1] not in CALLS:
+            sys.exit('trusted: there are lists of %s' % ', '.join(CALLS))
         for definition in reading_of(sys.argv[1]).order:
             print('# %s, line %d\n%s\n' % (definition.file.relative_to(TOP), definition.first, definition.text))
         return
