@@ -29,8 +29,8 @@ LISTS = TOP / 'docs/proved.md'
 
 PLAYER = 'rib_player/src/player.rt'
 
-# What has a list in docs/proved.md, in their order: by the file that has them the names of calls and laws; of a
-# type or a trait, which has the list's name, all public calls; of a file of laws all that no list above has.
+# What has a list in docs/proved.md, in their order: by the file that has them the names of calls and laws, or
+# None for all public calls of a type or a trait, which then has the list's name.
 CALLS = {
     'laws of histories': {'rib_player/src/laws.rt': (
         'history_after_one_call', 'history_after_all_calls', 'tables_by_position', 'one_step_back',
@@ -52,8 +52,8 @@ CALLS = {
     'Table': {'rib_player/src/table.rt': None},
     'PrefixStore': {'prefix_store/src/store.rt': None},
     'settings': {'bgpdump_command_line/src/command_line.rt': ('settings',)},
-    'all other laws': {str(path.relative_to(CRATES)): tuple(re.findall(r'(?m)^pub fn (\w+)', path.read_text()))
-                       for path in sorted(CRATES.glob('*/src/laws.rt'))},
+    'all laws': {str(path.relative_to(CRATES)): tuple(re.findall(r'(?m)^pub fn (\w+)', path.read_text()))
+                 for path in sorted(CRATES.glob('*/src/laws.rt'))},
 }
 
 # The heading of the page's section on the words of the standard library.
@@ -384,7 +384,7 @@ def faults_of_blocks(text, blocks):
     """The first line of each block that differs."""
     lines = text.split('\n')
     for block in blocks:
-        start, end = place_of(block, lines)
+        start, _ = place_of(block, lines)
         for place, wanted in enumerate([*block, ''], start):
             there = lines[place] if place < len(lines) else ''
             if there != wanted:
@@ -410,7 +410,8 @@ def main():
         return
     faults = [
         *faults_of_blocks(text, blocks),
-        *('%s: a word is on no list, and its first line is not %s' % (file, PRIVATE) for file in unlisted_files()),
+        *('%s: a word is on no list, and its first line is not %s' % (file.relative_to(TOP), PRIVATE)
+          for file in unlisted_files()),
         *('%s: it %s' % (LISTS.relative_to(TOP), fault) for fault in (*faults_of_std(text), *faults_of_shown(text))),
         *('README.md: it does not say: %s' % claim for claim in faults_of_claims()),
     ]
