@@ -1,15 +1,19 @@
 #!/usr/bin/env python3
 """What must be read to believe a contract: the definitions that it rests on, word by word.
 
-    checks/trusted.py [CALL]
+    checks/trusted.py [CALL | --print | --write]
 
-From the clauses of a call, or of all public calls of a type or a trait, it goes through the words that
-they cite, and through the words that these cite, to all definitions in the crates' specs/ folders, and
-through the values that contracts see of the types in between. With a CALL it prints these definitions,
-those first that others stand on. Without one it compares the lists of docs/proved.md with what it finds
-for each that they name, prints the first line of each that differs, and looks that a file of specs/ is
-all on these lists, or not at all: then its first line is PRIVATE. A list has the definitions that those
-above it don't have.
+From the clauses of a call or a law, or of all public calls of a type or a trait, it goes through the
+words that they cite, and through the words that these cite, to all definitions in the crates' specs/
+folders, and through the values that contracts see of the types in between. With a CALL, as the lists of
+docs/proved.md name it, it prints these definitions, those first that others stand on.
+
+With --print it prints what docs/proved.md should have: the claims with their clauses (claims.py), and
+the list of each call, with the definitions that those above it don't have. With --write it puts them
+there. Without a word it compares, and prints the first line of each that differs. It looks besides that
+a file of specs/ is all on these lists where its first line isn't PRIVATE, that the page names the words
+of the standard library that the clauses and definitions cite, and no others, that the contracts and
+definitions that it shows are those of the code, and that README.md has the claims.
 """
 import re
 import sys
@@ -17,26 +21,52 @@ from dataclasses import dataclass, field
 from functools import lru_cache
 from pathlib import Path
 
+from claims import CLAIMS, claims
+
 TOP = Path(__file__).resolve().parent.parent
 CRATES = TOP / 'crates'
 LISTS = TOP / 'docs/proved.md'
 
-# The calls whose lists stand in docs/proved.md, each with the file that has it: by the name of a type or
-# a trait all that it has.
+PLAYER = 'rib_player/src/player.rt'
+
+# What has a list in docs/proved.md, in their order: by the file that has them the names of calls and laws, or
+# None for all public calls of a type or a trait, which then has the list's name.
 CALLS = {
-    'run_dump': 'bgpdump_lines/src/dump.rt',
-    'run_play': 'bgpdump_tool/src/play.rt',
-    'Player': 'rib_player/src/player.rt',
-    'Table': 'rib_player/src/table.rt',
-    'PrefixStore': 'prefix_store/src/store.rt',
-    'settings': 'bgpdump_command_line/src/command_line.rt',
+    'laws of histories': {'rib_player/src/laws.rt': (
+        'history_after_one_call', 'history_after_all_calls', 'tables_by_position', 'one_step_back',
+        'steps_back_and_forth', 'forgotten_steps')},
+    'Player::table': {PLAYER: ('table',)},
+    'Player::play': {PLAYER: ('play',)},
+    'Player::undo': {PLAYER: ('undo',)},
+    'Player::redo': {PLAYER: ('redo',)},
+    'Player::forget': {PLAYER: ('forget',)},
+    'Source::next': {'mrt_wire/src/source.rt': ('next',)},
+    'run_dump': {'bgpdump_lines/src/dump.rt': ('run_dump',)},
+    'run_play': {'bgpdump_tool/src/play.rt': ('run_play',)},
+    'dump': {'bgpdump/src/run.rt': ('dump',), 'bgpdump/src/in_memory.rt': ('dump_known',)},
+    'play': {'bgpdump/src/run.rt': ('play',), 'bgpdump/src/in_memory.rt': ('play_known',)},
+    'laws of splits and scripts': {
+        'mrt_wire/src/laws.rt': ('one_split', 'no_octets_without_a_split', 'one_content'),
+        'bgpdump_tool/src/laws.rt': ('one_script', 'one_command', 'best_match')},
+    'Player': {PLAYER: None},
+    'Table': {'rib_player/src/table.rt': None},
+    'PrefixStore': {'prefix_store/src/store.rt': None},
+    'settings': {'bgpdump_command_line/src/command_line.rt': ('settings',)},
+    'all laws': {str(path.relative_to(CRATES)): tuple(re.findall(r'(?m)^pub fn (\w+)', path.read_text()))
+                 for path in sorted(CRATES.glob('*/src/laws.rt'))},
 }
 
-# The first line of a file of specs/ that has nothing to be read.
+# The heading of the page's section on the words of the standard library.
+STD_HEADING = '## Words of the standard library'
+
+# The first line of a file of specs/ that has nothing to be read, or only what the lists mark so.
 PRIVATE = '-- Private.'
 
 NAME = r"[A-Za-z_][A-Za-z0-9_'\-]*"
 WORD = re.compile(r"%s(?:\.%s)*" % (NAME, NAME))
+STD_USE = re.compile(r'use Rattle\.std\.specs((?:\.(?!declared)%s)+)(?:\.\{([^}]*)\}| as (%s))' % (NAME, NAME))
+# Modules of the standard library whose words are named with them.
+NAMED_MODULES = ('FinMap', 'FinSet')
 USE = re.compile(r'(?:ghost )?(?:pub )?use (Rattle(?:\.%s)+)(?:\.\{([^}]*)\}| as (%s))?' % (NAME, NAME))
 HEAD = re.compile(r"(?:(?:abbrev|unfoldable|pub|record|data) )*(%s)(?: [({].*?[)}])* : " % NAME)
 
@@ -56,10 +86,13 @@ class Definition:
 
 @dataclass
 class Scope:
-    """What a file's names stand for: words of ours, modules under another name, and types."""
+    """What a file's names stand for: words of ours and of the standard library, modules under another name, and
+    types."""
     words: dict = field(default_factory=dict)
     modules: dict = field(default_factory=dict)
     types: dict = field(default_factory=dict)
+    std_words: dict = field(default_factory=dict)
+    std_modules: dict = field(default_factory=dict)
 
 
 def spec_file(crate, module):
@@ -94,6 +127,11 @@ def scope_of(file):
                 scope.words[name] = module
             elif '.specs.declared.' in path and (CRATES / path.split('.')[1]).exists():
                 scope.types[name] = path.split('.')[1]
+    for path, names, other in STD_USE.findall(file.read_text()):
+        module = path[1:] + '.' if path[1:] in NAMED_MODULES else ''
+        if other:
+            scope.std_modules[other] = module
+        scope.std_words.update((name.strip(), module + name.strip()) for name in names.split(',') if '◌' not in name)
     if file.suffix == '.antt':
         scope.words.update((name, file) for name in definitions(file))
     return scope
@@ -173,7 +211,7 @@ class Reading:
     """The definitions that a text rests on, those first that others stand on."""
 
     def __init__(self):
-        self.order, self.seen = [], set()
+        self.order, self.seen, self.std = [], set(), set()
 
     def follow(self, text, scope):
         for word in WORD.findall(without_comments(text)):
@@ -184,6 +222,10 @@ class Reading:
                 self.define(scope.words[first], first)
             elif first in scope.types:
                 self.see(first, scope.types[first])
+            elif first in scope.std_words:
+                self.std.add(scope.std_words[first])
+            elif first in scope.std_modules and rest:
+                self.std.add(scope.std_modules[first] + rest.split('.')[0])
 
     def define(self, file, name):
         definition = definitions(file).get(name)
@@ -211,7 +253,7 @@ class Reading:
 
 def contract_of(text, call):
     """The head and the clauses of a call, without its body."""
-    found = re.search(r'(?m)^( *)pub fn %s\b.*?\n\1\{$' % call, text, re.S)
+    found = re.search(r'(?m)^( *)(?:pub )?fn %s\b.*?\n\1\{\}?$' % call, text, re.S)
     return found.group(0) if found else None
 
 
@@ -225,90 +267,158 @@ def contracts_in(text, owner):
 
 
 def contracts_of(call):
-    """The heads and the clauses of what is listed, and the file that has it."""
-    path = CRATES / CALLS[call]
-    text = path.read_text()
-    found = [contract_of(text, call)] if call[0].islower() else list(contracts_in(text, call))
-    if not all(found) or not found:
-        sys.exit('trusted: %s has no %s' % (CALLS[call], call))
-    return found, path
+    """The heads and the clauses of what is listed, each with the file that has it."""
+    for file, names in CALLS[call].items():
+        path = CRATES / file
+        text = path.read_text()
+        found = list(contracts_in(text, call)) if names is None else [contract_of(text, name) for name in names]
+        if not all(found) or not found:
+            sys.exit('trusted: %s has no %s' % (file, names or call))
+        yield from ((contract, path) for contract in found)
 
 
+@lru_cache(maxsize=None)
 def reading_of(call):
-    contracts, path = contracts_of(call)
-    reading = Reading()
-    for contract in contracts:
+    reading, contracts = Reading(), list(contracts_of(call))
+    for contract, path in contracts:
         reading.follow(contract, scope_of(path))
-    for contract in contracts:
+    for contract, path in contracts:
         head = contract.partition('ensures')[0]
         for name in re.findall(r'\b[A-Z]\w+', '%s %s' % (call, head)):
             reading.see(name, crate_of(path))
-    return reading.order
+    return reading
 
 
 def list_of(call, order, above):
     """A list of docs/proved.md: the files in the order of their first words, each with its words that the
-    lists above it don't have."""
+    lists above it don't have; where these are all of the file's words, or the rest of them, with that."""
     by_file = {}
     for definition in order:
         if definition not in above:
             by_file.setdefault(definition.file, []).append(definition)
     lines = sum(definition.size for definition in order)
     shared = len(above.intersection(order))
-    rows = ['**`%s`**: %d definitions, %d lines with their comments%s.' % (
-        call, len(order), lines, '; %d are on the lists above' % shared if shared else ''), '']
+    others = '; all on the lists above' if not by_file else '; %d on the lists above' % shared if shared else ''
+    rows = ['%s %d definitions, %d lines%s.' % (head_of(call), len(order), lines, others), '']
     for file, words in by_file.items():
         names = ', '.join('`%s`' % word.name for word in words)
-        rows.append('- `%s`: %s' % (file.relative_to(CRATES), names))
-    return rows
+        if set(definitions(file).values()) <= above.union(words):
+            names = 'all' if above.isdisjoint(definitions(file).values()) else 'the rest'
+        private = ' (Private)' if file.read_text().startswith(PRIVATE) else ''
+        rows.append('- `%s`%s: %s' % (file.relative_to(CRATES), private, names))
+    return rows if by_file else rows[:1]
+
+
+def head_of(call):
+    """How the first line of a list begins."""
+    return '**%s**:' % (call.capitalize() if ' ' in call else '`%s`' % call)
 
 
 def lists():
-    """Each call, and the lines of its list."""
+    """The list of each call."""
     above = set()
     for call in CALLS:
-        order = reading_of(call)
-        yield call, list_of(call, order, above)
+        order = reading_of(call).order
+        yield list_of(call, order, above)
         above.update(order)
 
 
-def mixed_files():
-    """The files of specs/ that have words to be read and others, or whose first line says otherwise."""
-    read = {definition for call in CALLS for definition in reading_of(call)}
+def unlisted_files():
+    """The files of specs/ with words that are on no list, and whose first line doesn't say so."""
+    read = {definition for call in CALLS for definition in reading_of(call).order}
     for file in sorted(CRATES.glob('*/specs/*.antt')):
-        words = set(definitions(file).values())
-        is_private = file.read_text().startswith(PRIVATE)
-        if words and (words & read) != (set() if is_private else words):
+        if not set(definitions(file).values()) <= read and not file.read_text().startswith(PRIVATE):
             yield file
 
 
-def difference(call, wanted, text):
-    """The first line of a list that differs: its number, what stands there, and what should; None where none does."""
+def faults_of_std(text):
+    """The words of the standard library that the page doesn't name in its section, and those that it needn't."""
+    section = text.partition('\n%s\n' % STD_HEADING)[2].partition('\n## ')[0]
+    rows = re.findall(r'(?m)^- ((?:`[^`]+`(?:, )?)+):', section)
+    named = {word for row in rows for word in re.findall(r'`([^`]+)`', row)}
+    found = {word for call in CALLS for word in reading_of(call).std}
+    yield from ('does not name %s' % word for word in sorted(found - named))
+    yield from ('names %s, which no clause or definition cites' % word for word in sorted(named - found))
+
+
+def words_of(text):
+    """The text with single spaces between its words."""
+    return ' '.join(text.split())
+
+
+def faults_of_shown(text):
+    """The contracts and definitions that the page shows, and that no file has."""
+    files = [*CRATES.glob('*/src/**/*.rt'), *CRATES.glob('*/specs/*.antt')]
+    there = [words_of(file.read_text()) for file in files]
+    for shown in re.findall(r'```(?:rust|antt)\n(.*?)```', text, re.S):
+        if not any(words_of(shown) in one for one in there):
+            yield 'shows what no file has: %s' % shown.split('\n')[0]
+
+
+def faults_of_claims():
+    """The claims that README.md doesn't make in these words."""
+    readme = words_of((TOP / 'README.md').read_text()).lower()
+    yield from (claim for claim in CLAIMS if claim.lower() not in readme)
+
+
+def place_of(block, lines):
+    """Where a block of the page begins, and where it ends; both at the end where it isn't there."""
+    head = re.match(r'\*\*(?:\d+\. |.*?\*\*)', block[0]).group(0)
+    start = next((place for place, line in enumerate(lines) if line.startswith(head)), len(lines))
+    end = start + 2
+    while end < len(lines) and lines[end].startswith('- '):
+        end += 1
+    return start, end if end > start + 2 else min(start + 1, len(lines))
+
+
+def written(text, blocks):
+    """The page with these blocks in their places."""
     lines = text.split('\n')
-    start = next((place for place, line in enumerate(lines) if line.startswith('**`%s`**' % call)), len(lines))
-    for place, line in enumerate([*wanted, ''], start):
-        if place >= len(lines) or lines[place] != line:
-            return place + 1, lines[place] if place < len(lines) else '', line
-    return None
+    for block in blocks:
+        start, end = place_of(block, lines)
+        lines[start:end] = block if start < end else [*block, '']
+    return '\n'.join(lines)
+
+
+def faults_of_blocks(text, blocks):
+    """The first line of each block that differs."""
+    lines = text.split('\n')
+    for block in blocks:
+        start, _ = place_of(block, lines)
+        for place, wanted in enumerate([*block, ''], start):
+            there = lines[place] if place < len(lines) else ''
+            if there != wanted:
+                yield '%s:%d: there stands\n%s\nand should stand\n%s\n' % (
+                    LISTS.relative_to(TOP), place + 1, there, wanted)
+                break
 
 
 def main():
+    blocks = [*claims(), *lists()]
+    text = LISTS.read_text()
+    if sys.argv[1:] == ['--print']:
+        print('\n\n'.join('\n'.join(block) for block in blocks))
+        return
+    if sys.argv[1:] == ['--write']:
+        LISTS.write_text(written(text, blocks))
+        return
     if len(sys.argv) > 1:
-        for definition in reading_of(sys.argv[1]):
+        if sys.argv[1] not in CALLS:
+            sys.exit('trusted: there are lists of %s' % ', '.join(CALLS))
+        for definition in reading_of(sys.argv[1]).order:
             print('# %s, line %d\n%s\n' % (definition.file.relative_to(TOP), definition.first, definition.text))
         return
-    text, faults = LISTS.read_text(), 0
-    for call, wanted in lists():
-        found = difference(call, wanted, text)
-        if found:
-            print('%s:%d: in the list of `%s` stands\n%s\nand should stand\n%s\n' % (
-                LISTS.relative_to(TOP), found[0], call, *found[1:]))
-            faults += 1
-    for file in mixed_files():
-        print('%s: either all of it is to be read, or its first line is %s' % (file.relative_to(TOP), PRIVATE))
-        faults += 1
-    print('reading lists: %s' % ('no faults' if faults == 0 else '%d faults' % faults))
-    sys.exit(faults > 0)
+    faults = [
+        *faults_of_blocks(text, blocks),
+        *('%s: a word is on no list, and its first line is not %s' % (file.relative_to(TOP), PRIVATE)
+          for file in unlisted_files()),
+        *('%s: it %s' % (LISTS.relative_to(TOP), fault) for fault in (*faults_of_std(text), *faults_of_shown(text))),
+        *('README.md: it does not say: %s' % claim for claim in faults_of_claims()),
+    ]
+    for fault in faults:
+        print(fault)
+    print('reading lists: %s' % ('%d faults' % len(faults) if faults else 'no faults'))
+    sys.exit(bool(faults))
 
 
 if __name__ == '__main__':

@@ -1,0 +1,139 @@
+"""The claims of README.md, each with the clauses, laws and definitions that give it.
+
+Of a clause, a law or a definition is named the file, the function or the word, the names of the clauses
+(none for one without a name), and what it says.
+"""
+import re
+from pathlib import Path
+from typing import NamedTuple
+
+CRATES = Path(__file__).resolve().parent.parent / 'crates'
+
+PLAYER = 'rib_player/src/player.rt'
+PLAYER_LAWS = 'rib_player/src/laws.rt'
+HISTORY = 'rib_player/specs/History.antt'
+CALLS = 'rib_player/specs/Calls.antt'
+MEANING = 'bgpdump_tool/specs/Meaning.antt'
+RESULTS = 'mrt_wire/specs/Results.antt'
+DUMP = 'bgpdump_lines/src/dump.rt'
+PLAY = 'bgpdump_tool/src/play.rt'
+PROGRAM = 'bgpdump/src/run.rt'
+IN_MEMORY = 'bgpdump/src/in_memory.rt'
+
+
+class Ground(NamedTuple):
+    """What gives a part of a claim."""
+    file: str
+    name: str
+    clauses: tuple
+    says: str
+
+
+CLAIMS = {
+    'The player\'s table gives each peer and prefix the last announcement since its last withdrawal or session '
+    'loss among the steps before the cursor': (
+        Ground(PLAYER_LAWS, 'history_after_all_calls', ('new',),
+               'the induction over calls: after any list of them, refused ones too, a new player agrees '
+               '(`StandsFor`) with the history that they make'),
+        Ground(CALLS, 'history_after', (),
+               'that history: `play` cuts it at the cursor and adds its event; no other call changes it'),
+        Ground(CALLS, 'after_call', (),
+               'what each call makes of a player, in the words of the contracts below; one that changes nothing is a '
+               '`Look`'),
+        Ground(PLAYER, 'new', ('',), 'a new player is `fresh`'),
+        Ground(PLAYER, 'play', ('after_play', 'refused'), 'what it makes of the player'),
+        Ground(PLAYER, 'undo', ('after_undo',), 'likewise'),
+        Ground(PLAYER, 'redo', ('after_redo',), 'likewise'),
+        Ground(PLAYER, 'forget', ('after_forget',), 'likewise'),
+        Ground(PLAYER, 'give_back_routes', ('',), 'no change; no other public call has `&mut self`'),
+        Ground(PLAYER_LAWS, 'tables_by_position', ('routes',),
+               'where a player agrees with a history, its table has at each pair the `route` of the events before '
+               'the cursor'),
+        Ground(HISTORY, 'route', (), 'the last event that does not keep the pair decides'),
+        Ground(HISTORY, 'item_effect', (),
+               'an announcement sets it; a withdrawal, or a loss of the peer\'s session, clears it'),
+        Ground(HISTORY, 'is_loss', (), 'the session leaves Established'),
+        Ground(PLAYER, 'table', ('routes',), 'callers get the table at the cursor'),
+        Ground('rib_player/src/table.rt', 'get', ('',), 'its route at a pair'),
+        Ground(MEANING, 'routes_at', (), 'what a script asks: the table of the events before the cursor'),
+    ),
+    'Undo and redo move the cursor one step where there is one, need no memory and restore every route': (
+        Ground(PLAYER, 'undo', ('after_undo', 'can'),
+               'the cursor is one lower and all else as it was, exactly where it was above the floor. The error, '
+               '`Nothing`, has no value for want of memory'),
+        Ground(PLAYER, 'redo', ('after_redo', 'can'), 'one higher, exactly where a step is ahead'),
+        Ground(PLAYER_LAWS, 'one_step_back', ('undo', 'redo'), 'one step back and on again'),
+        Ground(PLAYER_LAWS, 'steps_back_and_forth', ('back', 'forth'),
+               'any list of events, played and undone, and redone'),
+        Ground(PLAYER_LAWS, 'forgotten_steps', ('tables',), 'positions that are left keep their tables'),
+    ),
+    'Malformed records and refused steps change nothing': (
+        Ground(RESULTS, 'ReadsAs', (), 'a record makes an event or has a fault'),
+        Ground(RESULTS, 'index_after', (), 'one with a fault leaves the peer index'),
+        Ground('mrt_wire/src/source.rt', 'next', ('next', 'first'), 'the reader answers just that'),
+        Ground(MEANING, 'events', (), 'a fault is no event of a script\'s history'),
+        Ground(PLAYER, 'play', ('refused',), 'the player is as it was, steps ahead included'),
+        Ground(PLAYER, 'table', ('keys',), 'so are its keys, which are stated after each call'),
+    ),
+    'What is written is the stated function of the bytes read': (
+        Ground(DUMP, 'run_dump', ('text', 'whole_records', 'taken'), 'lines and reports'),
+        Ground(PLAY, 'run_play', ('text', 'began', 'whole_records', 'wanted', 'taken'), 'replies and reports'),
+        Ground(PROGRAM, 'dump', ('text', 'whole_records'), 'with the program\'s buffers between'),
+        Ground(PROGRAM, 'play', ('text', 'whole_records'), 'likewise'),
+        Ground(IN_MEMORY, 'dump_known', ('',), 'with all between `main` and a run, over memory'),
+        Ground(IN_MEMORY, 'play_known', ('',), 'likewise'),
+        Ground('bgpdump_lines/specs/Run.antt', 'EndsSo', (), 'by how it ended: all texts, or fronts of them'),
+        Ground('bgpdump_lines/specs/Run.antt', 'dump_texts', (), 'the texts of `-m` from the results'),
+        Ground('bgpdump_tool/specs/Course.antt', 'play_texts', (), 'those of a script'),
+        Ground(RESULTS, 'results', (), 'the results of frames and a rest'),
+        Ground(RESULTS, 'Splits', (), 'octets split into frames and a rest'),
+        Ground('mrt_wire/src/laws.rt', 'one_split', ('',), 'they do so in one way, so the texts are a function of them'),
+        Ground('mrt_wire/src/laws.rt', 'no_octets_without_a_split', ('',), 'and no octets are without one'),
+        Ground('bgpdump_tool/src/laws.rt', 'one_script', ('one', 'some'), 'likewise a script and its lines'),
+    ),
+    'For every input and script, even when memory allocation fails': (
+        Ground(DUMP, 'run_dump', ('input_sound', 'out_sound', 'err_sound'),
+               'its only conditions: no device has failed before. No clause supposes that there is memory'),
+        Ground(PLAY, 'run_play', ('input_sound', 'out_sound', 'err_sound'), 'likewise; `dump` and `play` have none'),
+    ),
+}
+
+
+def line_of_clause(lines, start, clause):
+    """The line of a clause of the function whose head is at a line, counted from 0; None where it has none."""
+    head = re.compile(r' *(?:ensures|requires) %s\{' % re.escape(clause + ' ' if clause else ''))
+    end = re.compile(r' *\{\}?$')
+    for place in range(start, len(lines)):
+        if head.match(lines[place]):
+            return place + 1
+        if end.match(lines[place]):
+            return None
+    return None
+
+
+def lines_of(ground):
+    """The lines, from 1, of the clauses, or of the definition; None for one that is not there."""
+    lines = (CRATES / ground.file).read_text().split('\n')
+    if ground.file.endswith('.antt'):
+        head = re.compile(r"(?:(?:abbrev|unfoldable|pub|record|data) )+%s(?: [({].*?[)}])* : " % re.escape(ground.name))
+    else:
+        head = re.compile(r' *(?:pub )?fn %s\b' % ground.name)
+    start = next((place for place, line in enumerate(lines) if head.match(line)), None)
+    if start is None:
+        return [None]
+    return [line_of_clause(lines, start, clause) for clause in ground.clauses] or [start + 1]
+
+
+def row_of(ground):
+    places = lines_of(ground)
+    if None in places:
+        raise SystemExit('claims: %s has no %s with %s' % (ground.file, ground.name, ', '.join(ground.clauses)))
+    named = ', '.join('*%s*' % clause for clause in ground.clauses if clause)
+    return '- `%s`%s (`%s:%s`): %s' % (
+        ground.name, ' ' + named if named else '', ground.file, ','.join(map(str, places)), ground.says)
+
+
+def claims():
+    """Each claim's first line, and the lines below it."""
+    for number, (claim, grounds) in enumerate(CLAIMS.items(), 1):
+        yield ['**%d. %s.**' % (number, claim), '', *map(row_of, grounds)]
