@@ -76,8 +76,9 @@ CLAIMS = {
         Ground(PLAYER, 'table', ('keys',), 'so are its keys, which are stated after each call'),
     ),
     'What is written is the stated function of the bytes read': (
-        Ground(DUMP, 'run_dump', ('text', 'whole_records', 'taken'), 'lines and reports'),
-        Ground(PLAY, 'run_play', ('text', 'began', 'whole_records', 'wanted', 'taken'), 'replies and reports'),
+        Ground(DUMP, 'run_dump', ('octets', 'text', 'whole_records', 'taken'), 'lines and reports: *octets* is the plain clause, '
+               'the others hold of inputs that show nothing beyond what was taken'),
+        Ground(PLAY, 'run_play', ('octets', 'text', 'began', 'whole_records', 'wanted', 'taken'), 'replies and reports'),
         Ground(PROGRAM, 'dump', ('text', 'whole_records'), 'with the program\'s buffers between'),
         Ground(PROGRAM, 'play', ('text', 'whole_records'), 'likewise'),
         Ground(IN_MEMORY, 'dump_known', ('',), 'with all between `main` and a run, over memory'),
