@@ -1,4 +1,6 @@
-//! AS4_PATH and AS4_AGGREGATOR beside AS numbers of two octets (RFC 6793, section 4.2.3).
+//! Merging of AS4_PATH and AS4_AGGREGATOR into attributes whose AS numbers have two octets (RFC
+//! 6793, section 4.2.3). The parsers of UPDATEs and of RIB entries call [`join_passed`] after they
+//! have parsed a list of attributes (`attribute_list.rt`).
 
 ghost use Rattle.std.specs.Prelude.{◌≡◌, List, OnOk, IfErr};
 ghost use Rattle.bgp_paths.specs.declared.numbers.AsWidth.TheVariants.{Two};
@@ -13,11 +15,13 @@ use crate::values::read_as4_aggregator;
 use bgp_paths::{AsPath, AsWidth, WireFault, merge_paths};
 use std::alloc::Global;
 
-/// The AS number that stands for one that takes four octets (RFC 6793, section 9).
+/// The AS number that replaces one of four octets where only two are sent (RFC 6793, section 9).
 const AS_TRANS: u32 = 23456;
 
-/// Joins the path and the aggregator with those of AS4_PATH and AS4_AGGREGATOR, where AS numbers have
-/// two octets. Refused, nothing is said of the attributes.
+/// Merges AS4_PATH and AS4_AGGREGATOR into the path and the aggregator of `attrs`, if the AS
+/// numbers of these have two octets as `width` says (RFC 6793, section 4.2.3). The next hop is left
+/// as it was. On error, which means that memory allocation fails, the rest of `attrs` is
+/// unspecified.
 #[inline(always)]
 pub(crate) fn join_passed(
     alloc: Global,
@@ -33,13 +37,15 @@ pub(crate) fn join_passed(
 {
     match width {
         AsWidth::Four => Ok(()),
-        // Most often neither is there, and all stays.
+        // This is the most frequent case of two octets, and needs no call.
         AsWidth::Two if later.as4_path.is_none() && later.as4_aggregator.is_none() => Ok(()),
         AsWidth::Two => join_as4(alloc, attrs, later),
     }
 }
 
-/// Where AS4_PATH or AS4_AGGREGATOR stands beside numbers of two octets.
+/// Merges AS4_PATH and AS4_AGGREGATOR into the path and the aggregator of `attrs`, whose AS numbers
+/// have two octets (RFC 6793, section 4.2.3). The next hop is left as it was. On error, which means
+/// that memory allocation fails, the rest of `attrs` is unspecified.
 #[inline(never)]
 fn join_as4(alloc: Global, attrs: &mut Attrs, later: &LaterValues) -> Result<(), WireFault>
     ensures said { OnOk result ((list : List Attribute) →
@@ -49,7 +55,7 @@ fn join_as4(alloc: Global, attrs: &mut Attrs, later: &LaterValues) -> Result<(),
     ensures kept { attrs.new.next_hop ≡ attrs.old.next_hop }
 {
     let as4 = read_as4_aggregator(later.as4_aggregator);
-    // Both are ignored where the number of AGGREGATOR stands for no other.
+    // Both are ignored if the AS number of AGGREGATOR isn't AS_TRANS.
     if let (Some(own), Some(_)) = (&attrs.aggregator, &as4) {
         if own.asn != AS_TRANS {
             return Ok(());
@@ -59,7 +65,7 @@ fn join_as4(alloc: Global, attrs: &mut Attrs, later: &LaterValues) -> Result<(),
     let Some(octets) = later.as4_path else {
         return Ok(());
     };
-    // AS4_PATH is discarded where it isn't of its form.
+    // A malformed AS4_PATH is discarded.
     let mut path = AsPath::none(alloc);
     match path.fill(alloc, AsWidth::Four, octets) {
         Ok(()) => attrs.path = merge_paths(alloc, &attrs.path, &path)?,

@@ -1,4 +1,6 @@
-//! Reading a list of path attributes in one walk, of each type the first.
+//! A parser of a list of path attributes (RFC 4271, section 4.3), which takes the first attribute
+//! of each type. The parsers of UPDATEs and of RIB entries call [`read_list`]; read that function
+//! first.
 
 ghost use Rattle.std.specs.Prelude.{◌≡◌, ◌<◌, [], Some, OnOk, OnErr, IfErr};
 ghost use Rattle.bgp_wire.specs.declared.framing.TheConstants.{KINDS};
@@ -16,14 +18,16 @@ use crate::values::{fill_presence, put_found, read_aggregator, read_ipv4, read_o
 use bgp_paths::{AsWidth, WireFault, fill_numbers};
 use std::alloc::Global;
 
-/// A list of attributes as it was sent: its octets, and the width of the AS numbers in AS_PATH.
+/// The octets of a list of path attributes, and the width of the AS numbers in its AS_PATH.
 #[derive(Clone, Copy)]
 pub(crate) struct SentList<'a> {
     pub(crate) octets: &'a [u8],
     pub(crate) width: AsWidth,
 }
 
-/// The first values that others or their place have a say in, as octets.
+/// The values of the attributes that are parsed after the list, because they depend on other
+/// attributes or on the message that has the list. Each is of the first attribute of its type, or
+/// `None` if the list has none.
 #[derive(Clone, Copy, Default)]
 pub(crate) struct LaterValues<'a> {
     pub(crate) reach: Option<&'a [u8]>,
@@ -32,7 +36,9 @@ pub(crate) struct LaterValues<'a> {
     pub(crate) as4_aggregator: Option<&'a [u8]>,
 }
 
-/// Reads the value of the first attribute of its type. Refused, nothing is said of the attributes.
+/// Parses the value of `framed`, the first attribute of its type, into `attrs`, or stores its
+/// octets in `later`. Other types are ignored. Fails with `Malformed` if the value has another
+/// form, or with `Memory` if memory allocation fails; `attrs` is unspecified then.
 #[inline(always)]
 fn read_first<'a>(
     alloc: Global,
@@ -72,8 +78,9 @@ fn read_first<'a>(
     Ok(())
 }
 
-/// Takes the path and the communities away that were there before, where the list has none. The room
-/// of many communities is let go of.
+/// Clears the path or the communities of `attrs` if the list whose types are `types` doesn't have
+/// them. Frees the memory of the cleared communities if it has capacity for more than
+/// [`MOST_SPARE`].
 #[inline]
 fn clear_unseen(attrs: &mut Attrs, types: &SeenTypes)
     ensures { AreCleared types.now attrs.old attrs.new }
@@ -89,17 +96,19 @@ fn clear_unseen(attrs: &mut Attrs, types: &SeenTypes)
     }
 }
 
-/// Lets go of the room. It stands out of line, since few lists have much.
+/// Clears the communities and frees their memory.
 #[inline(never)]
 fn let_go(communities: &mut Communities)
     ensures { communities.new ≡ [] }
 {
+    // This isn't inlined, since few lists have much memory.
     communities.items = Vec::new(*communities.items.allocator());
 }
 
-/// Makes the attributes what the octets say of the values that are read each by itself, in the
-/// memory that they have. The values for later and the types are kept besides, where none were
-/// before. Refused, nothing is said of them.
+/// Parses the list `sent` into `attrs`, whose memory is reused, and into `later` and `types`, which
+/// must be empty before. Attributes that the list doesn't have become `None`, false or empty. Fails
+/// with `Malformed` if the list has another form, or with `Memory` if memory allocation fails;
+/// `attrs`, `later` and `types` are unspecified then.
 #[inline(always)]
 pub(crate) fn read_list<'a>(
     alloc: Global,

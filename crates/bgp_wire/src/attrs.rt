@@ -1,4 +1,5 @@
-//! The path attributes of a route.
+//! The path attributes of a route, as the parsers of UPDATEs and of RIB entries set them. Read
+//! [`Attrs`] first.
 
 ghost use Rattle.std.specs.Prelude.{◌≡◌, OnOk, OnErr};
 ghost use Rattle.bgp_wire.specs.Parts.{no_attrs, without_lists};
@@ -9,56 +10,57 @@ use ip_prefix::Addr;
 use std::alloc::{AllocError, Global};
 use std::mem;
 
-/// For how many communities more than it has a list has room at most, behind a longer one. Room for
-/// one more is let go, for just as much as is needed.
+/// The largest spare capacity of a list of communities, in communities, once it has held a longer
+/// one. With capacity for one more, its memory is freed, and it gets capacity for just what it
+/// needs.
 pub(crate) const MOST_SPARE: u8 = 32;
 
-/// How a route came into BGP (RFC 4271, section 5.1.1).
+/// The origin of a route (RFC 4271, section 5.1.1).
 #[derive(Clone, Copy, Debug, PartialEq, Eq)]
 pub enum Origin {
-    /// It comes from inside its AS.
+    /// A route that originates inside its AS.
     Igp,
-    /// It was learnt by EGP.
+    /// A route learned through EGP.
     Egp,
-    /// It was learnt otherwise.
+    /// A route learned in another way.
     Incomplete,
 }
 
-/// Who has formed an aggregate route (RFC 4271, section 5.1.7).
+/// The BGP speaker that formed an aggregate route (RFC 4271, section 5.1.7).
 #[derive(Clone, Copy, Debug)]
 pub struct Aggregator {
-    /// The speaker's IPv4 address.
+    /// The IPv4 address of the speaker.
     pub addr: Addr,
-    /// Its AS number.
+    /// The AS number of the speaker.
     pub asn: u32,
 }
 
-/// The communities of a route (RFC 1997), each a number of 32 bits.
+/// The communities of a route (RFC 1997), each a 32-bit number.
 pub type Communities = ListOf<u32>;
 
-/// The path attributes of a route. Those that are absent are `None`, false or empty.
+/// The path attributes of a route. Absent attributes are `None`, false or empty.
 #[derive(Debug, Drop)]
 pub struct Attrs {
-    /// NEXT_HOP (RFC 4271, section 5.1.3), or the next hop of MP_REACH_NLRI (RFC 4760, section 3).
+    /// The next hop of NEXT_HOP (RFC 4271, section 5.1.3) or MP_REACH_NLRI (RFC 4760, section 3).
     pub next_hop: Option<Addr>,
-    /// AGGREGATOR (RFC 4271, section 5.1.7).
+    /// The value of AGGREGATOR (RFC 4271, section 5.1.7).
     pub aggregator: Option<Aggregator>,
-    /// AS_PATH (RFC 4271, section 5.1.2). An absent path has no segments.
+    /// The AS path (RFC 4271, section 5.1.2), which has no segments if AS_PATH is absent.
     pub path: AsPath,
-    /// COMMUNITIES (RFC 1997).
+    /// The communities (RFC 1997).
     pub communities: Communities,
-    /// MULTI_EXIT_DISC (RFC 4271, section 5.1.4).
+    /// The value of MULTI_EXIT_DISC (RFC 4271, section 5.1.4).
     pub med: Option<u32>,
-    /// LOCAL_PREF (RFC 4271, section 5.1.5).
+    /// The value of LOCAL_PREF (RFC 4271, section 5.1.5).
     pub local_pref: Option<u32>,
-    /// ORIGIN (RFC 4271, section 5.1.1).
+    /// The value of ORIGIN (RFC 4271, section 5.1.1).
     pub origin: Option<Origin>,
-    /// Whether ATOMIC_AGGREGATE is there (RFC 4271, section 5.1.6).
+    /// Whether ATOMIC_AGGREGATE is present (RFC 4271, section 5.1.6).
     pub atomic: bool,
 }
 
 impl Attrs {
-    /// Attributes of which none is there.
+    /// Returns attributes that are all absent, without allocating memory.
     pub fn none(alloc: Global) -> Attrs
         ensures { result ≡ no_attrs }
     {
@@ -75,8 +77,9 @@ impl Attrs {
     }
 }
 
-/// Copies attributes in place of others, whose memory is used again. Refused, it leaves those
-/// without path and communities.
+/// Copies `other` into `attrs`, whose memory is reused. On error, which means that memory
+/// allocation fails, the path and the communities of `attrs` are empty, and the rest of it is
+/// unchanged.
 pub fn replace_attrs(alloc: Global, attrs: &mut Attrs, other: &Attrs) -> Result<(), AllocError>
     ensures replaced { OnOk result (attrs.new ≡ other.now) }
     ensures left { OnErr result (attrs.new ≡ without_lists attrs.old) }

@@ -1,4 +1,5 @@
-//! Path attributes as they are framed, and the numbers of their types.
+//! The framing of path attributes: flags, a type, a length and a value (RFC 4271, section 4.3). The
+//! parser of lists (`attribute_list.rt`) calls [`split_attribute`]; read that function first.
 
 ghost use Rattle.std.specs.Prelude.{◌≡◌, ℕ, ◌<◌, List, ◌++◌, IfSome, IfNone};
 ghost use Rattle.ip_prefix.specs.Sequences.{Begins};
@@ -7,39 +8,39 @@ ghost use Rattle.bgp_wire.specs.Attribute.{SpellsAttribute, is_extended, length_
 
 use crate::lengths::{LENGTH_SIZE, read_length};
 
-/// The flag of an attribute whose length has two octets (RFC 4271, section 4.3).
+/// The flag of an attribute whose length takes two octets (RFC 4271, section 4.3).
 pub const EXTENDED_LENGTH: u8 = 0x10;
 
-/// The types of attributes are below this, as far as they are read. Of an attribute of this type or one
-/// above, only the frame is read, and it may be there more than once.
+/// The exclusive upper bound of the attribute types that are parsed. Of an attribute of this type
+/// or one above, only the frame is read, and a list may have several of them.
 pub(crate) const KINDS: usize = 19;
 
-/// The type of ORIGIN (RFC 4271, section 4.3).
+/// The attribute type of ORIGIN (RFC 4271, section 4.3).
 pub const ORIGIN: u8 = 1;
-/// The type of AS_PATH.
+/// The attribute type of AS_PATH (RFC 4271, section 4.3).
 pub const AS_PATH: u8 = 2;
-/// The type of NEXT_HOP.
+/// The attribute type of NEXT_HOP (RFC 4271, section 4.3).
 pub(crate) const NEXT_HOP: u8 = 3;
-/// The type of MULTI_EXIT_DISC.
+/// The attribute type of MULTI_EXIT_DISC (RFC 4271, section 4.3).
 pub(crate) const MULTI_EXIT_DISC: u8 = 4;
-/// The type of LOCAL_PREF.
+/// The attribute type of LOCAL_PREF (RFC 4271, section 4.3).
 pub(crate) const LOCAL_PREF: u8 = 5;
-/// The type of ATOMIC_AGGREGATE.
+/// The attribute type of ATOMIC_AGGREGATE (RFC 4271, section 4.3).
 pub(crate) const ATOMIC_AGGREGATE: u8 = 6;
-/// The type of AGGREGATOR.
+/// The attribute type of AGGREGATOR (RFC 4271, section 4.3).
 pub(crate) const AGGREGATOR: u8 = 7;
-/// The type of COMMUNITIES (RFC 1997).
+/// The attribute type of COMMUNITIES (RFC 1997).
 pub(crate) const COMMUNITIES: u8 = 8;
-/// The type of MP_REACH_NLRI (RFC 4760, section 3).
+/// The attribute type of MP_REACH_NLRI (RFC 4760, section 3).
 pub const MP_REACH_NLRI: u8 = 14;
-/// The type of MP_UNREACH_NLRI (RFC 4760, section 4).
+/// The attribute type of MP_UNREACH_NLRI (RFC 4760, section 4).
 pub(crate) const MP_UNREACH_NLRI: u8 = 15;
-/// The type of AS4_PATH (RFC 6793, section 3).
+/// The attribute type of AS4_PATH (RFC 6793, section 3).
 pub(crate) const AS4_PATH: u8 = 17;
-/// The type of AS4_AGGREGATOR (RFC 6793, section 3).
+/// The attribute type of AS4_AGGREGATOR (RFC 6793, section 3).
 pub(crate) const AS4_AGGREGATOR: u8 = 18;
 
-/// An attribute in front of octets: its type and value, and what follows it.
+/// The type and the value of an attribute at the start of a slice, and the octets after it.
 #[derive(Clone, Copy)]
 pub(crate) struct FramedAttribute<'a> {
     pub(crate) value: &'a [u8],
@@ -47,7 +48,9 @@ pub(crate) struct FramedAttribute<'a> {
     pub(crate) kind: u8,
 }
 
-/// The length in front of the octets, and what follows it.
+/// Parses the length of an attribute with these flags at the start of `octets`, of two octets,
+/// big-endian, if [`EXTENDED_LENGTH`] is set, or else of one (RFC 4271, section 4.3). Returns it
+/// with the octets after it, or `None` if `octets` has too few.
 fn split_length(flags: u8, octets: &[u8]) -> Option<(usize, &[u8])>
     ensures some { IfSome result (λ found. (found.0 < length_limit (is_extended flags))
         × (octets.now ≡ length_octets (is_extended flags) found.0 ++ found.1.now)) }
@@ -65,7 +68,8 @@ fn split_length(flags: u8, octets: &[u8]) -> Option<(usize, &[u8])>
     Some((read_length(front), rest))
 }
 
-/// The attribute in front of the octets.
+/// Splits an attribute off the start of `octets` (RFC 4271, section 4.3), or returns `None` if
+/// `octets` is shorter than the attribute.
 #[inline]
 pub(crate) fn split_attribute(octets: &[u8]) -> Option<FramedAttribute<'_>>
     ensures some { IfSome result (λ f. (flags : ℕ) × Begins SpellsAttribute

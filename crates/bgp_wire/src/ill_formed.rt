@@ -1,11 +1,12 @@
-//! The fault of octets that are read without a request for memory.
+//! The error of parsers that allocate no memory. Parsers that do allocate convert it to a
+//! [`WireFault`].
 
 ghost use Rattle.std.specs.Prelude.{◌≡◌};
 ghost use Rattle.bgp_paths.specs.declared.fault.WireFault.TheVariants.{Malformed};
 
 use bgp_paths::WireFault;
 
-/// The octets don't have the form of what was to be read. No memory was asked for.
+/// The octets don't have the expected form.
 #[derive(Clone, Copy)]
 pub(crate) struct IllFormed;
 

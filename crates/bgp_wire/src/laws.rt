@@ -1,4 +1,6 @@
-//! Laws of the definitions, which call nothing.
+//! Theorems about the definitions that the contracts of this crate cite. The functions have no code
+//! and nothing calls them: what they state is proved as the crate is checked. `docs/proved.md`
+//! names them.
 
 ghost use Rattle.std.specs.Prelude.{◌≡◌};
 ghost use Rattle.ip_prefix.specs.declared.addr.Family.{Family};
@@ -15,24 +17,27 @@ ghost use Rattle.bgp_wire.specs.Attribute.{SpellsAttribute};
 ghost use Rattle.bgp_wire.specs.Content.{SpellsRibAttrs};
 ghost use Rattle.bgp_wire.specs.Update.{SpellsMessage, SpellsUpdate};
 
-/// No octets spell two lists of attributes (RFC 4271, section 4.3).
+/// Proves that octets encode at most one list of path attributes (RFC 4271, section 4.3).
 pub fn one_attribute_list()
     ensures { IsOne (SpellsAll SpellsAttribute) }
 {}
 
-/// No octets spell two attributes of a RIB entry for a family, with AS numbers of one width.
+/// Proves that octets encode at most one set of attributes of a RIB entry, for a family and a width
+/// of AS numbers (RFC 6396, section 4.3.4).
 pub fn one_table_entry()
     ensures { (family : Family) (width : AsWidth) → IsOne (SpellsRibAttrs family width) }
 {}
 
-/// No octets spell two messages, nor two UPDATEs as the body of one, with AS numbers of one width.
+/// Proves that octets encode at most one message, and as a body at most one UPDATE, for a width of
+/// AS numbers (RFC 4271, sections 4.1 and 4.3).
 pub fn one_message()
     ensures message { (width : AsWidth) → IsOne (SpellsMessage width) }
     ensures update { (width : AsWidth) → IsOne (SpellsUpdate width) }
 {}
 
-/// The numbers that the definitions name: of attributes (RFC 4271, section 4.3; RFC 4760;
-/// RFC 6793), of messages (RFC 4271, section 4.1) and of families (RFC 4760).
+/// Proves the values of the numbers that the definitions name: of attributes (RFC 4271, section
+/// 4.3; RFC 4760; RFC 6793), of messages (RFC 4271, section 4.1) and of address families (RFC
+/// 4760).
 pub fn attribute_numbers()
     ensures extended_length { EXTENDED_LENGTH ≡ 16 }
     ensures kinds { KINDS ≡ 19 }

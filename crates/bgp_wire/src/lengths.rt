@@ -1,14 +1,15 @@
-//! Lengths in front of what they count.
+//! Length fields of two octets. The parsers of messages (`message.rt`), of UPDATEs (`update.rt`)
+//! and of attributes (`framing.rt`) call [`read_length`].
 
 ghost use Rattle.std.specs.Prelude.{◌≡◌, ◌<◌, ◌^◌, length};
 ghost use Rattle.std.specs.Int.{to_be_bytes, w16};
 
 use byteorder::{BigEndian, ByteOrder};
 
-/// How many octets a length takes, where it takes more than one (RFC 4271, sections 4.1 and 4.3).
+/// The size of a length field that isn't of one octet, in octets (RFC 4271, sections 4.1 and 4.3).
 pub(crate) const LENGTH_SIZE: usize = 2;
 
-/// The length that two octets say.
+/// Returns the big-endian number that `octets`, which must be two, encode.
 #[inline]
 pub(crate) fn read_length(octets: &[u8]) -> usize
     requires { length octets.now ≡ LENGTH_SIZE }

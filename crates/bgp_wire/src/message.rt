@@ -1,4 +1,6 @@
-//! BGP messages (RFC 4271, section 4).
+//! A parser of BGP messages (RFC 4271, section 4). Parsers of BGP4MP records call
+//! [`replace_message`], which reuses memory. Read `parts.rt`, for what is parsed, and then
+//! [`fill_message`].
 
 ghost use Rattle.std.specs.Prelude.{◌≡◌, ℕ, List, Ok, IfSome, IfNone, IfOk, IfErr, OnErr};
 ghost use Rattle.bgp_wire.specs.Update.{IsMessage, SpellsMessage};
@@ -11,33 +13,35 @@ use crate::update::fill_update;
 use bgp_paths::{AsWidth, WireFault};
 use std::alloc::Global;
 
-/// A message.
+/// A BGP message (RFC 4271, section 4).
 #[derive(Debug, Drop)]
 pub enum Message {
-    /// An UPDATE.
+    /// An UPDATE message.
     Update(Update),
-    /// A message of another type, with that type. Its body isn't read.
+    /// A message of another type, with the type's number. Its body isn't parsed.
     Other(u8),
 }
 
-/// The type of an UPDATE (RFC 4271, section 4.1).
+/// The message type of an UPDATE (RFC 4271, section 4.1).
 const UPDATE: u8 = 2;
 
-/// How many octets a message has before its body (RFC 4271, section 4.1): the marker, the length
-/// and the type.
+/// The size of a message header, in octets: the marker, the length and the type (RFC 4271, section
+/// 4.1).
 const HEADER_SIZE: usize = 19;
 
-/// How many octets the marker has (RFC 4271, section 4.1).
+/// The size of the marker, in octets (RFC 4271, section 4.1).
 const MARKER_SIZE: usize = 16;
 
-/// A message as it is framed: its type and its body.
+/// The type and the body of a message.
 #[derive(Clone, Copy)]
 struct FramedMessage<'a> {
     kind: u8,
     body: &'a [u8],
 }
 
-/// The type and the body of the message that the octets are.
+/// Splits the message `octets` into its type and its body (RFC 4271, section 4.1). Returns `None`
+/// if `octets` is shorter than a header, or if its length isn't the one in the header. The marker
+/// isn't checked.
 fn frame_message(octets: &[u8]) -> Option<FramedMessage<'_>>
     ensures some { IfSome result (λ f. IsMessage f.kind f.body.now octets.now) }
     ensures none { IfNone result ((kind : ℕ) (body : List ℕ) →
@@ -55,7 +59,8 @@ fn frame_message(octets: &[u8]) -> Option<FramedMessage<'_>>
     Some(FramedMessage { kind, body })
 }
 
-/// The message that the octets are, with AS numbers of this width in AS_PATH.
+/// Parses the message `octets`, whose AS_PATH has AS numbers of `width`. Fails with `Malformed` if
+/// the octets have another form, or with `Memory` if memory allocation fails.
 pub fn read_message(alloc: Global, width: AsWidth, octets: &[u8]) -> Result<Message, WireFault>
     ensures { Reads (SpellsMessage width) octets.now result }
 {
@@ -66,8 +71,9 @@ pub fn read_message(alloc: Global, width: AsWidth, octets: &[u8]) -> Result<Mess
     }
 }
 
-/// Makes the parts those of the message that the octets are, if it is an UPDATE. Refused, nothing
-/// is said of them.
+/// Parses the message `octets`, whose AS_PATH has AS numbers of `width`, into `parts` if it is an
+/// UPDATE; a message of another type leaves them unchanged. Fails with `Malformed` if the octets
+/// have another form, or with `Memory` if memory allocation fails; `parts` is unspecified then.
 #[inline]
 fn fill_message(
     alloc: Global,
@@ -90,9 +96,10 @@ fn fill_message(
     Ok(MessageKind::Update)
 }
 
-/// Reads the message that the octets are, and puts the parts of an UPDATE in place of those that
-/// aren't needed any more, whose memory is used again. A message of another type leaves them; one
-/// that is refused leaves none.
+/// Parses the message `octets`, whose AS_PATH has AS numbers of `width`, into `parts` if it is an
+/// UPDATE, and reuses their memory. A message of another type leaves them unchanged. Fails with
+/// `Malformed` if the octets have another form, or with `Memory` if memory allocation fails;
+/// `parts` is empty then.
 pub fn replace_message(
     alloc: Global,
     parts: &mut UpdateParts,

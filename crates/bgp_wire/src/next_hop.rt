@@ -1,4 +1,6 @@
-//! Reading next hops (RFC 4760, section 3; RFC 2545, section 3).
+//! Parsers of next hops in MP_REACH_NLRI (RFC 4760, section 3; RFC 2545, section 3). The parser of
+//! RIB entries calls [`fill_rib_hop`], and the parser of UPDATEs calls [`read_next_hop`], which is
+//! to be read first.
 
 ghost use Rattle.std.specs.Prelude.{◌≡◌, if◌then◌else◌, Option, Some, length, OnOk, OnErr};
 ghost use Rattle.ip_prefix.specs.Network.{Address};
@@ -12,20 +14,22 @@ use crate::ill_formed::IllFormed;
 use crate::values::{IPV4_SIZE, ipv4};
 use ip_prefix::{Addr, Family};
 
-/// How many octets an address family and a subsequent one take (RFC 4760, section 3).
+/// The size of an address family and a subsequent address family, in octets (RFC 4760, section 3).
 pub(crate) const FAMILY_SIZE: usize = 3;
 
-/// How many octets an IPv6 address has (RFC 4291, section 2).
+/// The size of an IPv6 address, in octets (RFC 4291, section 2).
 const IPV6_SIZE: usize = 16;
 
-/// How many octets the link-local address behind an IPv6 next hop has (RFC 2545, section 3).
+/// The size of the link-local address after an IPv6 next hop, in octets (RFC 2545, section 3).
 const LINK_LOCAL_SIZE: usize = 16;
 
-/// How many octets an IPv6 next hop has with a link-local address behind it.
+/// The size of an IPv6 next hop with a link-local address after it, in octets (RFC 2545, section
+/// 3).
 const BOTH_SIZE: usize = 32;
 
-/// The next hop that the octets spell: an address, and for IPv6 also with a link-local one behind
-/// it.
+/// Parses the next hop `octets`: an IPv4 address, or an IPv6 address, after which a link-local one
+/// is ignored (RFC 4760, section 3; RFC 2545, section 3). Returns `None` if `octets` has another
+/// length.
 pub(crate) fn read_next_hop(octets: &[u8]) -> Option<Addr>
     ensures { Finds SpellsNextHop octets.now result }
 {
@@ -40,7 +44,9 @@ pub(crate) fn read_next_hop(octets: &[u8]) -> Option<Addr>
     }
 }
 
-/// The next hop whose length the octets begin with.
+/// Parses the next hop at the start of `octets`, with its length of one octet in front of it.
+/// Ignores the octets after it. Returns `None` if `octets` is shorter, or if no next hop has that
+/// length.
 fn read_hop_alone(octets: &[u8]) -> Option<Addr>
     ensures { Finds SpellsHopAlone octets.now result }
 {
@@ -49,11 +55,13 @@ fn read_hop_alone(octets: &[u8]) -> Option<Addr>
     read_next_hop(hop)
 }
 
-/// The next hop of MP_REACH_NLRI in a RIB entry: abbreviated, or in full (RFC 6396, section
-/// 4.3.4). No next hop has a length of 0, so a first octet of 0 tells the full form.
+/// Parses the value of MP_REACH_NLRI in a RIB entry, abbreviated to the next hop or in full (RFC
+/// 6396, section 4.3.4). Returns `None` if it has neither form.
 fn read_rib_value(octets: &[u8]) -> Option<Addr>
     ensures { Finds SpellsRibHop octets.now result }
 {
+    // No next hop has a length of 0, so a first octet of 0 is the first of an address family, and
+    // the form is the full one.
     let (&first, _) = octets.split_first()?;
     if first != 0 {
         return read_hop_alone(octets);
@@ -62,8 +70,10 @@ fn read_rib_value(octets: &[u8]) -> Option<Addr>
     read_hop_alone(rest)
 }
 
-/// Makes the next hop of NEXT_HOP that of a RIB entry, which may be that of MP_REACH_NLRI with this
-/// value. Most often it stays. Refused, it does too.
+/// Sets `hop`, which is of NEXT_HOP, to the next hop of a RIB entry for a prefix of `family`: for
+/// IPv6, or without NEXT_HOP, that is the next hop in `value`, the value of MP_REACH_NLRI (RFC
+/// 6396, section 4.3.4). Without MP_REACH_NLRI, `hop` is left as it was. Fails if `value` has
+/// another form, and leaves `hop` as it was.
 #[inline(always)]
 pub(crate) fn fill_rib_hop(
     family: Family,

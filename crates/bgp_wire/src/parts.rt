@@ -1,4 +1,5 @@
-//! An UPDATE, whole and in parts; others are read in place of its parts.
+//! A parsed UPDATE (RFC 4271, section 4.3), in two forms. Messages are parsed into [`UpdateParts`],
+//! whose memory is reused for the next; [`Update`] is for a caller that keeps it.
 
 ghost use Rattle.std.specs.Prelude.{◌≡◌, IfOk};
 ghost use Rattle.bgp_wire.specs.Reach.{attrs_with};
@@ -9,53 +10,56 @@ use crate::prefixes::Prefixes;
 use ip_prefix::Addr;
 use std::alloc::{AllocError, Global};
 
-/// An UPDATE: prefixes that a peer withdraws and prefixes that it announces.
+/// An UPDATE message: the prefixes that a peer withdraws and those that it announces (RFC 4271,
+/// section 4.3).
 #[derive(Debug, Drop)]
 pub struct Update {
-    /// The IPv4 prefixes that are withdrawn.
+    /// The prefixes in the Withdrawn Routes field, which are of IPv4 (RFC 4271, section 4.3).
     pub withdrawn: Prefixes,
     /// The prefixes that MP_UNREACH_NLRI withdraws (RFC 4760, section 4).
     pub mp_withdrawn: Prefixes,
-    /// The attributes of `announced`, with the next hop of NEXT_HOP.
+    /// The attributes of the prefixes in `announced`, with the next hop of NEXT_HOP.
     pub attrs: Attrs,
-    /// The IPv4 prefixes that are announced.
+    /// The prefixes in the Network Layer Reachability Information field, which are of IPv4 (RFC
+    /// 4271, section 4.3).
     pub announced: Prefixes,
-    /// The attributes of `mp_announced`, where there are such prefixes: `attrs` with the next hop
-    /// of MP_REACH_NLRI.
+    /// The attributes of the prefixes in `mp_announced`, which are `attrs` with the next hop of
+    /// MP_REACH_NLRI, or `None` if there are no such prefixes.
     pub mp_attrs: Option<Attrs>,
     /// The prefixes that MP_REACH_NLRI announces (RFC 4760, section 3).
     pub mp_announced: Prefixes,
 }
 
-/// An UPDATE in parts. The attributes of the prefixes that MP_REACH_NLRI announces aren't there:
-/// they are `attrs` but for the next hop.
+/// An UPDATE message whose memory can be reused. It has no copy of the attributes for the prefixes
+/// that MP_REACH_NLRI announces: they are `attrs` with `mp_hop` as the next hop.
 #[derive(Debug, Drop)]
 pub struct UpdateParts {
-    /// The IPv4 prefixes that are withdrawn.
+    /// The prefixes in the Withdrawn Routes field, which are of IPv4 (RFC 4271, section 4.3).
     pub withdrawn: Prefixes,
     /// The prefixes that MP_UNREACH_NLRI withdraws (RFC 4760, section 4).
     pub mp_withdrawn: Prefixes,
-    /// The attributes of `announced`, with the next hop of NEXT_HOP.
+    /// The attributes of the prefixes in `announced`, with the next hop of NEXT_HOP.
     pub attrs: Attrs,
-    /// The IPv4 prefixes that are announced.
+    /// The prefixes in the Network Layer Reachability Information field, which are of IPv4 (RFC
+    /// 4271, section 4.3).
     pub announced: Prefixes,
-    /// The next hop of MP_REACH_NLRI, where it announces unicast prefixes, or none.
+    /// The next hop of MP_REACH_NLRI, or `None` if it is absent or isn't of IPv4 or IPv6 unicast.
     pub mp_hop: Option<Addr>,
     /// The prefixes that MP_REACH_NLRI announces (RFC 4760, section 3).
     pub mp_announced: Prefixes,
 }
 
-/// What a message is that was read into parts.
+/// The kind of a message that was parsed into [`UpdateParts`].
 #[derive(Clone, Copy, Debug)]
 pub enum MessageKind {
-    /// An UPDATE, of these parts.
+    /// An UPDATE, which is in the parts.
     Update,
-    /// A message of another type, with that type.
+    /// A message of another type, with the type's number.
     Other(u8),
 }
 
 impl UpdateParts {
-    /// Those of an UPDATE that says nothing. They take no memory.
+    /// Returns the parts of an UPDATE without prefixes and attributes, without allocating memory.
     pub fn none(alloc: Global) -> UpdateParts
         ensures { result ≡ no_parts }
     {
@@ -69,7 +73,8 @@ impl UpdateParts {
         }
     }
 
-    /// The UPDATE of these parts.
+    /// Converts the parts into an [`Update`]. The attributes are copied if `mp_announced` has
+    /// prefixes; fails if memory allocation for the copy fails.
     pub fn into_update(self) -> Result<Update, AllocError>
         ensures { IfOk result (λ update. update ≡ update_in self) }
     {

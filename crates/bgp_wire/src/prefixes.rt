@@ -1,4 +1,5 @@
-//! Lists of prefixes.
+//! A parser of lists of prefixes (RFC 4271, section 4.3). The parser of UPDATEs calls
+//! [`fill_prefixes`] for each of their lists.
 
 ghost use Rattle.std.specs.Prelude.{OnOk, IfErr};
 ghost use Rattle.ip_prefix.specs.Sequences.{SpellsAll};
@@ -8,11 +9,12 @@ ghost use Rattle.bgp_paths.specs.Readers.{Refuses};
 use bgp_paths::{ListOf, WireFault};
 use ip_prefix::{Family, Prefix};
 
-/// Prefixes that are announced or withdrawn together.
+/// The prefixes that a message announces or withdraws together.
 pub type Prefixes = ListOf<Prefix>;
 
-/// Makes the prefixes those of a family that the octets are, one behind the other (RFC 4271,
-/// section 4.3). Refused, nothing is said of them.
+/// Parses `octets`, prefixes of `family` one after the other, into `prefixes` (RFC 4271, section
+/// 4.3). Fails with `Malformed` if the octets have another form, or with `Memory` if memory
+/// allocation fails; `prefixes` is unspecified then.
 #[inline(always)]
 pub(crate) fn fill_prefixes(
     prefixes: &mut Prefixes,
@@ -29,7 +31,8 @@ pub(crate) fn fill_prefixes(
     fill_some_prefixes(prefixes, family, octets)
 }
 
-/// The same, out of line: of most UPDATEs some lists are empty.
+/// Parses `octets`, prefixes of `family` one after the other, into `prefixes` as [`fill_prefixes`]
+/// does.
 #[inline(never)]
 fn fill_some_prefixes(
     prefixes: &mut Prefixes,
@@ -39,6 +42,7 @@ fn fill_some_prefixes(
     ensures filled { OnOk result (SpellsAll (SpellsNetwork family) prefixes.new octets.now) }
     ensures refused { IfErr result (Refuses (SpellsAll (SpellsNetwork family)) octets.now) }
 {
+    // This isn't inlined: in most UPDATEs some of the lists are empty.
     let list = &mut prefixes.items;
     list.clear();
     let mut rest = octets;

@@ -1,4 +1,5 @@
-//! Reading what MP_REACH_NLRI and MP_UNREACH_NLRI of an UPDATE say (RFC 4760, sections 3 and 4).
+//! Parsers of MP_REACH_NLRI and MP_UNREACH_NLRI in UPDATEs (RFC 4760, sections 3 and 4). The parser
+//! of UPDATEs calls [`fill_reach`] and [`fill_unreach`]. Read [`Scope`] first.
 
 ghost use Rattle.std.specs.Prelude.{◌≡◌, ℕ, List, Option, IfSome, IfNone, IfErr, OnOk};
 ghost use Rattle.ip_prefix.specs.Network.{Address};
@@ -12,23 +13,25 @@ use crate::prefixes::{Prefixes, fill_prefixes};
 use bgp_paths::WireFault;
 use ip_prefix::{Addr, Family};
 
-/// The number of IPv4 among address families (RFC 4760, section 3), which is sent in two octets.
+/// The address family of IPv4, which is sent in two octets (RFC 4760, section 3).
 const AFI_IPV4: u8 = 1;
-/// The number of IPv6 among them.
+/// The address family of IPv6, which is sent in two octets (RFC 4760, section 3).
 const AFI_IPV6: u8 = 2;
-/// The number of unicast among subsequent address families (RFC 4760, section 6).
+/// The subsequent address family of unicast (RFC 4760, section 6).
 const SAFI_UNICAST: u8 = 1;
 
-/// How the value of MP_REACH_NLRI or of MP_UNREACH_NLRI begins.
+/// The address families at the start of the value of MP_REACH_NLRI or MP_UNREACH_NLRI.
 #[derive(Clone, Copy)]
 enum Scope<'a> {
-    /// With unicast of a family, and then these octets.
+    /// Unicast of a family, and the octets after the address families.
     Unicast(Family, &'a [u8]),
-    /// With another address family, or another use of one.
+    /// Another address family, or another subsequent address family.
     Another,
 }
 
-/// How the octets begin: with an address family of two octets and a subsequent one of one.
+/// Parses the address family, of two octets, and the subsequent address family, of one, at the
+/// start of `octets` (RFC 4760, sections 3 and 4). Returns `None` if `octets` has fewer than three
+/// octets.
 fn read_scope(octets: &[u8]) -> Option<Scope<'_>>
     ensures { BeginsIn octets.now result }
 {
@@ -40,14 +43,16 @@ fn read_scope(octets: &[u8]) -> Option<Scope<'_>>
     }
 }
 
-/// A next hop in front of octets, and what follows it and its reserved octet.
+/// A next hop at the start of a slice, and the octets after it and after its reserved octet.
 #[derive(Clone, Copy)]
 struct FramedHop<'a> {
     hop: Addr,
     rest: &'a [u8],
 }
 
-/// The next hop in front of the octets, with its length before it and a reserved octet behind it.
+/// Parses the next hop at the start of `octets`, between its length, of one octet, and a reserved
+/// octet (RFC 4760, section 3). Returns `None` if `octets` is shorter, or if no next hop has that
+/// length.
 fn split_next_hop(octets: &[u8]) -> Option<FramedHop<'_>>
     ensures some { IfSome result (λ f. HopStands f.hop f.rest.now octets.now) }
     ensures none { IfNone result ((hop : Address) (rest : List ℕ) →
@@ -64,8 +69,10 @@ fn split_next_hop(octets: &[u8]) -> Option<FramedHop<'_>>
     Some(FramedHop { hop, rest })
 }
 
-/// Makes the next hop and the prefixes those that MP_REACH_NLRI announces. There are none where it
-/// is absent or of another family. Refused, nothing is said of them.
+/// Parses the value of MP_REACH_NLRI into `next_hop` and `prefixes` (RFC 4760, section 3). If it is
+/// absent or isn't of IPv4 or IPv6 unicast, they become `None` and empty. Fails with `Malformed` if
+/// the value has another form, or with `Memory` if memory allocation fails; both are unspecified
+/// then.
 pub(crate) fn fill_reach(
     next_hop: &mut Option<Addr>,
     prefixes: &mut Prefixes,
@@ -93,8 +100,9 @@ pub(crate) fn fill_reach(
     }
 }
 
-/// Makes the prefixes those that MP_UNREACH_NLRI withdraws. There are none where it is absent or
-/// of another family. Refused, nothing is said of them.
+/// Parses the value of MP_UNREACH_NLRI into `prefixes` (RFC 4760, section 4). If it is absent or
+/// isn't of IPv4 or IPv6 unicast, they become empty. Fails with `Malformed` if the value has
+/// another form, or with `Memory` if memory allocation fails; `prefixes` is unspecified then.
 pub(crate) fn fill_unreach(prefixes: &mut Prefixes, value: Option<&[u8]>) -> Result<(), WireFault>
     ensures filled { OnOk result (SaysUnreach prefixes.new (octets_of value.entry)) }
     ensures refused { IfErr result (Refuses SaysUnreach (octets_of value.entry)) }

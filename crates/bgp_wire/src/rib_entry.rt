@@ -1,4 +1,5 @@
-//! The path attributes of RIB entries.
+//! A parser of the path attributes of RIB entries (RFC 6396, section 4.3.4). The parser of RIB
+//! records calls [`replace_rib_attrs`]; read [`fill_rib_attrs`] first.
 
 ghost use Rattle.std.specs.Prelude.{◌≡◌, OnOk, OnErr, IfErr};
 ghost use Rattle.bgp_wire.specs.Content.{SpellsRibAttrs};
@@ -15,7 +16,9 @@ use bgp_paths::{AsWidth, WireFault};
 use ip_prefix::Family;
 use std::alloc::Global;
 
-/// Makes the attributes those of a RIB entry. Refused, nothing is said of them.
+/// Parses the path attributes `octets` of a RIB entry for a prefix of `family` into `attrs`, with
+/// AS numbers of `width` in AS_PATH (RFC 6396, section 4.3.4). Fails with `Malformed` if the octets
+/// have another form, or with `Memory` if memory allocation fails; `attrs` is unspecified then.
 #[inline]
 fn fill_rib_attrs(
     alloc: Global,
@@ -39,8 +42,9 @@ fn fill_rib_attrs(
     Ok(())
 }
 
-/// The attributes of a RIB entry for a prefix of this family, with AS numbers of this width in
-/// the path (RFC 6396, section 4.3.4).
+/// Parses the path attributes `octets` of a RIB entry for a prefix of `family`, with AS numbers of
+/// `width` in AS_PATH (RFC 6396, section 4.3.4). Fails with `Malformed` if the octets have another
+/// form, or with `Memory` if memory allocation fails.
 pub fn read_rib_attrs(
     alloc: Global,
     family: Family,
@@ -54,8 +58,9 @@ pub fn read_rib_attrs(
     Ok(attrs)
 }
 
-/// The same, in place of attributes that aren't needed any more, whose memory is used again.
-/// Refused, it leaves none.
+/// Parses the path attributes `octets` of a RIB entry, as [`read_rib_attrs`] does, into `attrs`,
+/// whose memory is reused. Fails with `Malformed` if the octets have another form, or with `Memory`
+/// if memory allocation fails; all attributes are absent then.
 pub fn replace_rib_attrs(
     alloc: Global,
     attrs: &mut Attrs,

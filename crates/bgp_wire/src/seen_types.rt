@@ -1,4 +1,5 @@
-//! Which types of attributes a list has.
+//! A set of the types of attributes that a list has. The parser of lists (`attribute_list.rt`)
+//! fills it, and the parsers of UPDATEs and of RIB entries ask it for types that are there twice.
 
 ghost use Rattle.std.specs.Prelude.{◌≡◌, ◌<◌, List, [], ◌∷◌, ◌++◌, true, false, None, is_some};
 ghost use Rattle.bgp_wire.specs.Attribute.{Attribute, first_value, repeats};
@@ -7,7 +8,8 @@ ghost use Rattle.bgp_wire.specs.PlainValues.{Tells};
 use crate::framing::KINDS;
 use std::marker::Model;
 
-/// By type, whether an attribute was seen, and whether more than one was.
+/// The types of attributes seen in a list, and those seen more than once. The types are below
+/// [`KINDS`].
 #[derive(Drop)]
 pub(crate) struct SeenTypes {
     seen: [bool; KINDS],
@@ -27,7 +29,7 @@ impl Model for SeenTypes {
 }
 
 impl SeenTypes {
-    /// Those of no attributes.
+    /// Returns an empty set.
     #[inline]
     pub(crate) fn none() -> SeenTypes
         ensures { Tells result [] }
@@ -38,8 +40,9 @@ impl SeenTypes {
         }
     }
 
-    /// Notes the type of the next attribute of the list, and answers whether one of the type came
-    /// before. Of a type that isn't read nothing is noted.
+    /// Adds the type `kind` of the next attribute of the list, and returns `true` if the list had
+    /// an attribute of this type before. A type that isn't below [`KINDS`] isn't added, and `false`
+    /// is returned for it.
     #[inline]
     pub(crate) fn note(&mut self, kind: u8) -> bool
         ensures noted { (list : List Attribute) (a : Attribute) → a.kind ≡ kind →
@@ -61,7 +64,7 @@ impl SeenTypes {
         false
     }
 
-    /// Whether an attribute is of a type.
+    /// Returns `true` if an attribute of type `kind` was seen. `kind` must be below [`KINDS`].
     #[inline]
     pub(crate) fn has(&self, kind: u8) -> bool
         requires { kind < KINDS }
@@ -71,7 +74,8 @@ impl SeenTypes {
         self.seen[usize::from(kind)]
     }
 
-    /// Whether more than one attribute is of a type.
+    /// Returns `true` if more than one attribute of type `kind` was seen. `kind` must be below
+    /// [`KINDS`].
     #[inline]
     pub(crate) fn repeats(&self, kind: u8) -> bool
         requires { kind < KINDS }

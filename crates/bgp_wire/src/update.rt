@@ -1,4 +1,5 @@
-//! Reading UPDATE messages (RFC 4271, section 4.3).
+//! A parser of UPDATE messages (RFC 4271, section 4.3). The parser of messages calls
+//! [`fill_update`]; read that function first.
 
 ghost use Rattle.std.specs.Prelude.{◌≡◌, ℕ, ◌<◌, ◌^◌, ◌++◌, List, length, IfSome, IfNone, IfErr, OnOk};
 ghost use Rattle.bgp_wire.specs.Parts.{update_in, SpellsParts};
@@ -17,7 +18,9 @@ use bgp_paths::{AsWidth, WireFault};
 use ip_prefix::Family;
 use std::alloc::Global;
 
-/// The octets behind their length, and what follows them.
+/// Splits a field off that begins with its length, a big-endian 16-bit number of octets. Returns
+/// the field's octets without the length, and the octets after the field. Returns `None` if
+/// `octets` is shorter than the field.
 fn split_sized(octets: &[u8]) -> Option<(&[u8], &[u8])>
     ensures some { IfSome result (λ found. (length found.0.now < 2 ^ 16)
         × (octets.now ≡ sized_octets found.0.now ++ found.1.now)) }
@@ -31,7 +34,10 @@ fn split_sized(octets: &[u8]) -> Option<(&[u8], &[u8])>
     rest.split_at_checked(read_length(len))
 }
 
-/// Makes the parts those that the octets of attributes say. Refused, nothing is said of them.
+/// Parses the path attributes `octets` of an UPDATE into `parts`: its attributes, with AS numbers
+/// of `width` in AS_PATH, and what MP_REACH_NLRI and MP_UNREACH_NLRI announce and withdraw. Fails
+/// with `Malformed` if the octets have another form, or with `Memory` if memory allocation fails;
+/// `parts` is unspecified then.
 #[inline]
 fn fill_said(
     alloc: Global,
@@ -55,8 +61,9 @@ fn fill_said(
     Ok(())
 }
 
-/// Makes the parts those of the UPDATE whose body the octets are, with AS numbers of this width in
-/// AS_PATH. Refused, nothing is said of them.
+/// Parses the body of an UPDATE into `parts`, with AS numbers of `width` in AS_PATH (RFC 4271,
+/// section 4.3). Fails with `Malformed` if the body has another form, or with `Memory` if memory
+/// allocation fails; `parts` is unspecified then.
 #[inline]
 pub(crate) fn fill_update(
     alloc: Global,

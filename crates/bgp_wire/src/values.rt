@@ -1,4 +1,6 @@
-//! Reading the values of path attributes, each where it is there.
+//! Parsers of the values of path attributes, one for each form (RFC 4271, section 4.3; RFC 6793,
+//! section 3). The parser of lists (`attribute_list.rt`) calls them for the first attribute of each
+//! type.
 
 ghost use Rattle.std.specs.Prelude.{◌≡◌, ◌+◌, length, Some, None, IsSome, OnOk, OnErr};
 ghost use Rattle.bgp_wire.specs.PlainValues.{octets_of};
@@ -15,24 +17,26 @@ use ip_prefix::Addr;
 
 /// The value of ORIGIN for IGP (RFC 4271, section 4.3).
 const ORIGIN_IGP: u8 = 0;
-/// Its value for EGP.
+/// The value of ORIGIN for EGP (RFC 4271, section 4.3).
 const ORIGIN_EGP: u8 = 1;
-/// Its value for INCOMPLETE.
+/// The value of ORIGIN for INCOMPLETE (RFC 4271, section 4.3).
 const ORIGIN_INCOMPLETE: u8 = 2;
 
-/// How many octets an IPv4 address has (RFC 791, section 3.2).
+/// The size of an IPv4 address, in octets (RFC 791, section 3.2).
 pub(crate) const IPV4_SIZE: usize = 4;
 
-/// How many octets a metric or a preference has (RFC 4271, section 4.3).
+/// The size of MULTI_EXIT_DISC and of LOCAL_PREF, in octets (RFC 4271, section 4.3).
 const WORD_SIZE: usize = 4;
 
-/// How many octets AGGREGATOR has with an AS number of two (RFC 4271, section 4.3).
+/// The size of AGGREGATOR with an AS number of two octets, in octets (RFC 4271, section 4.3).
 const AGGREGATOR_SIZE: usize = 6;
 
-/// How many octets it has with one of four, and AS4_AGGREGATOR (RFC 6793, section 3).
+/// The size of AS4_AGGREGATOR, and of AGGREGATOR with an AS number of four octets, in octets (RFC
+/// 6793, section 3).
 const AS4_AGGREGATOR_SIZE: usize = 8;
 
-/// The origin that the value of ORIGIN says (RFC 4271, section 4.3).
+/// Parses the value of ORIGIN (RFC 4271, section 4.3), or returns `None` if it isn't one octet of
+/// 0, 1 or 2.
 #[inline]
 pub(crate) fn read_origin(value: &[u8]) -> Option<Origin>
     ensures { Finds SpellsOrigin value.now result }
@@ -45,7 +49,8 @@ pub(crate) fn read_origin(value: &[u8]) -> Option<Origin>
     }
 }
 
-/// The number that the value of MULTI_EXIT_DISC or of LOCAL_PREF says (RFC 4271, section 4.3).
+/// Parses the value of MULTI_EXIT_DISC or of LOCAL_PREF, a big-endian 32-bit number (RFC 4271,
+/// section 4.3), or returns `None` if it doesn't have four octets.
 #[inline]
 pub(crate) fn read_word(value: &[u8]) -> Option<u32>
     ensures { Finds SpellsWord value.now result }
@@ -56,7 +61,8 @@ pub(crate) fn read_word(value: &[u8]) -> Option<u32>
     Some(AsWidth::Four.number(value))
 }
 
-/// The address that the value of NEXT_HOP says (RFC 4271, section 4.3).
+/// Parses the value of NEXT_HOP, an IPv4 address (RFC 4271, section 4.3), or returns `None` if it
+/// doesn't have four octets.
 #[inline]
 pub(crate) fn read_ipv4(value: &[u8]) -> Option<Addr>
     ensures { Finds SpellsIPv4 value.now result }
@@ -67,8 +73,8 @@ pub(crate) fn read_ipv4(value: &[u8]) -> Option<Addr>
     Some(ipv4(value))
 }
 
-/// The aggregator that the value of AGGREGATOR says (RFC 4271, section 4.3; RFC 6793, section 3). Its
-/// length tells the width of the AS number.
+/// Parses the value of AGGREGATOR (RFC 4271, section 4.3; RFC 6793, section 3). Its length, of 6 or
+/// 8 octets, gives the width of the AS number. Returns `None` for another length.
 pub(crate) fn read_aggregator(value: &[u8]) -> Option<Aggregator>
     ensures { Finds SpellsAggregator value.now result }
 {
@@ -79,7 +85,8 @@ pub(crate) fn read_aggregator(value: &[u8]) -> Option<Aggregator>
     }
 }
 
-/// Puts what was found in a place, or refuses where nothing was.
+/// Sets `place` to `found` if that is some value. Fails if `found` is `None`, and leaves `place` as
+/// it was.
 #[inline(always)]
 pub(crate) fn put_found<T: Copy>(place: &mut Option<T>, found: Option<T>) -> Result<(), IllFormed>
     ensures put { OnOk result (IsSome found × (place.new ≡ found)) }
@@ -92,7 +99,8 @@ pub(crate) fn put_found<T: Copy>(place: &mut Option<T>, found: Option<T>) -> Res
     Ok(())
 }
 
-/// Notes that ATOMIC_AGGREGATE is there, with this value (RFC 4271, section 4.3).
+/// Sets `atomic` if `value`, the value of ATOMIC_AGGREGATE, is empty (RFC 4271, section 4.3). Fails
+/// if it isn't, and leaves `atomic` as it was.
 #[inline]
 pub(crate) fn fill_presence(atomic: &mut bool, value: &[u8]) -> Result<(), IllFormed>
     ensures filled { OnOk result (SpellsPresence atomic.new (Some value.now)) }
@@ -105,8 +113,8 @@ pub(crate) fn fill_presence(atomic: &mut bool, value: &[u8]) -> Result<(), IllFo
     Ok(())
 }
 
-/// The value of AS4_AGGREGATOR (RFC 6793, section 3). One that isn't of its form is as one that
-/// isn't there.
+/// Parses the value of AS4_AGGREGATOR (RFC 6793, section 3), or returns `None` if it is absent or
+/// doesn't have eight octets.
 pub(crate) fn read_as4_aggregator(value: Option<&[u8]>) -> Option<Aggregator>
     ensures { SpellsWhereFormed (SpellsAggregatorAt AsWidth.Four) result (octets_of value.entry) }
 {
@@ -118,7 +126,8 @@ pub(crate) fn read_as4_aggregator(value: Option<&[u8]>) -> Option<Aggregator>
     }
 }
 
-/// The aggregator with an AS number of this width.
+/// Parses `octets`, a big-endian AS number of `width` and an IPv4 address, as an aggregator (RFC
+/// 4271, section 4.3). `octets` must have the length of both.
 fn aggregator(width: AsWidth, octets: &[u8]) -> Aggregator
     requires { length octets.now ≡ octets_at width + IPV4_SIZE }
     ensures { SpellsAggregatorAt width result octets.now }
@@ -128,7 +137,7 @@ fn aggregator(width: AsWidth, octets: &[u8]) -> Aggregator
     Aggregator { addr, asn }
 }
 
-/// The IPv4 address of four octets.
+/// Returns the IPv4 address of `octets`, which must be four.
 #[inline]
 pub(crate) fn ipv4(octets: &[u8]) -> Addr
     requires { length octets.now ≡ IPV4_SIZE }

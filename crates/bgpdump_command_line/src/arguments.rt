@@ -1,4 +1,5 @@
-//! The arguments of the command line.
+//! The arguments of the command line, as `clap` is given them, with the texts of the help. The
+//! parser (`command_line.rt`) calls [`command`]; read that function first.
 
 ghost use Rattle.std.specs.Prelude.{◌≡◌, IfOk};
 ghost use Rattle.clap.specs.Built.{TakesValue};
@@ -24,24 +25,24 @@ pub(crate) const OUTPUT: &str = "output";
 /// The id of the argument INPUT.
 pub(crate) const INPUT: &str = "input";
 
-/// The value of `-t` for the time of the dump.
+/// The value of `-t` that selects the time of the dump.
 pub(crate) const DUMP: &str = "dump";
 
-/// The value of `-t` for the time at which a route originated.
+/// The value of `-t` that selects the time at which a route originated.
 pub(crate) const CHANGE: &str = "change";
 
-/// The values that `-t` takes.
+/// The accepted values of `-t`.
 const TIMES_TAKEN: &[&str] = &[DUMP, CHANGE];
 
-/// Which program this is, in which version, and what it does: the first line of its help. The
-/// version is named here, and whatever else names it is compared with this line.
+/// The first line of the help: the name of the program, its version, and what it does. The version
+/// is named here, and whatever else names it is compared with this line.
 const ABOUT: &str = "\
 Rumpleja's bgpdump 1.0.0: reads what BGP routers write (MRT files, RFC 6396).";
 
-/// How it is called.
+/// The usage line of the help.
 const USAGE: &str = "bgpdump (-m | --play SCRIPT) [-t dump|change] [-O FILE] INPUT";
 
-/// What stands at the end of its help.
+/// The text at the end of the help.
 const MORE: &str = "\
 Examples:
   bgpdump -m table.mrt            the lines of a file
@@ -51,7 +52,7 @@ Examples:
 `man bgpdump` tells the fields of the lines, the commands of a script and the
 statuses.";
 
-/// `-m`.
+/// Returns the argument `-m`.
 fn lines_argument<'a>(alloc: Global) -> Arg<'a>
     ensures rule { rule_of result ≡ lines_rule }
     ensures alone { StandsAlone result }
@@ -62,7 +63,7 @@ fn lines_argument<'a>(alloc: Global) -> Arg<'a>
         .help("Prints each route and state change as a line")
 }
 
-/// `--play SCRIPT`.
+/// Returns the argument `--play SCRIPT`.
 fn script_argument<'a>(alloc: Global) -> Arg<'a>
     ensures rule { rule_of result ≡ script_rule }
     ensures alone { StandsAlone result }
@@ -73,7 +74,7 @@ fn script_argument<'a>(alloc: Global) -> Arg<'a>
         .help("Steps through INPUT as the commands in SCRIPT say")
 }
 
-/// `-t dump` or `-t change`.
+/// Returns the argument `-t`, whose value is `dump`, the default, or `change`.
 fn times_argument<'a>(alloc: Global) -> Arg<'a>
     ensures rule { IsTimesRule (rule_of result) }
     ensures alone { StandsAlone result }
@@ -87,7 +88,7 @@ fn times_argument<'a>(alloc: Global) -> Arg<'a>
         .help("Time of a table's routes: dump or change")
 }
 
-/// `-O FILE`.
+/// Returns the argument `-O FILE`.
 fn output_argument<'a>(alloc: Global) -> Arg<'a>
     ensures rule { rule_of result ≡ output_rule }
     ensures alone { StandsAlone result }
@@ -98,7 +99,7 @@ fn output_argument<'a>(alloc: Global) -> Arg<'a>
         .help("Writes to FILE, made new or emptied")
 }
 
-/// `INPUT`.
+/// Returns the argument `INPUT`, which is required.
 fn input_argument<'a>(alloc: Global) -> Arg<'a>
     ensures rule { rule_of result ≡ input_rule }
     ensures alone { StandsAlone result }
@@ -111,7 +112,7 @@ fn input_argument<'a>(alloc: Global) -> Arg<'a>
         .help("The file to read, or - for standard input")
 }
 
-/// The command with all its arguments.
+/// Returns the command with all arguments. Fails if memory allocation fails.
 pub(crate) fn command<'a>(alloc: Global) -> Result<Command<'a>, AllocError>
     ensures app { IfOk result (λ command. IsCommandLine (app_of command)) }
     ensures input { IfOk result TakesInput }

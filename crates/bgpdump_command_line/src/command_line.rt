@@ -1,4 +1,5 @@
-//! Reads the words of a command line.
+//! A parser of the command line. The program calls [`settings`] with its arguments; read that
+//! function first, and `usage.rt` for what it returns.
 
 ghost use Rattle.std.specs.Prelude.{◌≡◌, true, is_some, map, option_map, string_bytes, IfOk};
 ghost use Rattle.clap.specs.Words.{first_of, found_of, kind_of, rows_of};
@@ -12,7 +13,8 @@ use clap::error::ErrorKind;
 use mrt_events::Stamp;
 use std::alloc::Global;
 
-/// What the words ask for. The first of them is the program's own name.
+/// Parses the arguments `words`, of which the first is the name of the program, into settings.
+/// Fails with the [`UsageFault`] to report, or with [`UsageFault::Help`] if help is requested.
 pub fn settings(alloc: Global, words: Vec<String>) -> Result<Settings, UsageFault>
     ensures answers { Answers (map string_bytes words.items) result }
 {
@@ -22,7 +24,7 @@ pub fn settings(alloc: Global, words: Vec<String>) -> Result<Settings, UsageFaul
     }
 }
 
-/// The fault that an error of the parse is.
+/// Converts an error of `clap` to a fault with its text, or to `Memory` if memory allocation fails.
 fn parse_fault(alloc: Global, error: &clap::Error) -> UsageFault
     ensures { IsFaultOf (kind_of error.now) result }
 {
@@ -36,7 +38,9 @@ fn parse_fault(alloc: Global, error: &clap::Error) -> UsageFault
     }
 }
 
-/// What the matches ask for.
+/// Returns the settings in `matches`, which must have a value of `INPUT`. Fails with `Mode` unless
+/// one mode is selected, with `TwoInputs` if the script and the input are both standard input, or
+/// with `Memory` if memory allocation fails.
 fn settings_of(alloc: Global, matches: &ArgMatches<'_>) -> Result<Settings, UsageFault>
     requires input { is_some (input_of (rows_of (found_of matches.now))) ≡ true }
     ensures gives { Gives (rows_of (found_of matches.now)) result }
@@ -58,7 +62,8 @@ fn settings_of(alloc: Global, matches: &ArgMatches<'_>) -> Result<Settings, Usag
     })
 }
 
-/// The one of the two modes that the matches ask for.
+/// Returns the mode that `matches` select. Fails with `Mode` unless exactly one of `-m` and
+/// `--play` is in them, or with `Memory` if memory allocation fails.
 fn mode_of(alloc: Global, matches: &ArgMatches<'_>) -> Result<Mode, UsageFault>
     ensures { GivesMode (rows_of (found_of matches.now)) result }
 {
@@ -69,21 +74,21 @@ fn mode_of(alloc: Global, matches: &ArgMatches<'_>) -> Result<Mode, UsageFault>
     }
 }
 
-/// Whether the matches ask for lines.
+/// Returns `true` if `-m` is in `matches`.
 fn asks_lines(matches: &ArgMatches<'_>) -> bool
     ensures { result ≡ asks_lines (rows_of (found_of matches.now)) }
 {
     matches.get_one::<bool>(LINES).unwrap_or(false)
 }
 
-/// Whether both the script and the input are standard input.
+/// Returns `true` if the script and the input are both standard input.
 fn has_two_inputs(matches: &ArgMatches<'_>) -> bool
     ensures { result ≡ has_two_inputs (rows_of (found_of matches.now)) }
 {
     is_value(matches, SCRIPT, STANDARD_INPUT) && is_value(matches, INPUT, STANDARD_INPUT)
 }
 
-/// Which time the routes of a table get.
+/// Returns the choice of the time that the routes of a table get, by the value of `-t`.
 fn stamp_of(matches: &ArgMatches<'_>) -> Stamp
     ensures { result ≡ stamp_of (rows_of (found_of matches.now)) }
 {
@@ -94,14 +99,14 @@ fn stamp_of(matches: &ArgMatches<'_>) -> Stamp
     }
 }
 
-/// Whether the argument has this value.
+/// Returns `true` if `argument` has the value `value` in `matches`.
 fn is_value(matches: &ArgMatches<'_>, argument: &str, value: &str) -> bool
     ensures { result ≡ is_text value.now (first_of argument.now (rows_of (found_of matches.now))) }
 {
     value_of(matches, argument) == Some(value)
 }
 
-/// The value of the argument, if it has one.
+/// Returns the value of `argument` in `matches`, or `None` if it has none.
 fn value_of<'a>(matches: &ArgMatches<'a>, argument: &str) -> Option<&'a str>
     ensures { option_map (λ text. text.now) result
         ≡ first_of argument.now (rows_of (found_of matches.now)) }

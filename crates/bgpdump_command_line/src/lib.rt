@@ -1,4 +1,5 @@
-//! The command line of `bgpdump`: what its words ask for, and why they may ask for nothing.
+//! The command line of `bgpdump`: its arguments, and a parser of them. The program calls
+//! [`settings`]. Read `usage.rt` first, for what is parsed, then `arguments.rt`.
 #![tactic(auto)]
 
 mod arguments;

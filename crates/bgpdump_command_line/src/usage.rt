@@ -1,4 +1,5 @@
-//! What the words of a command line ask for, and why they may ask for nothing.
+//! The settings that a command line selects, and the reasons for which it selects none.
+//! [`settings`](crate::settings) returns them.
 
 ghost use Rattle.std.specs.Prelude.{◌≡◌};
 ghost use Rattle.bgpdump_command_line.specs.declared.usage.UsageFault.TheVariants.{Memory};
@@ -7,47 +8,47 @@ use mrt_events::Stamp;
 use std::alloc::AllocError;
 use thiserror::Error;
 
-/// What stands for standard input, as an input and as a script.
+/// The name of standard input, as an input and as a script.
 pub const STANDARD_INPUT: &str = "-";
 
-/// What is done with the input.
+/// The mode of the program: what it does with its input.
 #[derive(Debug, PartialEq, Eq, Drop)]
 pub enum Mode {
-    /// Its lines are printed.
+    /// Prints each route and state change as a line (`-m`).
     Lines,
-    /// The commands of the script of this name are carried out over it.
+    /// Carries out the commands of the script with this name (`--play`).
     Play(String),
 }
 
-/// What the words of the command line ask for. Names are as they were given.
+/// The settings of a run. Names are as they were given.
 #[derive(Debug, PartialEq, Eq, Drop)]
 pub struct Settings {
-    /// What is done with the input.
+    /// The mode of the program.
     pub mode: Mode,
-    /// Which time the routes of a table get.
+    /// The choice of the time that the routes of a table get.
     pub stamp: Stamp,
-    /// The file that is written to, or None for standard output.
+    /// The name of the output file, or `None` for standard output.
     pub output: Option<String>,
-    /// The file that is read, or `-` for standard input.
+    /// The name of the input file, or `-` for standard input.
     pub input: String,
 }
 
-/// Why the words give no settings.
+/// The reason for which a command line selects no settings.
 #[derive(Debug, PartialEq, Eq, Drop, Error)]
 pub enum UsageFault {
-    /// The words aren't the command line's; `clap` says why.
+    /// The arguments aren't valid. The text, which is `clap`'s, says why.
     #[error("{0}")]
     Words(String),
-    /// Not exactly one of `-m` and `--play` is there.
+    /// None or both of `-m` and `--play` are there.
     #[error("choose one of -m and --play")]
     Mode,
-    /// Both the script and the input are standard input.
+    /// The script and the input are both standard input.
     #[error("standard input named twice")]
     TwoInputs,
-    /// Memory was refused.
+    /// Memory allocation failed.
     #[error("out of memory")]
     Memory,
-    /// Help was asked for, and this is it.
+    /// Help was requested. This is its text.
     #[error("{0}")]
     Help(String),
 }

@@ -1,2 +1,3 @@
-//! How octets spell lists, counted lists, and values one behind the other.
+//! Definitions of how octets encode lists, counted lists, and values one after the other, which the
+//! contracts of parsers cite. The crate has no code.
 #![tactic(auto)]

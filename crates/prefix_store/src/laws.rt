@@ -1,4 +1,6 @@
-//! Laws of what a store holds and answers.
+//! Theorems about the definitions that the contracts of [`PrefixStore`](crate::PrefixStore) cite.
+//! The functions have no code and nothing calls them: what they state is proved as the crate is
+//! checked. `docs/proved.md` names them.
 
 ghost use Rattle.std.specs.Prelude.{◌≡◌, ◌≢◌, ◌+◌, ◌^◌, ◌∷◌, [], Option, Some, None};
 ghost use Rattle.std.specs.FinMap as finite;
@@ -9,12 +11,13 @@ ghost use Rattle.prefix_store.specs.Stored.{Routes, put};
 ghost use Rattle.prefix_store.specs.Contents.{first_above, routes_above};
 ghost use Rattle.prefix_store.specs.Lookups.{IsLongest};
 
-/// The number that the definitions name: where counts stop, `u64::MAX`.
+/// Proves the value of the greatest count, `u64::MAX`.
 pub fn count_numbers()
     ensures { GREATEST_COUNT + 1 ≡ 2 ^ 64 }
 {}
 
-/// What is put at a prefix is there, and the routes at other prefixes stay.
+/// Proves that a route put at a prefix is found there, and that the routes at other prefixes are
+/// unchanged.
 pub fn put_route<R>()
     ensures there { (routes : Routes R) (n : Network) (new : Option R)
         → finite.get (put routes n new) n ≡ new }
@@ -22,13 +25,15 @@ pub fn put_route<R>()
         → m ≢ n → finite.get (put routes n new) m ≡ finite.get routes m }
 {}
 
-/// Of the routes at prefixes that contain an address, one at most is that of the longest.
+/// Proves that at most one route, with its prefix, is at the longest prefix that contains an
+/// address.
 pub fn one_longest<R>()
     ensures { (routes : Routes R) (address : Address) (one other : Option (Network × R))
         → IsLongest routes address one → IsLongest routes address other → one ≡ other }
 {}
 
-/// From the least on, one after the other, come all routes, in order, and then none.
+/// Proves that a walk from the least prefix to the next one, and so on, meets every route once, in
+/// the order of prefixes, and then ends.
 pub fn walk<R>()
     ensures all { (routes : Routes R)
         → routes_above routes None ≡ finite.entries routes }

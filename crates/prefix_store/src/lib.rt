@@ -1,5 +1,6 @@
-//! What a store of routes by prefix does: a set of prefixes, the keys, and a route at some of them;
-//! and prefixes in few octets.
+//! The interface of a store of routes by prefix: a set of prefixes, the keys, with a route at some
+//! of them. `rib_store` implements it, and `rib_player` keeps one such store for each peer. Read
+//! [`PrefixStore`] first.
 #![tactic(auto)]
 
 mod laws;

@@ -1,4 +1,5 @@
-//! Prefixes of one family in little memory.
+//! Compact forms of prefixes whose family is known. The radix trees of `rib_store` keep their
+//! prefixes so. Read [`Packed`] first.
 
 ghost use Rattle.std.specs.Prelude.{◌≡◌, ◌≢◌, ◌≤◌, length};
 ghost use Rattle.ip_prefix.specs.declared.addr.Family.{Family};
@@ -10,30 +11,31 @@ ghost use Rattle.ip_prefix.specs.declared.turn.Turn.TheVariants.{Outside};
 
 use ip_prefix::{Addr, Prefix, Turn, V4_OCTETS};
 
-/// A prefix of one family, however it is kept.
+/// A form of prefixes that are all of one family.
 pub trait Packed: Copy + Drop {
-    /// The prefix that it stands for.
+    /// The prefix that the value represents.
     ghost network: { Self → Network };
 
-    /// The family that all are of.
+    /// The family of all prefixes of this form.
     ghost family: { Family };
 
-    /// As a prefix of any family.
+    /// Converts the value to a [`Prefix`].
     fn wide(&self) -> Prefix
         ensures { result ≡ network self.now };
 
-    /// How many bits it has.
+    /// Returns the length of the prefix, in bits.
     fn len(&self) -> u8
         ensures { result ≡ length (network self.now).bits }
     {
         self.wide().len()
     }
 
-    /// Where the prefix lies, seen from this one.
+    /// Returns the position of `other` relative to this prefix, as [`Prefix::turn`] does.
     fn turn(&self, other: &Prefix) -> Turn
         ensures { result ≡ turn_of (way (network self.now)) (way other.now) };
 
-    /// Where the prefix lies, seen from this one, which covers it. It needn't compare what they share.
+    /// Returns the position of `other`, which this prefix must cover, relative to this prefix. An
+    /// implementation needn't compare the bits that both have.
     fn turn_covered(&self, other: &Prefix) -> Turn
         requires { turn_of (way (network self.now)) (way other.now) ≢ Outside }
         ensures { result ≡ turn_of (way (network self.now)) (way other.now) }
@@ -41,13 +43,13 @@ pub trait Packed: Copy + Drop {
         self.turn(other)
     }
 
-    /// The prefix, which is of this family.
+    /// Converts `prefix`, which must be of this family, to this form.
     fn of(prefix: &Prefix) -> Self
         requires { prefix.now.family ≡ family }
         ensures { network result ≡ prefix.now };
 }
 
-/// A prefix of IPv4: the octets of its least address, and how many bits it has.
+/// An IPv4 prefix: its network address, and its length in bits.
 #[derive(Clone, Copy, Drop)]
 pub struct V4Prefix {
     octets: [u8; V4_OCTETS],

@@ -1,19 +1,22 @@
-//! Prefixes of stores, eight at a time, which a store has the processor fetch.
+//! Batches of eight prefixes that are prefetched together. `rib_player` collects them and passes
+//! them to [`PrefixStore::reach`](crate::PrefixStore::reach).
 
 use ip_prefix::Prefix;
 use std::mem;
 
-/// How many places are reached at once. One more is reached behind these.
+/// The number of prefixes that are prefetched together. One more waits for the next batch.
 pub const PLACES_AT_ONCE: u8 = 8;
 
-/// A prefix of a store, or nowhere.
+/// A prefix in a store, or an empty slot of a batch.
 #[derive(Drop)]
 pub enum Place<'a, S> {
+    /// An empty slot.
     Nowhere,
+    /// A prefix in this store.
     At(&'a S, Prefix),
 }
 
-/// Places that are reached at once.
+/// A batch of up to eight prefixes, each with its store. The last one added is `first`.
 #[derive(Drop)]
 pub struct Places<'a, S> {
     pub first: Place<'a, S>,
@@ -28,7 +31,7 @@ pub struct Places<'a, S> {
 }
 
 impl<'a, S> Places<'a, S> {
-    /// Eight times nowhere.
+    /// Returns an empty batch.
     pub fn new() -> Self {
         Places {
             first: Place::Nowhere,
@@ -43,8 +46,8 @@ impl<'a, S> Places<'a, S> {
         }
     }
 
-    /// Adds a prefix of a store, and answers whether there are eight now, which are to be taken before
-    /// another is added.
+    /// Adds a prefix in `store`, and returns `true` if the batch is full. It must be taken then
+    /// ([`Places::take_all`]), since another addition would drop the oldest prefix.
     pub fn add(&mut self, store: &'a S, prefix: Prefix) -> bool {
         let second = mem::replace(&mut self.first, Place::At(store, prefix));
         let third = mem::replace(&mut self.second, second);
@@ -57,7 +60,7 @@ impl<'a, S> Places<'a, S> {
         self.count >= PLACES_AT_ONCE
     }
 
-    /// Takes those that were added since.
+    /// Returns the batch, and leaves an empty one.
     pub fn take_all(&mut self) -> Self {
         mem::replace(self, Places::new())
     }

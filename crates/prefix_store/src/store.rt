@@ -1,4 +1,4 @@
-//! What a store of routes by prefix does.
+//! The interface of a store of routes by prefix. Read [`PrefixStore`], then [`PrefixStore::put`].
 
 ghost use Rattle.std.specs.Prelude.{◌≡◌, ◌≤◌, true, false, not, Option, None, slice_get, take, vec_capacity, IfOk, OnOk, OnErr, option_map, option_copied};
 ghost use Rattle.std.specs.FinMap as finite;
@@ -10,27 +10,27 @@ use crate::places::Places;
 use ip_prefix::{Addr, Prefix};
 use std::alloc::{AllocError, Global};
 
-/// Where counts stop: a larger number is told as this one.
+/// The greatest count. A greater number of keys or routes is returned as this one.
 pub const GREATEST_COUNT: u64 = u64::MAX;
 
-/// A set of prefixes, the keys, and a route at some of them.
+/// A set of prefixes, the keys, with a route at some of them.
 ///
-/// Memory is asked for in [`PrefixStore::ensure`] and [`PrefixStore::put`] alone: a key has its room
-/// for a route until it is discarded, so that routes come and go without a refusal.
+/// Only [`PrefixStore::ensure`] and [`PrefixStore::put`] may allocate memory. A key has memory for
+/// a route until it is discarded, so that routes are put there and taken without allocation.
 pub trait PrefixStore<R: Drop>: Sized + Drop {
-    /// The prefixes that have room for a route.
+    /// The prefixes that have memory for a route.
     ghost keys: { Self → Keys };
 
-    /// The routes, at some of the keys.
+    /// The routes by prefix, at some of the keys.
     ghost routes: { Self → Routes R };
 
-    /// No keys. It takes no memory.
+    /// Returns a store without keys, without allocating memory.
     fn new(alloc: Global) -> Self
         ensures keys { keys result ≡ set.empty }
         ensures routes { routes result ≡ finite.empty };
 
-    /// Makes the prefix a key, and answers whether it is new. Refused for want of memory, the
-    /// store is as it was; a prefix that is a key already is never refused.
+    /// Makes `prefix` a key, and returns `true` if it wasn't one before. Fails if memory allocation
+    /// fails, which happens for new keys only; the store is unchanged then.
     fn ensure(&mut self, prefix: Prefix) -> Result<bool, AllocError>
         ensures keys { OnOk result (keys self.new ≡ set.insert (keys self.old) prefix) }
         ensures made { IfOk result (λ made. made ≡ not (set.contains (keys self.old) prefix)) }
@@ -38,16 +38,17 @@ pub trait PrefixStore<R: Drop>: Sized + Drop {
         ensures refused { OnErr result (keys self.new ≡ keys self.old) }
         ensures known { OnErr result (set.contains (keys self.old) prefix ≡ false) };
 
-    /// The key's route, or its absence, and the argument change places.
+    /// Swaps the route at the key `prefix` and `route`, either of which may be `None`. `prefix`
+    /// must be a key ([`PrefixStore::ensure`]).
     fn exchange(&mut self, prefix: &Prefix, route: &mut Option<R>)
         requires { set.contains (keys self.old) prefix.now ≡ true }
         ensures keys { keys self.new ≡ keys self.old }
         ensures routes { routes self.new ≡ put (routes self.old) prefix.now route.old }
         ensures given { route.new ≡ finite.get (routes self.old) prefix.now };
 
-    /// Puts the route at the prefix, which is made a key where it was none: what was there and the
-    /// argument change places. Answers whether the key is new. Refused for want of memory, store and
-    /// route are as they were; at a key it is never refused.
+    /// Swaps the route at `prefix` and `route`, either of which may be `None`, and makes `prefix` a
+    /// key. Returns `true` if it wasn't one before. Fails if memory allocation fails, which happens
+    /// for new keys only; the store and `route` are unchanged then.
     fn put(&mut self, prefix: &Prefix, route: &mut Option<R>) -> Result<bool, AllocError>
         ensures keys { OnOk result (keys self.new ≡ set.insert (keys self.old) prefix.now) }
         ensures made { IfOk result (λ made. made ≡ not (set.contains (keys self.old) prefix.now)) }
@@ -64,35 +65,37 @@ pub trait PrefixStore<R: Drop>: Sized + Drop {
         Ok(made)
     }
 
-    /// Drops a key that has no route.
+    /// Removes the key `prefix`, which must have no route.
     fn discard(&mut self, prefix: &Prefix)
         requires key { set.contains (keys self.old) prefix.now ≡ true }
         requires free { finite.get (routes self.old) prefix.now ≡ None }
         ensures keys { keys self.new ≡ set.remove (keys self.old) prefix.now }
         ensures routes { routes self.new ≡ routes self.old };
 
-    /// Whether the prefix is a key.
+    /// Returns `true` if `prefix` is a key.
     fn has_key(&self, prefix: &Prefix) -> bool
         ensures { result ≡ set.contains (keys self.now) prefix.now };
 
-    /// The route at the prefix.
+    /// Returns the route at `prefix`, or `None` if there is none.
     fn get(&self, prefix: &Prefix) -> Option<&R>
         ensures { option_copied result ≡ finite.get (routes self.now) prefix.now };
 
-    /// The longest prefix with a route that contains the address, and its route: the route by which
-    /// a router forwards (RFC 1812, section 5.2.4.3).
+    /// Returns the route at the longest prefix that contains `addr`, with that prefix, or `None` if
+    /// no prefix with a route contains it. By this route a router forwards (RFC 1812, section
+    /// 5.2.4.3).
     fn longest(&self, addr: &Addr) -> Option<(Prefix, &R)>
         ensures { IsLongest (routes self.now) addr.now (option_map (λ p. (p.0, p.1.now)) result) };
 
-    /// The least prefix with a route above the given one, or of all, and its route. So a walk needs
-    /// nothing but the prefix that it came to.
+    /// Returns the route at the least prefix that is greater than `prefix`, or at the least prefix
+    /// if `prefix` is `None`, with that prefix. Returns `None` if there is no such route. A walk
+    /// over all routes needs no state but the last prefix.
     fn after(&self, prefix: Option<&Prefix>) -> Option<(Prefix, &R)>
         ensures { option_map (λ p. (p.0, p.1.now)) result ≡
             slice_get (above (option_copied prefix.entry) (finite.entries (routes self.now))) 0 };
 
-    /// The next prefixes with a route above the given one, or of all, in order, and their routes: as
-    /// many as the list has room for, or all that are left. What stood in the list is dropped. It is
-    /// for walks, which so need one call for many routes.
+    /// Replaces the elements of `found` by the next routes that [`PrefixStore::after`] would
+    /// return, with their prefixes and in their order, up to the capacity of `found`. A walk so
+    /// needs one call for many routes. Allocates no memory.
     fn next_routes<'a>(&'a self, prefix: Option<&Prefix>, found: &mut Vec<(Prefix, &'a R)>)
         ensures found { pointed found.new.items ≡ take (vec_capacity found.old)
             (above (option_copied prefix.entry) (finite.entries (routes self.now))) }
@@ -109,8 +112,8 @@ pub trait PrefixStore<R: Drop>: Sized + Drop {
         }
     }
 
-    /// Takes all routes, in the order of their prefixes, into a list that has room for them; the keys
-    /// stay. What stood in the list is dropped.
+    /// Moves all routes into `taken`, in the order of their prefixes, in place of its elements. The
+    /// keys stay. `taken` must have capacity for all routes.
     fn take_routes(&mut self, taken: &mut Vec<R>)
         requires { finite.len (routes self.old) ≤ vec_capacity taken.old }
         ensures keys { keys self.new ≡ keys self.old }
@@ -133,25 +136,25 @@ pub trait PrefixStore<R: Drop>: Sized + Drop {
         }
     }
 
-    /// Has the processor fetch what calls at these places need, for all of them at a time. It changes
-    /// nothing, and answers how much it passed on the way: who reads that number leaves a compiler no
-    /// reason to leave the fetching out.
+    /// Prefetches the memory that calls for these prefixes read, for all of them at once. Changes
+    /// nothing. Returns a number that depends on what was read; a caller that uses it keeps the
+    /// compiler from removing the reads.
     fn reach(_places: &Places<'_, Self>) -> u64 {
         0
     }
 
-    /// Whether it leaves its memory to the system when it is dropped. A run over such stores ends with
-    /// its program, and leaves all that it holds.
+    /// Returns `true` if dropping the store frees no memory: the operating system takes it when the
+    /// program ends. A program that ends then needn't free what it holds beside such stores.
     fn is_left() -> bool {
         false
     }
 
-    /// How many keys there are; `u64::MAX` where more.
+    /// Returns the number of keys, or `u64::MAX` if there are more.
     fn key_count(&self) -> u64
         ensures count { result ≡ counted (set.len (keys self.now)) }
         ensures among { AreAmong (keys self.now) (routes self.now) };
 
-    /// How many of the keys have a route; `u64::MAX` where more.
+    /// Returns the number of keys that have a route, or `u64::MAX` if there are more.
     fn route_count(&self) -> u64
         ensures { result ≡ counted (finite.len (routes self.now)) };
 }

@@ -1,4 +1,6 @@
-//! The stores of peers. Each peer that has one has a number, by which it is found.
+//! The stores of the peers that have one. Each such peer has a number, by which its store is found;
+//! the number may change when another store is removed. `table.rt` keeps its routes here. Read
+//! [`Stores`] first.
 
 ghost use Rattle.std.specs.Prelude.{◌≡◌, ◌≤◌, [], Some, None, true, false, IsTrue, IsSome, IfSome, IfOk, slice_get, length, ◌<◌, nat_lt, OnOk, OnErr, vec_len};
 ghost use Rattle.std.specs.Option.{option_copied, option_copied_mut, option_map};
@@ -26,27 +28,30 @@ use std::alloc::{AllocError, Global};
 use std::collections::BTreeMap;
 use std::rc::Rc;
 
-/// How many places there are for numbers. No hash names one above them; of more peers some are found
-/// by their order alone.
+/// The number of slots for the numbers of peers, one for each value of [`place_of`]. With one peer
+/// more than slots, two have the same slot, and one of them is found in the ordered map, which
+/// takes longer.
 const PLACES: usize = 4096;
 
-/// How many bits of a hash are left out, so that it names a place.
+/// The number of low bits of a hash that [`place_of`] drops. The other 12 select one of the 4,096
+/// slots.
 const LOWEST_BITS: u32 = 52;
 
-/// Stores, at most one for each peer.
+/// The stores of peers, at most one for each.
 #[derive(Drop)]
 pub(crate) struct Stores<S> {
     alloc: Global,
     /// The number of each peer that has a store, in the order of peers.
     pub(crate) order: BTreeMap<Peer, usize>,
-    /// The stores, by number.
+    /// The stores. The index of a store is the number of its peer.
     pub(crate) held: Vec<S>,
-    /// Their peers, by number.
+    /// The peers. The index of a peer is its number.
     pub(crate) names: Vec<Rc<NumberedPeer>>,
-    /// Which numbers are of stores that have a route, as it was noted.
+    /// The numbers whose store was noted to have a route ([`Stores::note_routes`]).
     pub(crate) routed: Chosen,
-    /// The number that a peer of each hash may have, if it has one. Of several peers one is found so,
-    /// the others by their order.
+    /// The number that was noted last for a peer of each slot, or 0. It may be of another peer, so
+    /// whoever reads it compares the peer; the peers not found here are in `order`. Empty until the
+    /// first store is added.
     places: Vec<u32>,
     // What stands behind `by` shows that it has at most one proof, as a ghost field must.
     ghost numbered: { AreNumbered held.items (peers_in names.items) order.entries } by { Prim.hlevel props },
@@ -54,7 +59,7 @@ pub(crate) struct Stores<S> {
     ghost each: { length (choices routed) ≡ length held.items },
 }
 
-/// The place of a peer's number.
+/// Returns the index in `Stores::places` of the slot of `peer`.
 #[inline]
 fn place_of(peer: &Peer) -> usize {
     (peer_hash(peer) >> LOWEST_BITS) as usize
@@ -65,7 +70,7 @@ impl<S> Stores<S> {
     ghost use Rattle.rib_player.specs.Noted.{routed_in};
     ghost use Rattle.rib_player.specs.Lent.{lends_store};
 
-    /// None.
+    /// Returns an empty set of stores, without allocating memory.
     pub(crate) fn new(alloc: Global) -> Self
         ensures stores { stores_in result ≡ [] }
         ensures routed { routed_in result ≡ [] }
@@ -80,7 +85,7 @@ impl<S> Stores<S> {
         }
     }
 
-    /// Whether the peer has this number.
+    /// Returns `true` if `peer` has a store and `number` is its number.
     #[inline]
     fn has_number(&self, number: usize, peer: &Peer) -> bool
         ensures { IsTrue result →
@@ -92,7 +97,8 @@ impl<S> Stores<S> {
         }
     }
 
-    /// The number of the peer, if it has a store, by its place or in the order of peers.
+    /// Returns the number of `peer`, or `None` if it has no store. Looks in the slot of the peer,
+    /// and then in the ordered map.
     fn sought_number(&self, peer: &Peer) -> Option<usize>
         ensures { result ≡ lookup (eq_by_cmp peer_cmp peer.now) self.now.order.entries }
     {
@@ -105,7 +111,8 @@ impl<S> Stores<S> {
         self.order.get(peer).copied()
     }
 
-    /// The same. This one is tried first.
+    /// Returns the number of `peer`, or `None` if it has no store. `number` is a guess, which is
+    /// tried first.
     #[inline]
     fn number_of(&self, number: usize, peer: &Peer) -> Option<usize>
         ensures { result ≡ lookup (eq_by_cmp peer_cmp peer.now) self.now.order.entries }
@@ -116,7 +123,8 @@ impl<S> Stores<S> {
         self.sought_number(peer)
     }
 
-    /// The peer, if it has a store. This number is tried first.
+    /// Returns the shared value of `peer`, or `None` if it has no store. `number` is a guess of its
+    /// number, which is tried first.
     #[inline]
     pub(crate) fn shared_peer(&self, number: usize, peer: &Peer) -> Option<&Rc<NumberedPeer>>
         ensures { IfSome result (λ shared. shared.now.value ≡ peer.now) }
@@ -124,7 +132,8 @@ impl<S> Stores<S> {
         self.names.get(self.number_of(number, peer)?)
     }
 
-    /// Whether all these entries are of peers that have stores, no two of one.
+    /// Returns `true` if all entries are of peers that have stores, and no two are of one peer.
+    /// Marks their numbers in `marks` for this. Fails if memory allocation fails.
     pub(crate) fn are_of_different_peers(
         &self,
         entries: &[Entry],
@@ -146,7 +155,7 @@ impl<S> Stores<S> {
         Ok(true)
     }
 
-    /// The store at the number.
+    /// Returns the store with this number, or `None` if there is none.
     #[inline]
     pub(crate) fn at(&self, number: usize) -> Option<&S>
         ensures { option_copied result ≡ slice_get self.now.held.items number }
@@ -154,7 +163,7 @@ impl<S> Stores<S> {
         self.held.get(number)
     }
 
-    /// The peer that has the number, and its store.
+    /// Returns the peer with this number and its store, or `None` if there is none.
     pub(crate) fn named_at(&self, number: usize) -> Option<(&Peer, &S)>
         ensures store { IfSome result (λ found.
             store_at (stores_in self.now) found.0.now ≡ Some found.1.now) }
@@ -167,7 +176,8 @@ impl<S> Stores<S> {
         Some((name.peer(), store))
     }
 
-    /// The store of the peer. This number is tried first.
+    /// Returns the store of `peer`, or `None` if it has none. `number` is a guess of its number,
+    /// which is tried first.
     #[inline]
     pub(crate) fn get(&self, number: usize, peer: &Peer) -> Option<&S>
         ensures { option_copied result ≡ store_at (stores_in self.now) peer.now }
@@ -175,7 +185,8 @@ impl<S> Stores<S> {
         self.at(self.number_of(number, peer)?)
     }
 
-    /// The store of the peer, to be written. This number is tried first, and becomes the peer's.
+    /// Returns a mutable reference to the store of `peer`, or `None` if it has none. `number` is a
+    /// guess of its number, which is tried first, and is set to its number.
     #[inline]
     pub(crate) fn get_mut(&mut self, number: &mut usize, peer: &Peer) -> Option<&mut S>
         ensures* writes_back { sem 𝓛 (lends_store S.row self.entry peer.now result) }
@@ -188,7 +199,7 @@ impl<S> Stores<S> {
         self.held.get_mut(found)
     }
 
-    /// Notes whether the peer's store that has the number has a route. It takes no memory.
+    /// Notes whether the store with this number has a route, which `has` is. Allocates no memory.
     #[inline]
     pub(crate) fn note_routes(&mut self, number: usize, has: bool)
         requires { number < length self.old.held.items }
@@ -200,8 +211,9 @@ impl<S> Stores<S> {
         self.routed.choose(number, has);
     }
 
-    /// Notes whether the peer's store that has the number has a route, where it has so many now and
-    /// had one less at the least: with two and more it is noted already. It takes no memory.
+    /// Notes whether the store with this number has a route, given the number `count` of its
+    /// routes. If it has two or more, it must be noted already that it has one. Allocates no
+    /// memory.
     #[inline]
     pub(crate) fn note_count(&mut self, number: usize, count: u64)
         requires within { number < length self.old.held.items }
@@ -217,7 +229,8 @@ impl<S> Stores<S> {
         self.note_routes(number, count > 0);
     }
 
-    /// Gives back room that is too much for the stores that there are.
+    /// Shrinks the lists of stores and of peers if they have far more capacity than elements
+    /// (`room.rt`).
     pub(crate) fn give_back_room(&mut self)
         ensures stores { stores_in self.new ≡ stores_in self.old }
         ensures routed { routed_in self.new ≡ routed_in self.old }
@@ -232,8 +245,9 @@ impl<S: Drop> Stores<S> {
     ghost use Rattle.rib_player.specs.StoresByPeer.{stores_in};
     ghost use Rattle.rib_player.specs.Noted.{routed_in};
 
-    /// Adds the store of a peer that has none. It is noted that it has no route. Refused, there is
-    /// none.
+    /// Adds `store` for `peer`, which must have none, and notes that it has no route. On error,
+    /// which means that memory allocation fails, there is no store for the peer, and `store` is
+    /// dropped.
     pub(crate) fn insert(&mut self, peer: Peer, store: S) -> Result<(), AllocError>
         requires { store_at (stores_in self.old) peer ≡ None }
         ensures added { OnOk result
@@ -259,8 +273,8 @@ impl<S: Drop> Stores<S> {
         Ok(())
     }
 
-    /// Drops the store of a peer, if it has one. The store that stood last gets its number. It takes
-    /// no memory.
+    /// Removes and drops the store of `peer`, if it has one. The peer with the last number gets the
+    /// number of `peer`, as in [`Vec::swap_remove`]. Allocates no memory.
     pub(crate) fn remove(&mut self, peer: &Peer)
         ensures stores { IsWritten (stores_in self.old) (stores_in self.new) peer.now None }
         ensures routed { IsWritten (routed_in self.old) (routed_in self.new) peer.now None }
@@ -279,7 +293,7 @@ impl<S: Drop> Stores<S> {
     }
 }
 
-/// Gives the peer, which has a number, this one.
+/// Sets the number of `peer` in `order`, where it must be, to `number`.
 fn renumber(order: &mut BTreeMap<Peer, usize>, peer: &Peer, number: usize)
     requires { IsSome (lookup (eq_by_cmp peer_cmp peer.now) order.old.entries) }
     ensures { IsWritten order.old.entries order.new.entries peer.now (Some number) }
@@ -289,7 +303,8 @@ fn renumber(order: &mut BTreeMap<Peer, usize>, peer: &Peer, number: usize)
     }
 }
 
-/// Notes where the number stands, if there are places.
+/// Sets the slot of `peer` in `places` to `number`, or to `u32::MAX` if `number` is greater. Does
+/// nothing if there are no slots.
 fn note_place(places: &mut Vec<u32>, peer: &Peer, number: usize)
     requires { vec_len places.old ≤ PLACES }
     ensures { vec_len places.new ≤ PLACES }

@@ -1,4 +1,5 @@
-//! A store whose memory is left to the system.
+//! A wrapper of a store whose memory is left to the operating system. `bgpdump` plays over such
+//! stores, since it ends soon after it drops them.
 
 ghost use Rattle.std.specs.Prelude.{◌≡◌};
 ghost use Rattle.std.specs.Mem.{manually_drop_value};
@@ -8,10 +9,9 @@ use prefix_store::{Place, Places, PrefixStore};
 use std::alloc::{AllocError, Global};
 use std::mem::ManuallyDrop;
 
-/// Another store, whose memory is not given back when this one is dropped: the system takes it when
-/// the program ends. So it is for programs that end soon after they drop it, which need not take
-/// the store apart first. Dropped elsewhere, it loses the memory of the store, and each route that
-/// stands in it stays alive.
+/// A store whose memory isn't freed when it is dropped: the operating system takes it when the
+/// program ends. A program that ends soon needn't take the store apart first. In another program,
+/// dropping it leaks the memory of the store and the routes that are in it.
 #[derive(Drop)]
 pub struct LeftStore<S> {
     store: ManuallyDrop<S>,
@@ -94,7 +94,7 @@ impl<R: Drop, S: PrefixStore<R>> PrefixStore<R> for LeftStore<S> {
     }
 }
 
-/// The place in the store that is wrapped.
+/// Returns `place` with the wrapped store.
 fn inner_place<'a, S>(place: &Place<'a, LeftStore<S>>) -> Place<'a, S> {
     match place {
         Place::Nowhere => Place::Nowhere,

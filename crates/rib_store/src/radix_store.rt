@@ -1,4 +1,5 @@
-//! A store that is a radix tree for each family.
+//! A store that has a radix tree for each family. `bgpdump` keeps the routes of each peer in one.
+//! Read `tree.rt` for the trees.
 
 ghost use mir.Val.{bool_byte};
 ghost use Rattle.std.specs.Prelude.{◌≡◌, ℕ, ◌+◌, ◌*◌, ◌≤◌, is_some, option_map, option_copied};
@@ -17,10 +18,12 @@ use prefix_store::{GREATEST_COUNT, Place, Places, PrefixStore, V4Prefix};
 use std::alloc::{AllocError, Global};
 use std::marker::Model;
 
-/// A store that is a path-compressed radix tree for each family, with counts of the keys and the
-/// routes beside them. Each look-up goes down one way, past at most 33 nodes for IPv4 and 129 for
-/// IPv6; `after` goes down it and then down to the next route, and passes by keys without one, and
-/// `next_routes` goes on from there to as many as there is room for; the counts take no look-up.
+/// A store that has a path-compressed radix tree for each family, with counts of the keys and the
+/// routes beside them.
+///
+/// A look-up goes down one path, past at most 33 nodes for IPv4 and 129 for IPv6. `after` goes down
+/// such a path and then down to the next route, past the keys without one, and `next_routes` goes
+/// on from there to as many routes as there is capacity for. The counts take no look-up.
 #[derive(Drop)]
 pub struct RadixStore<R> {
     alloc: Global,
@@ -44,8 +47,8 @@ impl<R> Model for RadixStore<R> {
 }
 
 impl<R: Drop> RadixStore<R> {
-    /// How many nodes the trees have: one for each key and each branch point, at most two a key;
-    /// `u64::MAX` where more. It walks over all of them.
+    /// Returns the number of nodes of the trees, or `u64::MAX` if there are more. There is a node
+    /// for each key and each branch, at most two for a key. Visits all nodes.
     pub fn nodes(&self) -> u64
         ensures nodes { (nodes : Keys) × AreNodes self.now.keys nodes ×
             (result ≡ counted (set.len nodes)) }
@@ -54,8 +57,9 @@ impl<R: Drop> RadixStore<R> {
         self.v4.node_count().saturating_add(self.v6.node_count())
     }
 
-    /// The answer of [`PrefixStore::longest`]. Each node that the look-up meets adds one to the
-    /// counter: those that contain the address, and at most one more.
+    /// Returns the route at the longest prefix that contains `addr`, as [`PrefixStore::longest`]
+    /// does, and adds the number of nodes that the look-up visits to `met`: those whose prefixes
+    /// contain the address, and at most one more.
     pub fn longest_counted(&self, addr: &Addr, met: &mut u32) -> Option<(Prefix, &R)>
         requires { met.old + bit_count addr.now.family + 1 ≤ u32.MAX }
         ensures longest { IsLongest self.now.routes addr.now
@@ -71,7 +75,8 @@ impl<R: Drop> RadixStore<R> {
         }
     }
 
-    /// The key's room, where it is a key, and the route in it.
+    /// Returns the slot at `prefix`: `None` if it isn't a key, `Some(None)` if it is a key without
+    /// a route, or else the route.
     #[inline]
     fn slot(&self, prefix: &Prefix) -> Option<Option<&R>>
         ensures key { is_some result ≡ set.contains self.now.keys prefix.now }
@@ -135,7 +140,7 @@ impl<R: Drop> PrefixStore<R> for RadixStore<R> {
             Family::V4 => self.v4.discard(prefix),
             Family::V6 => self.v6.discard(prefix),
         }
-        // A count that had stopped at the greatest number is made anew.
+        // A count that was saturated is made anew.
         self.key_count = if self.key_count == GREATEST_COUNT {
             self.v4.key_count().saturating_add(self.v6.key_count())
         } else {
@@ -215,7 +220,7 @@ impl<R: Drop> PrefixStore<R> for RadixStore<R> {
     }
 }
 
-/// A descent to a place.
+/// Returns the descent to the prefix of `place`, which has ended if `place` is empty.
 fn descent_to<'a, R: Drop>(place: &Place<'a, RadixStore<R>>) -> Descent<'a, R> {
     let Place::At(store, prefix) = place else {
         return Descent::ended();
@@ -228,8 +233,8 @@ fn descent_to<'a, R: Drop>(place: &Place<'a, RadixStore<R>>) -> Descent<'a, R> {
     Descent::at(root, prefix)
 }
 
-/// The count of the routes once one was brought and one given back, where they were. A count that
-/// had stopped at the greatest number is made anew.
+/// Returns the number of routes after a swap, where `count` was the number before. A route was put
+/// if `brought`, and one was taken if `given`. A saturated count is made anew from the trees.
 fn routes_after<R: Drop>(
     count: u64,
     brought: bool,

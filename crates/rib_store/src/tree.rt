@@ -1,4 +1,6 @@
-//! A path-compressed radix tree of the prefixes of one family.
+//! A path-compressed radix tree of the prefixes of one family. [`RadixStore`](crate::RadixStore)
+//! has one for each family. Its operations are in the modules below: look-ups in `lookups.rt`, new
+//! keys in `puts.rt`, routes in `routes.rt`, removed keys in `keys.rt`.
 
 ghost use Rattle.std.specs.Prelude.{◌≡◌, true, false, Some, None, is_some, MatchOption, [], ◌∷◌, vec_capacity, option_copied, option_map, option_to_list};
 ghost use Rattle.prefix_store.specs.Lookups.{pointed};
@@ -20,24 +22,27 @@ use prefix_store::V4Prefix;
 use std::mem::size_of;
 use std::rc::Rc;
 
-/// A tree. A key with no others below it lies where its parent points to it; every other node has
-/// memory of its own.
+/// A tree or subtree. A key without keys below it is stored in its parent; every other node is on
+/// the heap.
 #[cycle(tree)]
 #[derive(Drop)]
 pub(crate) enum Tree<K, R> {
+    /// No keys.
     Empty,
-    /// A key without a route, and without keys below it.
+    /// A key without a route and without keys below it.
     Bare(K),
-    /// A key and its route, without keys below it.
+    /// A key with a route and without keys below it.
     Leaf(K, R),
-    /// Whether there is a route below, a branch, and what lies below it. A walk passes by where
-    /// there is none, without a look at what lies there.
+    /// A branch: its mark, which is whether a key below it has a route, its prefix, and its
+    /// children. Walks skip a node that isn't marked without visiting its children.
     Forked(bool, K, Box<Fork<K, R>>),
-    /// The same of a key, or of a branch that was one: a key that goes asks for no memory.
+    /// A key with keys below it, or a branch that was such a key: its mark, which is whether it or
+    /// a key below it has a route, its prefix, its slot and its children. Discarding a key with two
+    /// children leaves such a branch, since making another node would allocate memory.
     Rooted(bool, K, Box<Node<K, R>>),
 }
 
-/// What lies below a branch.
+/// The children of a branch.
 #[cycle(tree)]
 #[derive(Drop)]
 pub(crate) struct Fork<K, R> {
@@ -45,7 +50,7 @@ pub(crate) struct Fork<K, R> {
     right: Tree<K, R>,
 }
 
-/// What a node has that may have keys below it.
+/// The slot and the children of a node that may be a key.
 #[cycle(tree)]
 #[derive(Drop)]
 pub(crate) struct Node<K, R> {
@@ -54,30 +59,30 @@ pub(crate) struct Node<K, R> {
     right: Tree<K, R>,
 }
 
-/// How many octets a branch of IPv4 takes at most where a route is a pointer.
+/// The greatest size of an IPv4 [`Fork`], in octets, if a route is a pointer. The check proves it.
 const V4_FORK_OCTETS: usize = 32;
 
-/// The same of IPv6.
+/// The greatest size of an IPv6 [`Fork`], in octets, if a route is a pointer. The check proves it.
 const V6_FORK_OCTETS: usize = 80;
 
 const _: () = prove!(size_of::<Fork<V4Prefix, Rc<u32>>>() <= V4_FORK_OCTETS);
 
 const _: () = prove!(size_of::<Fork<Prefix, Rc<u32>>>() <= V6_FORK_OCTETS);
 
-/// How many octets another node of IPv4 takes at most.
+/// The greatest size of an IPv4 [`Node`], in octets, if a route is a pointer. The check proves it.
 const V4_NODE_OCTETS: usize = 48;
 
-/// The same of IPv6.
+/// The greatest size of an IPv6 [`Node`], in octets, if a route is a pointer. The check proves it.
 const V6_NODE_OCTETS: usize = 96;
 
 const _: () = prove!(size_of::<Node<V4Prefix, Rc<u32>>>() <= V4_NODE_OCTETS);
 
 const _: () = prove!(size_of::<Node<Prefix, Rc<u32>>>() <= V6_NODE_OCTETS);
 
-/// What a node has.
+/// The slot of a node.
 #[derive(Drop)]
 pub(crate) enum Slot<R> {
-    /// Two children and no key.
+    /// No key. The node has two children.
     Branch,
     /// A key without a route.
     Vacant,
@@ -86,7 +91,7 @@ pub(crate) enum Slot<R> {
 }
 
 impl<K, R> Tree<K, R> {
-    /// Whether some key has a route, by the mark of the root.
+    /// Returns `true` if some key has a route. Reads the mark of the root alone.
     fn is_routed(&self) -> bool
         ensures { result ≡ is_routed self.now }
     {
@@ -101,14 +106,14 @@ impl<K, R> Tree<K, R> {
 }
 
 impl<K, R> Fork<K, R> {
-    /// Whether some key below it has a route.
+    /// Returns `true` if some key below the branch has a route. Reads the marks of the children.
     fn is_routed(&self) -> bool
         ensures { result ≡ any_routed Branch self.now.left self.now.right }
     {
         self.left.is_routed() || self.right.is_routed()
     }
 
-    /// Whether some key below it has a route that doesn't lie where this turn leads.
+    /// Returns `true` if some key below the branch has a route, but not on the side `turn`.
     fn is_routed_beside(&self, turn: Turn) -> bool
         ensures { result ≡ routed_beside turn Branch self.now.left self.now.right }
     {
@@ -119,8 +124,9 @@ impl<K, R> Fork<K, R> {
         }
     }
 
-    /// Whether it is known to be routed before and after a route is put where this turn leads, or,
-    /// where none is brought, taken from there.
+    /// Returns `true` if the node is marked, which `routed` says, and stays so whatever happens on
+    /// the side `turn`: a route is put there if `brought`, or else may be taken. If `false`, there
+    /// is no route elsewhere.
     #[inline]
     #[tactic(auto, using(crate::proofs::MarkLaws::none_beside))]
     fn is_routed_anyway(&self, routed: bool, brought: bool, turn: Turn) -> bool
@@ -139,14 +145,15 @@ impl<K, R> Fork<K, R> {
 }
 
 impl<K, R> Node<K, R> {
-    /// Whether it has a route, or some key below it has.
+    /// Returns `true` if the node or some key below it has a route. Reads the marks of the
+    /// children.
     fn is_routed(&self) -> bool
         ensures { result ≡ any_routed self.now.slot self.now.left self.now.right }
     {
         self.left.is_routed() || self.right.is_routed() || self.slot.is_filled()
     }
 
-    /// Whether it has a route, or some key below it has, that doesn't lie where this turn leads.
+    /// Returns `true` if there is a route at the node or below it, but not where `turn` leads.
     fn is_routed_beside(&self, turn: Turn) -> bool
         ensures { result ≡
             routed_beside turn self.now.slot self.now.left self.now.right }
@@ -158,8 +165,9 @@ impl<K, R> Node<K, R> {
         }
     }
 
-    /// Whether it is known to be routed before and after a route is put where this turn leads, or,
-    /// where none is brought, taken from there.
+    /// Returns `true` if the node is marked, which `routed` says, and stays so whatever happens on
+    /// the side `turn`: a route is put there if `brought`, or else may be taken. If `false`, there
+    /// is no route elsewhere.
     #[inline]
     #[tactic(auto, using(crate::proofs::MarkLaws::none_beside))]
     fn is_routed_anyway(&self, routed: bool, brought: bool, turn: Turn) -> bool
@@ -178,14 +186,15 @@ impl<K, R> Node<K, R> {
 }
 
 impl<R> Slot<R> {
-    /// Whether there is a route.
+    /// Returns `true` if the slot has a route.
     fn is_filled(&self) -> bool
         ensures { result ≡ is_filled self.now }
     {
         matches!(self, Slot::Filled(_))
     }
 
-    /// A key's room, and the route in it.
+    /// Returns the slot of a key: `None` if there is no key, `Some(None)` if the key has no route,
+    /// or else the route.
     pub(crate) fn kept(&self) -> Option<Option<&R>>
         ensures { option_map (λ slot. option_copied slot) result ≡ slot_of self.now }
     {
@@ -196,7 +205,7 @@ impl<R> Slot<R> {
         }
     }
 
-    /// The prefix and its route, where it has one.
+    /// Returns `prefix` with the route in the slot, or `None` if there is no route.
     fn routed(&self, prefix: Prefix) -> Option<(Prefix, &R)>
         ensures { MatchOption result (routed_at prefix (slot_of self.now) ≡ None)
             (λ found. routed_at prefix (slot_of self.now) ≡ Some (found.0, found.1.now)) }
@@ -207,7 +216,8 @@ impl<R> Slot<R> {
         }
     }
 
-    /// Appends the prefix and its route, where it has one, as far as there is room.
+    /// Appends `prefix` with the route in the slot to `found`, if there is a route and if `found`
+    /// has spare capacity.
     fn add_routed<'a>(&'a self, prefix: Prefix, found: &mut Vec<(Prefix, &'a R)>)
         ensures found { pointed found.new.items ≡ filled (vec_capacity found.old)
             (pointed found.old.items) (option_to_list (routed_at prefix (slot_of self.now))) }
@@ -220,7 +230,7 @@ impl<R> Slot<R> {
     }
 }
 
-/// Appends the prefix and its route, where there is room.
+/// Appends `prefix` and `route` to `found` if it has spare capacity.
 fn add_route<'a, R>(prefix: Prefix, route: &'a R, found: &mut Vec<(Prefix, &'a R)>)
     ensures found { pointed found.new.items ≡ filled (vec_capacity found.old)
         (pointed found.old.items) ((prefix, route.now) ∷ []) }

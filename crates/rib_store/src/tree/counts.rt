@@ -1,4 +1,5 @@
-//! How many nodes, keys and routes a tree has.
+//! Counts of the nodes, the keys and the routes of a tree, which visit all of its nodes.
+//! `radix_store.rt` calls them, for keys and routes only if its own count was saturated.
 
 ghost use Rattle.std.specs.Prelude.{◌≡◌, length};
 ghost use Rattle.rib_store.specs.Tree.{shape_of, slots_of};
@@ -9,7 +10,7 @@ use crate::tree::{Slot, Tree};
 use prefix_store::Packed;
 
 impl<K: Packed, R> Tree<K, R> {
-    /// How many nodes there are, as far as the number goes. It walks over all of them.
+    /// Returns the number of nodes, or `u64::MAX` if there are more. Visits all nodes.
     pub(crate) fn node_count(&self) -> u64
         ensures { result ≡ counted (node_count (shape_of K.network self.now)) }
     {
@@ -29,7 +30,7 @@ impl<K: Packed, R> Tree<K, R> {
         }
     }
 
-    /// How many keys there are, as far as the number goes. It walks over all nodes.
+    /// Returns the number of keys, or `u64::MAX` if there are more. Visits all nodes.
     pub(crate) fn key_count(&self) -> u64
         ensures { result ≡ counted (length (slots_of (shape_of K.network self.now))) }
     {
@@ -50,7 +51,7 @@ impl<K: Packed, R> Tree<K, R> {
         }
     }
 
-    /// How many routes there are, as far as the number goes. It walks over all nodes.
+    /// Returns the number of routes, or `u64::MAX` if there are more. Visits all nodes.
     #[tactic(auto, using(crate::proofs::FillLaws::count_rooted))]
     pub(crate) fn route_count(&self) -> u64
         ensures { result ≡ counted (length (all_routes (shape_of K.network self.now))) }

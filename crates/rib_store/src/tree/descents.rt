@@ -1,40 +1,45 @@
-//! Descents to prefixes, eight at a time, before routes come and go there. The processor so waits for
-//! the nodes of all of them at once, and not for one after the other.
+//! Prefetching descents to eight prefixes at once, before routes are put or taken there. The
+//! processor waits for the nodes of all eight together, and not for one after the other.
+//! `RadixStore::reach` calls [`Descents::finish`]; read [`Descent`] first.
 
 use crate::tree::Tree;
 use ip_prefix::Prefix;
 use prefix_store::{Packed, V4Prefix};
 
-/// How many bits of a prefix a descent goes by at most. Nodes whose prefixes have as many bits and
-/// more aren't passed.
+/// The greatest number of bits of a prefix that a descent reads. Nodes whose prefixes have as many
+/// bits or more aren't passed.
 const MOST_BITS: u8 = 64;
 
-/// How many nodes a descent passes at most: more than lie above the prefixes of the Internet's tables.
-/// A node that lies one below isn't fetched, and the call behind the descent waits for it.
+/// The greatest number of nodes that a descent passes: more than lie above the prefixes of the
+/// Internet's tables. A node below these isn't prefetched, and the call after the descent waits for
+/// it.
 const MOST_NODES: u8 = 32;
 
-/// A descent to where a prefix stands, or would stand, and no further. It looks at one bit for each
-/// node, of the first 64 that the prefix has, and compares nothing, so it says nothing of what stands
-/// there.
+/// A descent in a tree to the node of a prefix, or to the node where its search would end. It reads
+/// one bit for each node, of the first [`MOST_BITS`] of the prefix, and compares no prefixes, so it
+/// finds out nothing about the prefix.
 #[derive(Drop)]
 pub(crate) struct Descent<'a, R> {
     root: Root<'a, R>,
-    /// The first bits of the prefix.
+    /// The first 64 bits of the prefix, filled up with zeros.
     bits: u64,
-    /// How many of them it has.
+    /// The number of bits that the descent reads, at most [`MOST_BITS`].
     depth: u8,
 }
 
-/// The root of the tree that a descent has before it, if any.
+/// The subtree that a descent has reached, or the end of the descent.
 #[derive(Drop)]
 pub(crate) enum Root<'a, R> {
+    /// No subtree.
     Ended,
+    /// A subtree of IPv4 prefixes.
     V4(&'a Tree<V4Prefix, R>),
+    /// A subtree of IPv6 prefixes.
     V6(&'a Tree<Prefix, R>),
 }
 
 impl<'a, R> Descent<'a, R> {
-    /// A descent that is at its end.
+    /// Returns a descent that passes no node.
     pub(crate) fn ended() -> Self {
         Descent {
             root: Root::Ended,
@@ -43,7 +48,7 @@ impl<'a, R> Descent<'a, R> {
         }
     }
 
-    /// A descent from there.
+    /// Returns a descent from `root` to `prefix`, which must be of one family.
     pub(crate) fn at(root: Root<'a, R>, prefix: &Prefix) -> Self {
         Descent {
             root,
@@ -52,7 +57,7 @@ impl<'a, R> Descent<'a, R> {
         }
     }
 
-    /// Passes a node, and answers whether there was one.
+    /// Passes a node, and returns `true` if there was one to pass.
     #[inline]
     fn pass_node(&mut self) -> bool {
         let next = match &self.root {
@@ -71,7 +76,8 @@ impl<'a, R> Descent<'a, R> {
     }
 }
 
-/// What lies below the root on the side of the bit behind its prefix, where that is one of so many.
+/// Returns the child of the root on the side of the bit of `bits` that follows the root's prefix.
+/// Returns `None` if the root has no children, or if the prefix has `depth` bits or more.
 #[inline]
 fn below<'a, K: Packed, R>(tree: &'a Tree<K, R>, bits: u64, depth: u8) -> Option<&'a Tree<K, R>> {
     let (prefix, left, right) = match tree {
@@ -86,7 +92,7 @@ fn below<'a, K: Packed, R>(tree: &'a Tree<K, R>, bits: u64, depth: u8) -> Option
     Some(if is_right { right } else { left })
 }
 
-/// Descents that go down at once.
+/// Eight descents that advance together.
 #[derive(Drop)]
 pub(crate) struct Descents<'a, R> {
     pub(crate) first: Descent<'a, R>,
@@ -100,7 +106,8 @@ pub(crate) struct Descents<'a, R> {
 }
 
 impl<'a, R> Descents<'a, R> {
-    /// Takes them down, and answers how many nodes the longest passed.
+    /// Advances the descents until all have ended, or by [`MOST_NODES`] nodes, and returns the
+    /// number of nodes that the longest passed.
     pub(crate) fn finish(&mut self) -> u64 {
         'nodes: for passed in 0..MOST_NODES {
             if !self.pass_nodes() {
@@ -110,7 +117,7 @@ impl<'a, R> Descents<'a, R> {
         u64::from(MOST_NODES)
     }
 
-    /// Each passes a node; it answers whether there was one.
+    /// Advances each descent by a node, and returns `true` if one had a node to pass.
     #[inline]
     fn pass_nodes(&mut self) -> bool {
         let first_four = self.first.pass_node()

@@ -1,4 +1,5 @@
-//! Keys go: what lies below the root is joined to it.
+//! Methods that remove a key and join what is below it to its parent. `RadixStore::discard` calls
+//! [`Tree::discard`]; read that method first.
 
 ghost use Rattle.std.specs.Prelude.{◌≡◌, None, List, Bool};
 ghost use Rattle.ip_prefix.specs.Turns.{way};
@@ -10,7 +11,8 @@ use prefix_store::Packed;
 use std::mem;
 
 impl<K: Packed, R: Drop> Tree<K, R> {
-    /// The prefix is no key any more.
+    /// Removes the key `key` and its route, and the nodes that aren't needed without it. Does
+    /// nothing if `key` isn't a key. Allocates no memory.
     pub(crate) fn discard(&mut self, key: &Prefix)
         requires shaped { IsShaped (shape_of K.network self.old) }
         requires marked { IsMarked self.old }
@@ -58,7 +60,7 @@ impl<K: Packed, R: Drop> Tree<K, R> {
     }
 }
 
-/// A prefix without others below it is no key any more, if it is this one.
+/// Empties the tree, whose only key is `prefix`, if that is `key`.
 fn discard_leaf<K: Packed, R: Drop>(tree: &mut Tree<K, R>, prefix: K, key: &Prefix)
     requires { IsLeaf prefix tree.old }
     ensures shaped { IsShaped (shape_of K.network tree.new) }
@@ -73,7 +75,7 @@ fn discard_leaf<K: Packed, R: Drop>(tree: &mut Tree<K, R>, prefix: K, key: &Pref
     }
 }
 
-/// Takes the root away where it is neither a key nor a branch, since nothing lies on one side of it.
+/// Replaces the root by its only child, if it is no key and has one child.
 fn join<K: Packed, R: Drop>(tree: &mut Tree<K, R>)
     requires shaped { IsNearlyShaped (shape_of K.network tree.old) }
     requires marked { IsMarked tree.old }
@@ -109,7 +111,7 @@ fn join<K: Packed, R: Drop>(tree: &mut Tree<K, R>)
     }
 }
 
-/// A key with no others below it any more lies where its parent points to it, and has no node.
+/// Moves the root out of its heap node if it is a key without children.
 fn fold_leaf<K: Packed, R: Drop>(tree: &mut Tree<K, R>)
     requires { IsMarked tree.old }
     ensures marked { IsMarked tree.new }

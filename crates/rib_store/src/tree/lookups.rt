@@ -1,4 +1,5 @@
-//! What a tree has at a prefix, around it, and in all.
+//! Look-ups in a tree: of a key, of the longest prefix that covers another, and of the routes after
+//! a prefix. `radix_store.rt` calls them. Read [`Tree::slot`] first.
 
 ghost use Rattle.std.specs.Prelude.{◌≡◌, ◌+◌, ◌≤◌, Some, None, MatchOption, vec_capacity, option_map, option_copied};
 ghost use Rattle.ip_prefix.specs.Turns.{way};
@@ -11,14 +12,16 @@ use ip_prefix::{Prefix, Turn};
 use prefix_store::Packed;
 
 impl<K: Packed, R> Tree<K, R> {
-    /// Returns the key's room, where it is a key, and the route in it. On the way down it looks at one
-    /// bit for each node, and at the whole prefix only where it ends.
+    /// Returns the slot at `key`: `None` if it isn't a key, `Some(None)` if it is a key without a
+    /// route, or else the route.
     #[tactic(auto, using(crate::proofs::TreeLaws::at_left_under, crate::proofs::TreeLaws::at_right_under))]
     pub(crate) fn slot(&self, key: &Prefix) -> Option<Option<&R>>
         requires { IsShaped (shape_of K.network self.now) }
         ensures { option_map (λ slot. option_copied slot) result
             ≡ at (shape_of K.network self.now) (way key.now) }
     {
+        // One bit is read for each node on the way down, and the whole prefix is compared where it
+        // ends.
         match self {
             Tree::Empty => None,
             Tree::Bare(prefix) => match prefix.turn(key) {
@@ -45,8 +48,8 @@ impl<K: Packed, R> Tree<K, R> {
         }
     }
 
-    /// The longest prefix with a route that covers the key, and its route. Each node that is met
-    /// adds one to the counter.
+    /// Returns the route at the longest prefix that covers `key`, with that prefix, or `None` if
+    /// there is none. Adds the number of nodes that it visits to `met`.
     pub(crate) fn longest(&self, key: &Prefix, met: &mut u32) -> Option<(Prefix, &R)>
         requires { met.old + visits (shape_of K.network self.now) (way key.now) ≤ u32.MAX }
         ensures found { option_map (λ p. (p.0, p.1.now)) result
@@ -90,7 +93,8 @@ impl<K: Packed, R> Tree<K, R> {
         }
     }
 
-    /// The least prefix with a route, and its route. It passes by nodes without a route below them.
+    /// Returns the route at the least prefix, with that prefix, or `None` if there is no route.
+    /// Skips nodes without a route below them.
     pub(crate) fn first(&self) -> Option<(Prefix, &R)>
         requires { IsMarked self.now }
         ensures { MatchOption result (first (shape_of K.network self.now) ≡ None)
@@ -123,7 +127,8 @@ impl<K: Packed, R> Tree<K, R> {
         }
     }
 
-    /// The least prefix with a route above the other, and its route.
+    /// Returns the route at the least prefix that is greater than `low`, with that prefix, or
+    /// `None` if there is none.
     pub(crate) fn after(&self, low: &Prefix) -> Option<(Prefix, &R)>
         requires { IsMarked self.now }
         ensures { MatchOption result (behind (shape_of K.network self.now) low.now ≡ None)
@@ -167,8 +172,8 @@ impl<K: Packed, R> Tree<K, R> {
         }
     }
 
-    /// Appends the prefixes with a route, in order, and their routes, as far as there is room. It
-    /// passes by nodes without a route below them.
+    /// Appends all routes with their prefixes to `found`, in the order of prefixes, up to its
+    /// capacity. Skips nodes without a route below them.
     pub(crate) fn add_all<'a>(&'a self, found: &mut Vec<(Prefix, &'a R)>)
         requires { IsMarked self.now }
         ensures found { pointed found.new.items ≡
@@ -203,8 +208,8 @@ impl<K: Packed, R> Tree<K, R> {
         }
     }
 
-    /// Appends the prefixes with a route above the other, in order, and their routes, as far as there
-    /// is room.
+    /// Appends the routes at prefixes greater than `low`, with these prefixes, to `found`, in the
+    /// order of prefixes, up to its capacity.
     pub(crate) fn add_above<'a>(&'a self, low: &Prefix, found: &mut Vec<(Prefix, &'a R)>)
         requires { IsMarked self.now }
         ensures found { pointed found.new.items ≡

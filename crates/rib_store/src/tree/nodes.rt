@@ -1,4 +1,4 @@
-//! Nodes, as they are made.
+//! Constructors of nodes, which `puts.rt` and `routes.rt` call.
 
 ghost use Rattle.std.specs.Prelude.{◌≡◌, ◌⊎◌, ◌||◌, Some, None, false, is_some, IfOk};
 ghost use Rattle.ip_prefix.specs.Turns.{way};
@@ -12,7 +12,7 @@ use prefix_store::Packed;
 use std::alloc::{AllocError, Global};
 use std::mem;
 
-/// A key without others below it, with the route, which is taken.
+/// Returns a tree whose only key is `prefix`, with `route`, and leaves `None` in `route`.
 pub(crate) fn leaf_with<K: Packed, R: Drop>(prefix: K, route: &mut Option<R>) -> Tree<K, R>
     ensures leaf { IsLeaf prefix result }
     ensures marked { IsMarked result }
@@ -26,7 +26,7 @@ pub(crate) fn leaf_with<K: Packed, R: Drop>(prefix: K, route: &mut Option<R>) ->
     }
 }
 
-/// The slot of a key without others below it.
+/// Converts a tree of one key to the slot of that key.
 pub(crate) fn slot_in<K: Packed, R: Drop>(tree: Tree<K, R>) -> Slot<R>
     ensures slot { slot_of result ≡ Some (leaf_slot tree) }
     ensures filled { is_filled result ≡ is_some (leaf_slot tree) }
@@ -37,7 +37,7 @@ pub(crate) fn slot_in<K: Packed, R: Drop>(tree: Tree<K, R>) -> Slot<R>
     }
 }
 
-/// A branch with nothing below it yet.
+/// Returns a node that has no key and no children yet. Fails if memory allocation fails.
 pub(crate) fn lone<K: Packed, R: Drop>(alloc: Global) -> Result<Box<Node<K, R>>, AllocError>
     ensures slot { IfOk result (λ node. slot_of node.value.slot ≡ None) }
     ensures filled { IfOk result (λ node. is_filled node.value.slot ≡ false) }
@@ -53,7 +53,8 @@ pub(crate) fn lone<K: Packed, R: Drop>(alloc: Global) -> Result<Box<Node<K, R>>,
     Ok(node)
 }
 
-/// Puts a branch above the root, which lies on this side of it then, and a leaf on the other side.
+/// Puts the branch `fork` of `prefix` above the root, which becomes its child on the side `side`,
+/// with `leaf` as the child on the other side.
 pub(crate) fn put_fork<K: Packed, R: Drop>(
     tree: &mut Tree<K, R>,
     prefix: K,
@@ -80,7 +81,7 @@ pub(crate) fn put_fork<K: Packed, R: Drop>(
     *tree = Tree::Forked(routed, prefix, fork);
 }
 
-/// Puts a node at the root, with a tree below it on this side alone.
+/// Replaces the tree by the node of `prefix`, with `below` as its only child, on the side `side`.
 pub(crate) fn put_root<K: Packed, R: Drop>(
     tree: &mut Tree<K, R>,
     prefix: K,

@@ -1,4 +1,5 @@
-//! Routes put at keys, which are made where they were none.
+//! Methods that put a route at a prefix, and make the prefix a key.
+//! [`RadixStore::put`](crate::RadixStore) calls [`Tree::put`]; read that method first.
 
 ghost use Rattle.std.specs.Prelude.{◌≡◌, ◌≢◌, ◌||◌, Some, None, true, is_some, not, OnOk, OnErr, IfOk};
 ghost use Rattle.ip_prefix.specs.Turns.{way, turn_of};
@@ -15,9 +16,9 @@ use std::alloc::{AllocError, Global};
 use std::mem;
 
 impl<K: Packed, R: Drop> Tree<K, R> {
-    /// Puts the route at the key, which is made where it was none, and takes what was there. Answers
-    /// whether the key is new. Past nodes whose marks stay it is a loop to a compiler, since the call
-    /// for what lies below is the last.
+    /// Swaps the route at `key` and `route`, either of which may be `None`, and makes `key` a key.
+    /// Returns `true` if it wasn't one before. On error, which means that memory allocation fails,
+    /// the tree and `route` are unchanged.
     #[cycle(put)]
     pub(crate) fn put(
         &mut self,
@@ -41,6 +42,8 @@ impl<K: Packed, R: Drop> Tree<K, R> {
         ensures kept { OnErr result (route.new ≡ route.old) }
         ensures known { OnErr result (at (shape_of K.network self.old) (way key.now) ≡ None) }
     {
+        // Where the mark of a node stays, the call for the child comes last, so that the compiler
+        // makes a loop of it.
         match self {
             Tree::Rooted(routed, prefix, node) => {
                 let node = &mut **node;
@@ -83,7 +86,9 @@ impl<K: Packed, R: Drop> Tree<K, R> {
     }
 }
 
-/// The same below a node that has no routes elsewhere, and is marked anew.
+/// Swaps the route at `key` in the child `below` and `route`, as [`Tree::put`] does, and sets the
+/// mark `routed` of its parent to the mark of the child. The parent has no routes elsewhere. On
+/// error, all are unchanged.
 #[cycle(put)]
 #[inline(never)]
 fn put_marking<K: Packed, R: Drop>(
@@ -116,8 +121,8 @@ fn put_marking<K: Packed, R: Drop>(
     Ok(made)
 }
 
-/// The same where the key doesn't lie below the root, or nothing does. It stands by itself, so that a
-/// way down takes few instructions a node.
+/// Swaps the route at `key` and `route`, as [`Tree::put`] does, where `key` isn't below the root or
+/// the root has no children.
 #[inline(never)]
 fn put_at_root<K: Packed, R: Drop>(
     tree: &mut Tree<K, R>,
@@ -142,6 +147,7 @@ fn put_at_root<K: Packed, R: Drop>(
     ensures kept { OnErr result (route.new ≡ route.old) }
     ensures known { OnErr result (at (shape_of K.network tree.old) (way key.now) ≡ None) }
 {
+    // This isn't inlined, so that the way down takes few instructions for each node.
     match tree {
         Tree::Empty => {
             *tree = leaf_with(K::of(key), route);
@@ -180,8 +186,9 @@ fn put_at_root<K: Packed, R: Drop>(
     }
 }
 
-/// Makes the prefix, which the root's doesn't cover, a key above the root or beside it, with the route,
-/// and answers that it is new.
+/// Makes `key` a key with `route`, above the root or beside it below a new branch, and returns
+/// `true`. `prefix` is the prefix of the root, which must not cover `key`. On error, which means
+/// that memory allocation fails, the tree and `route` are unchanged.
 fn put_beside<K: Packed, R: Drop>(
     tree: &mut Tree<K, R>,
     prefix: &Prefix,
@@ -226,7 +233,8 @@ fn put_beside<K: Packed, R: Drop>(
     Ok(true)
 }
 
-/// Makes the branch at the root a key, with the route, and answers that it is new.
+/// Makes the prefix of the branch at the root, `prefix`, a key with `route`, and returns `true`. On
+/// error, which means that memory allocation fails, the tree and `route` are unchanged.
 fn put_at_fork<K: Packed, R: Drop>(
     tree: &mut Tree<K, R>,
     prefix: K,
@@ -258,8 +266,8 @@ fn put_at_fork<K: Packed, R: Drop>(
     Ok(true)
 }
 
-/// Puts the route at the key, beside or below one that has no others below it, or there. Answers
-/// whether the key is new.
+/// Swaps the route at `key` and `route`, as [`Tree::put`] does, where `prefix` is the only key of
+/// the tree. Returns `true` if `key` wasn't a key before.
 fn put_at_leaf<K: Packed, R: Drop>(
     tree: &mut Tree<K, R>,
     prefix: K,

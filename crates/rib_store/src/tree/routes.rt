@@ -1,4 +1,5 @@
-//! Routes come and go in the room of keys.
+//! Methods that put and take the routes of keys that are there, without allocating memory.
+//! `RadixStore::exchange` calls [`Tree::exchange`]; read that method first.
 
 ghost use Rattle.std.specs.Prelude.{◌≡◌, ◌+◌, ◌<◌, ◌≤◌, ◌⊎◌, ◌++◌, Some, None, true, false, is_some, not, option_to_list, IsSome, length, map, vec_capacity};
 ghost use Rattle.ip_prefix.specs.Turns.{way};
@@ -13,8 +14,7 @@ use prefix_store::Packed;
 use std::mem;
 
 impl<K: Packed, R: Drop> Tree<K, R> {
-    /// The key's route, or its absence, and the argument change places. Past nodes whose marks stay it
-    /// is a loop to a compiler, since the call for what lies below is the last.
+    /// Swaps the route at `key`, which must be a key, and `route`, either of which may be `None`.
     #[cycle(exchange)]
     pub(crate) fn exchange(&mut self, key: &Prefix, route: &mut Option<R>)
         requires shaped { IsShaped (shape_of K.network self.old) }
@@ -28,6 +28,8 @@ impl<K: Packed, R: Drop> Tree<K, R> {
         ensures brought { is_some route.old ≡ true → is_routed self.new ≡ true }
         ensures root { root (shape_of K.network self.new) ≡ root (shape_of K.network self.old) }
     {
+        // Where the mark of a node stays, the call for the child comes last, so that the compiler
+        // makes a loop of it.
         match self {
             Tree::Empty => {}
             Tree::Bare(prefix) => {
@@ -83,8 +85,8 @@ impl<K: Packed, R: Drop> Tree<K, R> {
 }
 
 impl<K: Packed, R: Drop> Tree<K, R> {
-    /// Takes all routes, in the order of their prefixes, into a list that has room for them. It passes
-    /// by nodes without a route below them.
+    /// Moves all routes to the end of `taken`, in the order of their prefixes. `taken` must have
+    /// spare capacity for them. Skips nodes without a route below them.
     pub(crate) fn take_routes(&mut self, taken: &mut Vec<R>)
         requires marked { IsMarked self.old }
         requires room { length taken.old.items + length (all_routes (shape_of K.network self.old))
@@ -127,7 +129,8 @@ impl<K: Packed, R: Drop> Tree<K, R> {
     }
 }
 
-/// The same below a node that has no routes elsewhere, and is marked anew.
+/// Swaps the route at `key` in the child `below` and `route`, as [`Tree::exchange`] does, and sets
+/// the mark `routed` of its parent to the mark of the child. The parent has no routes elsewhere.
 #[cycle(exchange)]
 #[inline(never)]
 fn exchange_marking<K: Packed, R: Drop>(
@@ -152,7 +155,8 @@ fn exchange_marking<K: Packed, R: Drop>(
     *routed = below.is_routed();
 }
 
-/// The route of a key without others below it, or its absence, and the argument change places.
+/// Swaps the route at `prefix`, the only key of the tree, and `route`, either of which may be
+/// `None`.
 pub(crate) fn exchange_leaf<K: Packed, R: Drop>(
     tree: &mut Tree<K, R>,
     prefix: K,
@@ -171,7 +175,8 @@ pub(crate) fn exchange_leaf<K: Packed, R: Drop>(
 }
 
 impl<R: Drop> Slot<R> {
-    /// A key's route, or its absence, and the argument change places.
+    /// Swaps the route in the slot, which must be of a key, and `route`, either of which may be
+    /// `None`.
     pub(crate) fn exchange(&mut self, route: &mut Option<R>)
         requires { IsSome (slot_of self.old) }
         ensures slot { slot_of self.new ≡ Some route.old }
@@ -186,8 +191,8 @@ impl<R: Drop> Slot<R> {
         }
     }
 
-    /// A key's slot, with this route or its absence in place of that which was there, and whether it
-    /// is new.
+    /// Swaps the route in the slot and `route`, either of which may be `None`, and makes the slot
+    /// one of a key. Returns `true` if it wasn't before; `route` becomes `None` then.
     pub(crate) fn put(&mut self, route: &mut Option<R>) -> bool
         ensures slot { slot_of self.new ≡ Some route.old }
         ensures given { route.new ≡ route_found (slot_of self.old) }
@@ -201,7 +206,8 @@ impl<R: Drop> Slot<R> {
         made
     }
 
-    /// Takes the route, where there is one, into a list that has room for it.
+    /// Moves the route, if there is one, to the end of `taken`, which must have spare capacity for
+    /// it.
     fn take_route(&mut self, taken: &mut Vec<R>)
         requires { length taken.old.items < vec_capacity taken.old ⊎ is_filled self.old ≡ false }
         ensures taken { taken.new.items ≡ taken.old.items
@@ -216,7 +222,7 @@ impl<R: Drop> Slot<R> {
         }
     }
 
-    /// No key's slot.
+    /// Makes the slot one of no key, and drops its route.
     pub(crate) fn vacate(&mut self)
         ensures { slot_of self.new ≡ None }
     {
