@@ -140,7 +140,7 @@ fn write_octet(octet: u8, text: &mut [u8], at: usize) -> usize
 }
 
 /// Writes the text of an IPv6 address at offset `at`, and returns the offset of the octet after it.
-/// The groups are joined by colons, and `::` stands for the longest run of groups of 0.
+/// The groups are joined by colons, and `::` stands for the longest run of two or more groups of 0.
 #[inline(never)]
 fn write_colons(address: &Addr, text: &mut [u8], at: usize) -> usize
     requires { (address.now.family ≡ V6) × (at + ADDRESS_ROOM ≤ length text.old) }
