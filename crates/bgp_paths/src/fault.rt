@@ -1,4 +1,5 @@
-//! Why octets couldn't be read.
+//! The errors of parsers of BGP octets. The parsers of `bgp_paths` and `bgp_wire` return them. Read
+//! [`WireFault`].
 
 ghost use Rattle.std.specs.Prelude.{◌≡◌};
 ghost use Rattle.bgp_paths.specs.declared.fault.WireFault.TheVariants.{Memory};
@@ -6,13 +7,13 @@ ghost use Rattle.bgp_paths.specs.declared.fault.WireFault.TheVariants.{Memory};
 use std::alloc::{AllocError, AllocFailed};
 use thiserror::Error;
 
-/// Why octets couldn't be read.
+/// An error of a parser of BGP octets.
 #[derive(Clone, Copy, Debug, PartialEq, Eq, Error)]
 pub enum WireFault {
-    /// The octets don't have the form of what was to be read.
+    /// The octets don't have the form of the value to parse.
     #[error("malformed")]
     Malformed,
-    /// A growth was refused.
+    /// Memory allocation failed.
     #[error("out of memory")]
     Memory,
 }

@@ -1,4 +1,6 @@
-//! Laws of the definitions, which call nothing.
+//! Theorems about the definitions that the contracts of this crate cite. The functions have no code
+//! and nothing calls them: what they state is proved as the crate is checked. `docs/proved.md`
+//! names them.
 
 ghost use Rattle.std.specs.Prelude.{◌≡◌, ℕ, List, [], ◌∷◌, codes};
 ghost use Rattle.ip_prefix.specs.declared.text.TheConstants.{COLON};
@@ -11,26 +13,27 @@ ghost use Rattle.bgp_paths.specs.Merge.{IsMerge, path_weight};
 ghost use Rattle.bgp_paths.specs.Path.{SpellsPath};
 ghost use Rattle.bgp_paths.specs.Readers.{all_marks};
 
-/// No octets spell two paths with AS numbers of one width.
+/// Proves that octets spell at most one path with AS numbers of one width.
 pub fn one_path()
     ensures { (width : AsWidth) (octets : List ℕ) (path other : AsPath) →
         SpellsPath width path octets → SpellsPath width other octets → path ≡ other }
 {}
 
-/// A joined path counts as many systems as the first of the two (RFC 6793, section 4.2.3).
+/// Proves that a merged path counts as many ASes as the first of the two paths (RFC 6793, section
+/// 4.2.3).
 pub fn merge_keeps_the_weight()
     ensures { (first second path : AsPath) → IsMerge first second path →
         path_weight path ≡ path_weight first }
 {}
 
-/// Two paths are joined, and in one way.
+/// Proves that any two paths have a merged path, and only one.
 pub fn one_merge()
     ensures some { (first second : AsPath) → (path : AsPath) × IsMerge first second path }
     ensures one { (first second path other : AsPath) →
         IsMerge first second path → IsMerge first second other → path ≡ other }
 {}
 
-/// The marks of texts that the definitions name.
+/// Proves which characters the marks of the printed texts are.
 pub fn text_marks()
     ensures between { SPACE ∷ COLON ∷ [] ≡ codes " :" }
     ensures sets { all_marks AS_SET_MARKS ≡ codes "{,}" }
@@ -38,8 +41,8 @@ pub fn text_marks()
     ensures confederation_sets { all_marks CONFED_SET_MARKS ≡ codes "[,]" }
 {}
 
-/// The numbers that the definitions name: of kinds of segments (RFC 4271, section 4.3; RFC 5065,
-/// section 3) and of communities (RFC 1997).
+/// Proves the values of the numbers that the definitions name: the types of segments (RFC 4271,
+/// section 4.3; RFC 5065, section 3) and the well-known communities (RFC 1997).
 pub fn path_numbers()
     ensures segments { (AS_SET ≡ 1) × (AS_SEQUENCE ≡ 2) × (AS_CONFED_SEQUENCE ≡ 3)
         × (AS_CONFED_SET ≡ 4) }

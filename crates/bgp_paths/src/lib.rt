@@ -1,5 +1,6 @@
-//! AS numbers and AS paths of BGP: their octets, how two paths are joined, and the texts of paths
-//! and communities.
+//! AS numbers, AS paths and communities of BGP: the parser of AS paths, the merge of AS_PATH with
+//! AS4_PATH (RFC 6793), and the printed texts of paths and communities. `bgp_wire` and
+//! `bgpdump_lines` call it. Read `path.rt` first, then `path_reader.rt` and `merge.rt`.
 #![tactic(auto)]
 
 mod fault;

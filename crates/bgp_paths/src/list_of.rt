@@ -1,14 +1,16 @@
-//! Lists whose value is the list of what they have, however much room they keep.
+//! Lists that contracts see as their elements alone. Paths, segments and communities hold them.
+//! Read [`ListOf`] first.
 
 ghost use Rattle.std.specs.Prelude.{◌≡◌, []};
 
 use std::alloc::{AllocError, Global};
 use std::marker::Model;
 
-/// Values in order.
+/// A list of values. Its value in contracts is the list of its elements, whatever the capacity of
+/// the vector.
 #[derive(Debug, Drop)]
 pub struct ListOf<T> {
-    /// The values as a vector.
+    /// The elements.
     pub items: Vec<T>,
 }
 
@@ -21,7 +23,7 @@ impl<T> Model for ListOf<T> {
 }
 
 impl<T: Drop> ListOf<T> {
-    /// A list of these.
+    /// Returns a list of the elements of `items`.
     #[inline]
     pub fn from_vec(items: Vec<T>) -> Self
         ensures { result ≡ items.items }
@@ -29,7 +31,7 @@ impl<T: Drop> ListOf<T> {
         ListOf { items }
     }
 
-    /// A list of none.
+    /// Returns an empty list, without allocating memory.
     #[inline]
     pub fn none(alloc: Global) -> Self
         ensures { result ≡ [] }
@@ -37,7 +39,7 @@ impl<T: Drop> ListOf<T> {
         ListOf::from_vec(Vec::new(alloc))
     }
 
-    /// What it has, as a vector.
+    /// Returns the elements as a vector.
     #[inline]
     pub fn into_vec(self) -> Vec<T>
         ensures { result.items ≡ self }
@@ -46,7 +48,7 @@ impl<T: Drop> ListOf<T> {
         kept
     }
 
-    /// What it has, in order.
+    /// Returns the elements as a slice.
     #[inline]
     pub fn as_slice(&self) -> &[T]
         ensures { result.now ≡ self.now }

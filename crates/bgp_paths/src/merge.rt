@@ -1,5 +1,5 @@
-//! Joining a path of two-octet AS numbers with the four-octet one beside it (RFC 6793, section
-//! 4.2.3).
+//! The merge of an AS_PATH of two-octet AS numbers with the AS4_PATH beside it (RFC 6793, section
+//! 4.2.3). `bgp_wire` calls [`merge_paths`] for the attributes of a route; read that first.
 
 ghost use Rattle.std.specs.Prelude.{◌≡◌, ℕ, ◌≤◌, List, ◌++◌, IfOk, OnOk, sum_by};
 ghost use Rattle.bgp_paths.specs.Merge.{IsMerge, IsLongest, path_weight, segment_weight, Hop, hops_from, segments_of};
@@ -11,8 +11,9 @@ use crate::path_reader::fit;
 use crate::segment::{AsNumbers, Segment, SegmentKind};
 use std::alloc::{AllocError, Global};
 
-/// AS_PATH joined with AS4_PATH (RFC 6793, section 4.2.3). Segments of a confederation in AS4_PATH
-/// are dropped.
+/// Returns the AS_PATH `first` merged with the AS4_PATH `second` (RFC 6793, section 4.2.3): the
+/// beginning of `first` that counts as many ASes as `second` lacks, then `second` without its
+/// confederation segments. If `first` counts fewer ASes than `second`, returns a copy of `first`.
 pub fn merge_paths(alloc: Global, first: &AsPath, second: &AsPath) -> Result<AsPath, AllocError>
     ensures { IfOk result (IsMerge first.now second.now) }
 {
@@ -37,7 +38,7 @@ pub fn merge_paths(alloc: Global, first: &AsPath, second: &AsPath) -> Result<AsP
     })
 }
 
-/// How many systems a path counts (RFC 6793, section 4.2.3).
+/// Returns the number of ASes that a path counts (RFC 6793, section 4.2.3).
 fn weigh(path: &AsPath) -> u128
     ensures { result ≡ path_weight path.now }
 {
@@ -48,8 +49,8 @@ fn weigh(path: &AsPath) -> u128
     total
 }
 
-/// How many systems a segment counts: a set is one, and a segment of a confederation none (RFC
-/// 5065, section 5.3).
+/// Returns the number of ASes that a segment counts: all of a sequence, one for a set, and none for
+/// a confederation segment (RFC 5065, section 5.3).
 fn weigh_segment(segment: &Segment) -> usize
     ensures { result ≡ segment_weight segment.now }
 {
@@ -60,7 +61,8 @@ fn weigh_segment(segment: &Segment) -> usize
     }
 }
 
-/// Appends the longest front of the segments that counts so many systems.
+/// Appends to `path` the longest beginning of `segments` that counts `weight` ASes. A sequence may
+/// be cut. On error, `path` is unspecified.
 fn push_front(
     alloc: Global,
     segments: &[Segment],
@@ -76,7 +78,7 @@ fn push_front(
         let numbers = segment.numbers.as_slice();
         let needed = weigh_segment(segment) as u128;
         if left < needed {
-            // Only a sequence is cut. Of a set, which needs one, nothing is left.
+            // Only a sequence is cut. A set counts one AS, so nothing of it is left.
             return push_segment(
                 alloc,
                 SegmentKind::AsSequence,
@@ -90,7 +92,8 @@ fn push_front(
     Ok(())
 }
 
-/// Appends a segment of these numbers, but no sequence of none.
+/// Appends to `path` a segment of these AS numbers, or nothing if it is a sequence without numbers.
+/// On error, `path` is unspecified.
 fn push_segment(
     alloc: Global,
     kind: SegmentKind,

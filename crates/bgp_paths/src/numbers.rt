@@ -1,4 +1,6 @@
-//! Numbers in network byte order.
+//! Parsing lists of AS numbers and of communities, which are sent in network byte order.
+//! `path_reader.rt` parses segments with it, and `bgp_wire` communities. Read [`fill_numbers`]
+//! first.
 
 ghost use Rattle.std.specs.Prelude.{◌≡◌, ◌≤◌, ◌<◌, ◌+◌, ◌/◌, ◌%◌, ◌^◌, [], length, OnOk, IfErr, vec_capacity};
 ghost use Rattle.std.specs.Int.{to_be_bytes, w16};
@@ -10,17 +12,17 @@ use crate::fault::WireFault;
 use byteorder::{BigEndian, ByteOrder};
 use std::alloc::AllocError;
 
-/// How many octets an AS number takes.
+/// The size of an AS number in octets.
 #[derive(Clone, Copy, Debug, PartialEq, Eq)]
 pub enum AsWidth {
-    /// Two, as before RFC 6793.
+    /// Two octets, as before RFC 6793.
     Two,
-    /// Four (RFC 6793).
+    /// Four octets (RFC 6793).
     Four,
 }
 
 impl AsWidth {
-    /// How many octets a number takes.
+    /// Returns the size of an AS number, in octets.
     #[inline]
     pub fn octets(self) -> usize
         ensures { result ≡ octets_at self }
@@ -31,7 +33,8 @@ impl AsWidth {
         }
     }
 
-    /// The number in so many octets.
+    /// Returns the big-endian AS number that `octets` spell. There must be [`AsWidth::octets`] of
+    /// them.
     #[inline]
     pub fn number(self, octets: &[u8]) -> u32
         requires { length octets.now ≡ octets_at self }
@@ -44,19 +47,20 @@ impl AsWidth {
     }
 }
 
-/// Makes the list an empty one with room for just so many numbers. It stands out of line, since most
-/// lists have about the room that they need.
+/// Replaces `numbers` with an empty list whose capacity is exactly `count`. On error, `numbers` is
+/// unspecified.
 #[inline(never)]
 fn replace_room(numbers: &mut Vec<u32>, count: usize) -> Result<(), AllocError>
     ensures none { OnOk result (numbers.new.items ≡ []) }
     ensures exact { OnOk result (vec_capacity numbers.new ≡ count) }
 {
+    // It is out of line, since most lists have about the capacity that they need.
     *numbers = Vec::with_capacity(*numbers.allocator(), count)?;
     Ok(())
 }
 
-/// Takes all numbers away, and makes room for so many. Room for up to `spare` more stays, so that a
-/// list has about the room that it needs, whatever stood in it before.
+/// Clears `numbers`, and makes its capacity at least `count` and at most `count + spare`. On error,
+/// `numbers` is unspecified.
 #[inline(always)]
 pub(crate) fn make_room(numbers: &mut Vec<u32>, count: usize, spare: u8) -> Result<(), AllocError>
     requires small { count < 2 ^ 62 }
@@ -64,16 +68,17 @@ pub(crate) fn make_room(numbers: &mut Vec<u32>, count: usize, spare: u8) -> Resu
     ensures room { OnOk result (count ≤ vec_capacity numbers.new) }
     ensures bound { OnOk result (vec_capacity numbers.new ≤ count + spare) }
 {
+    // The upper bound lets a list take about the memory that it needs, whatever it held before.
     numbers.clear();
-    // Where there is too little room, that is a large number.
+    // If the capacity is below `count`, the wrapped difference is a large number.
     if numbers.capacity().wrapping_sub(count) > usize::from(spare) {
         replace_room(numbers, count)?;
     }
     Ok(())
 }
 
-/// Appends the numbers that the octets are, one behind the other, to none. It is inlined, so that
-/// there is a loop for each width.
+/// Appends the big-endian numbers of `width` of which `octets` consist to `numbers`, which must be
+/// empty and have capacity for them.
 #[inline(always)]
 fn push_numbers(width: AsWidth, octets: &[u8], numbers: &mut Vec<u32>)
     requires whole { length octets.now % octets_at width ≡ 0 }
@@ -82,6 +87,7 @@ fn push_numbers(width: AsWidth, octets: &[u8], numbers: &mut Vec<u32>)
     ensures numbers { SpellsAll (SpellsAsn width) numbers.new.items octets.now }
     ensures kept { vec_capacity numbers.new ≡ vec_capacity numbers.old }
 {
+    // It is inlined, so that there is a loop for each width.
     let size = width.octets();
     let mut rest = octets;
     while !rest.is_empty() {
@@ -91,8 +97,9 @@ fn push_numbers(width: AsWidth, octets: &[u8], numbers: &mut Vec<u32>)
     }
 }
 
-/// Makes the numbers those that the octets are, one behind the other. There is room for all of them
-/// from the start, and for up to `spare` more behind a longer list. Refused, nothing is said of them.
+/// Replaces `numbers` with the big-endian numbers of `width` of which `octets` consist. The
+/// capacity is at most `spare` above their count. Returns `Malformed` if `octets` ends inside a
+/// number. On error, `numbers` is unspecified.
 #[inline(always)]
 pub fn fill_numbers(
     numbers: &mut Vec<u32>,

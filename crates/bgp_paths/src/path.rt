@@ -1,4 +1,5 @@
-//! AS paths.
+//! AS paths. `bgp_wire` parses the path of each route with [`AsPath::fill`], and `text.rt` prints
+//! it. Read [`AsPath`] first.
 
 ghost use Rattle.std.specs.Prelude.{◌≡◌, [], OnOk, IfErr};
 ghost use Rattle.ip_prefix.specs.Sequences.{SpellsAll};
@@ -12,7 +13,7 @@ use crate::path_reader::{fill_segments, fit};
 use crate::segment::Segment;
 use std::alloc::{AllocError, Global};
 
-/// The segments of a path.
+/// The segments of an AS path.
 pub type Segments = ListOf<Segment>;
 
 impl Clone for ListOf<Segment> {
@@ -23,15 +24,15 @@ impl Clone for ListOf<Segment> {
     }
 }
 
-/// An AS path: the systems that a route has passed.
+/// An AS path: the ASes that a route has passed through (RFC 4271, section 4.3).
 #[derive(Clone, Debug, Drop)]
 pub struct AsPath {
-    /// Its segments, the latest first.
+    /// The segments, the latest first.
     pub segments: Segments,
 }
 
 impl AsPath {
-    /// A path without segments.
+    /// Returns a path without segments, without allocating memory.
     #[inline]
     pub fn none(alloc: Global) -> AsPath
         ensures { result ≡ no_path }
@@ -41,7 +42,7 @@ impl AsPath {
         }
     }
 
-    /// Takes all segments away.
+    /// Removes all segments from the path.
     #[inline]
     pub fn clear(&mut self)
         ensures { self.new ≡ no_path }
@@ -51,8 +52,8 @@ impl AsPath {
         fit(segments);
     }
 
-    /// Makes it the path that the octets spell, in the memory that it has. Refused, nothing is said
-    /// of it.
+    /// Replaces the path with the one that `octets` spell with AS numbers of `width`, reusing its
+    /// memory. Returns `Malformed` if `octets` spell no path. On error, the path is unspecified.
     #[inline]
     pub fn fill(&mut self, alloc: Global, width: AsWidth, octets: &[u8]) -> Result<(), WireFault>
         ensures filled { OnOk result (SpellsPath width self.new octets.now) }

@@ -1,4 +1,5 @@
-//! Reading AS paths.
+//! Parsing AS paths (RFC 4271, section 4.3; RFC 5065, section 3). `AsPath::fill` calls
+//! [`fill_segments`]; read that first.
 
 ghost use Rattle.std.specs.Prelude.{◌≡◌, ℕ, [], ◌∷◌, ◌++◌, OnOk, IfErr, IfSome, IfNone};
 ghost use Rattle.ip_prefix.specs.Sequences.{SpellsAll};
@@ -11,21 +12,21 @@ use crate::numbers::{AsWidth, fill_numbers};
 use crate::segment::{self, AsNumbers, Segment, SegmentKind};
 use std::alloc::{AllocError, Global};
 
-/// The type of a set (RFC 4271, section 4.3).
+/// The type of a segment that is a set (RFC 4271, section 4.3).
 const AS_SET: u8 = 1;
-/// The type of a sequence (RFC 4271, section 4.3).
+/// The type of a segment that is a sequence (RFC 4271, section 4.3).
 const AS_SEQUENCE: u8 = 2;
-/// The type of a sequence of a confederation's members (RFC 5065, section 3).
+/// The type of a segment that is a sequence of members of a confederation (RFC 5065, section 3).
 const AS_CONFED_SEQUENCE: u8 = 3;
-/// The type of a set of a confederation's members (RFC 5065, section 3).
+/// The type of a segment that is a set of members of a confederation (RFC 5065, section 3).
 const AS_CONFED_SET: u8 = 4;
 
-/// For how many segments more than it has a path has room at most. With room for one more it moves to
-/// a block that has none to spare.
+/// The greatest number by which the capacity of a path may exceed the number of its segments. At
+/// one more, the capacity is shrunk to their number.
 const MOST_SPARE: usize = 4;
 
-/// A segment in front of octets: its kind (RFC 4271, section 4.3; RFC 5065, section 3), the octets of
-/// its numbers, and what follows it.
+/// The segment at the start of octets: its kind (RFC 4271, section 4.3; RFC 5065, section 3), the
+/// octets of its AS numbers, and the octets after it.
 #[derive(Clone, Copy)]
 struct FramedSegment<'a> {
     kind: SegmentKind,
@@ -33,7 +34,8 @@ struct FramedSegment<'a> {
     rest: &'a [u8],
 }
 
-/// The segment in front of the octets.
+/// Finds the segment with AS numbers of `width` at the start of `octets`. Returns `None` if its
+/// type is unknown, its count of AS numbers is 0, or `octets` ends inside it.
 #[inline(always)]
 fn frame_segment(width: AsWidth, octets: &[u8]) -> Option<FramedSegment<'_>>
     ensures some { IfSome result (λ f. (count : ℕ)
@@ -57,16 +59,18 @@ fn frame_segment(width: AsWidth, octets: &[u8]) -> Option<FramedSegment<'_>>
     Some(FramedSegment { kind, body, rest })
 }
 
-/// Lets go of room for more segments than there are, unless memory is refused for fewer. It stands out
-/// of line, since few paths have much.
+/// Shrinks the capacity of `segments` to their number. If memory allocation fails, the capacity
+/// stays.
 #[inline(never)]
 fn shrink(segments: &mut Vec<Segment>)
     ensures { segments.new.items ≡ segments.old.items }
 {
+    // It is out of line, since few paths have much spare capacity.
     segments.shrink_to_fit();
 }
 
-/// Lets go of room for many segments more than there are, unless memory is refused for fewer.
+/// Shrinks the capacity of `segments` to their number if it exceeds that by more than
+/// [`MOST_SPARE`]. If memory allocation fails, the capacity stays.
 #[inline(always)]
 pub(crate) fn fit(segments: &mut Vec<Segment>)
     ensures { segments.new.items ≡ segments.old.items }
@@ -76,12 +80,13 @@ pub(crate) fn fit(segments: &mut Vec<Segment>)
     }
 }
 
-/// Puts a segment without numbers behind all. Most paths have one, so there is room for one first.
+/// Appends a sequence without AS numbers to `segments`. On error, `segments` is unspecified.
 #[inline(never)]
 pub(crate) fn push_empty(alloc: Global, segments: &mut Vec<Segment>) -> Result<(), AllocError>
     ensures { OnOk result (segments.new.items ≡ segments.old.items
         ++ record { numbers = []; kind = SegmentKind.AsSequence } ∷ []) }
 {
+    // Most paths have one segment, so the first capacity is one.
     if segments.capacity() == 0 {
         segments.reserve_exact(1)?;
     }
@@ -90,8 +95,8 @@ pub(crate) fn push_empty(alloc: Global, segments: &mut Vec<Segment>) -> Result<(
     Ok(())
 }
 
-/// Makes the segments those that the octets spell. Refused, nothing is said of them. It is inlined,
-/// so that there is a loop for each width.
+/// Replaces `segments` with those that `octets` spell with AS numbers of `width`, reusing their
+/// memory. Returns `Malformed` if `octets` spell no path. On error, `segments` is unspecified.
 #[inline(always)]
 pub(crate) fn fill_segments(
     alloc: Global,
@@ -102,6 +107,7 @@ pub(crate) fn fill_segments(
     ensures filled { OnOk result (SpellsAll (SpellsSegment width) segments.new.items octets.now) }
     ensures refused { IfErr result (Refuses (SpellsAll (SpellsSegment width)) octets.now) }
 {
+    // It is inlined, so that there is a loop for each width.
     let mut count = 0;
     let mut rest = octets;
     while !rest.is_empty() {

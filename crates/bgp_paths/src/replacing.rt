@@ -1,4 +1,5 @@
-//! Paths in the memory of others.
+//! Copies of paths and numbers that reuse the memory of others. `bgp_wire` calls [`copy_path`] and
+//! [`copy_numbers`] to copy the attributes of a route over those of another.
 
 ghost use Rattle.std.specs.Prelude.{◌≡◌, IfOk};
 
@@ -9,7 +10,8 @@ use crate::segment::MOST_SPARE;
 use std::alloc::{AllocError, Global};
 use std::mem;
 
-/// The numbers, in the memory of others, with room for up to `spare` more.
+/// Returns a copy of `numbers` that reuses the memory of `old`. Memory is allocated if the capacity
+/// of `old` is too small, or more than `spare` above the number of `numbers`.
 pub fn copy_numbers(old: Vec<u32>, numbers: &[u32], spare: u8) -> Result<Vec<u32>, AllocError>
     ensures { IfOk result (λ copy. copy.items ≡ numbers.now) }
 {
@@ -19,7 +21,7 @@ pub fn copy_numbers(old: Vec<u32>, numbers: &[u32], spare: u8) -> Result<Vec<u32
     Ok(copy)
 }
 
-/// The path, in the memory of another.
+/// Returns a copy of `path` that reuses the memory of `old`.
 pub fn copy_path(alloc: Global, old: AsPath, path: &AsPath) -> Result<AsPath, AllocError>
     ensures { IfOk result (λ copy. copy ≡ path.now) }
 {

@@ -1,32 +1,33 @@
-//! Segments of AS paths.
+//! Segments of AS paths (RFC 4271, section 4.3; RFC 5065, section 3). `path_reader.rt` parses them,
+//! and `text.rt` prints them. Read [`Segment`] first.
 
 use crate::list_of::ListOf;
 
-/// For how many numbers more than it has a segment has room at most. With room for one more they move
-/// to a block that has none to spare.
+/// The greatest number by which the capacity of a segment may exceed the number of its AS numbers.
+/// At one more, they move to memory without spare capacity.
 pub(crate) const MOST_SPARE: u8 = 8;
 
-/// The kinds of segments of a path (RFC 4271, section 4.3; RFC 5065, section 3).
+/// The kind of a segment of an AS path (RFC 4271, section 4.3; RFC 5065, section 3).
 #[derive(Clone, Copy, Debug, PartialEq, Eq)]
 pub enum SegmentKind {
     /// AS numbers in no order.
     AsSet,
     /// AS numbers in order.
     AsSequence,
-    /// AS numbers of a confederation's members, in order.
+    /// AS numbers of members of a confederation, in order.
     ConfedSequence,
-    /// AS numbers of a confederation's members, in no order.
+    /// AS numbers of members of a confederation, in no order.
     ConfedSet,
 }
 
 /// The AS numbers of a segment.
 pub type AsNumbers = ListOf<u32>;
 
-/// A segment of a path.
+/// A segment of an AS path.
 #[derive(Clone, Debug, Drop)]
 pub struct Segment {
-    /// Its numbers.
+    /// The AS numbers of the segment.
     pub numbers: AsNumbers,
-    /// Its kind.
+    /// The kind of the segment.
     pub kind: SegmentKind,
 }

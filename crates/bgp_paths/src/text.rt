@@ -1,4 +1,5 @@
-//! The printed texts of paths and communities.
+//! Printing AS paths and communities. `bgpdump_lines` calls [`AsPath::append_to`] and
+//! [`append_communities`] for each printed route; read those first.
 
 ghost use Rattle.std.specs.Prelude.{◌≡◌, ◌+◌, ◌<◌, ◌≤◌, [], ◌∷◌, ◌++◌, OnOk, OnErr, length, map, decimal, flat_map};
 ghost use Rattle.bgp_paths.specs.Text.{bracketed_numbers, segment_words, path_text, halves_text, communities_text};
@@ -11,36 +12,40 @@ use crate::segment::{Segment, SegmentKind};
 use ip_prefix::{COLON, SPACE, Text, WORD_ROOM, Word, put_octets, write_ended_decimal};
 use std::alloc::AllocError;
 
-/// Not to be announced outside the AS, or a confederation (RFC 1997).
+/// The community of routes that are not to be announced outside the AS or confederation (RFC 1997).
 const NO_EXPORT: u32 = 0xFFFF_FF01;
-/// Not to be announced to any peer (RFC 1997).
+/// The community of routes that are not to be announced to any peer (RFC 1997).
 const NO_ADVERTISE: u32 = 0xFFFF_FF02;
-/// Not to be announced outside the AS, nor to other members of its confederation (RFC 1997).
+/// The community of routes that are not to be announced outside the AS, nor to other members of its
+/// confederation (RFC 1997).
 const NO_EXPORT_SUBCONFED: u32 = 0xFFFF_FF03;
 
-/// What stands around numbers in brackets, and between them.
+/// The octets around the numbers of a segment in brackets, and between them.
 #[derive(Clone, Copy)]
 struct Marks {
+    /// The octet before the first number.
     open: u8,
+    /// The octet between two numbers.
     separator: u8,
+    /// The octet after the last number.
     close: u8,
 }
 
-/// The marks of a set.
+/// The marks of a set, as in `{1,2}`.
 const AS_SET_MARKS: Marks = Marks {
     open: b'{',
     separator: b',',
     close: b'}',
 };
 
-/// Those of a confederation's members in order.
+/// The marks of a sequence of members of a confederation, as in `(1 2)`.
 const CONFED_SEQUENCE_MARKS: Marks = Marks {
     open: b'(',
     separator: SPACE,
     close: b')',
 };
 
-/// Those of a confederation's members in no order.
+/// The marks of a set of members of a confederation, as in `[1,2]`.
 const CONFED_SET_MARKS: Marks = Marks {
     open: b'[',
     separator: b',',
@@ -48,8 +53,8 @@ const CONFED_SET_MARKS: Marks = Marks {
 };
 
 impl AsPath {
-    /// Appends the path as a person reads it: the numbers of sequences, and the other segments in
-    /// brackets, joined by spaces. Refused for want of memory, it leaves the text as it was.
+    /// Appends the path as text: the AS numbers of sequences, and each other segment in brackets,
+    /// joined by spaces. If memory allocation fails, `text` is unchanged.
     #[tactic(auto, unfolding(crate::specs::Text::path_text))]
     pub fn append_to(&self, text: &mut Text) -> Result<(), AllocError>
         ensures appended { OnOk result (text.new ≡ text.old ++ path_text self.now) }
@@ -65,7 +70,8 @@ impl AsPath {
         result
     }
 
-    /// The same, for a text in a `Vec`.
+    /// Appends the path as text to a vector, in the form of [`AsPath::append_to`]. If memory
+    /// allocation fails, the vector is unchanged.
     pub fn put_text(&self, text: &mut Vec<u8>) -> Result<(), AllocError>
         ensures appended { OnOk result (text.new.items ≡ text.old.items ++ path_text self.now) }
         ensures unchanged { OnErr result (text.new.items ≡ text.old.items) }
@@ -77,8 +83,9 @@ impl AsPath {
     }
 }
 
-/// Appends the communities (RFC 1997) as a person reads them, joined by spaces. Refused for want of
-/// memory, it leaves the text as it was.
+/// Appends the communities (RFC 1997) as text, joined by spaces. Each is its two 16-bit halves in
+/// decimal, joined by a colon, but three have names: `no-export`, `no-advertise` and `local-AS`. If
+/// memory allocation fails, `text` is unchanged.
 pub fn append_communities(communities: &[u32], text: &mut Text) -> Result<(), AllocError>
     ensures appended { OnOk result (text.new ≡ text.old ++ communities_text communities.now) }
     ensures unchanged { OnErr result (text.new ≡ text.old) }
@@ -89,7 +96,8 @@ pub fn append_communities(communities: &[u32], text: &mut Text) -> Result<(), Al
     Ok(())
 }
 
-/// The same, for a text in a `Vec`.
+/// Appends the communities as text to a vector, in the form of [`append_communities`]. If memory
+/// allocation fails, the vector is unchanged.
 pub fn put_communities(communities: &[u32], text: &mut Vec<u8>) -> Result<(), AllocError>
     ensures appended { OnOk result
         (text.new.items ≡ text.old.items ++ communities_text communities.now) }
@@ -101,8 +109,8 @@ pub fn put_communities(communities: &[u32], text: &mut Vec<u8>) -> Result<(), Al
     result
 }
 
-/// Takes away the separator behind the last word, where words were appended to a text of this
-/// length.
+/// Removes the separator after the last of the words that were appended to a text of `before`
+/// octets. If none were, `text` is unchanged.
 fn drop_separator(before: usize, text: &mut Text)
     ensures { WordsJoined before text.old text.new }
 {
@@ -110,7 +118,8 @@ fn drop_separator(before: usize, text: &mut Text)
     text.truncate(end);
 }
 
-/// Appends the words of each segment, each with a space behind it.
+/// Appends the words of each segment, each followed by a space. On error, `text` still begins with
+/// what it had, and the rest is unspecified.
 fn put_segments(segments: &[Segment], text: &mut Text) -> Result<(), AllocError>
     ensures appended { OnOk result (text.new ≡
         text.old ++ ended_words SPACE (flat_map segment_words segments.now)) }
@@ -128,7 +137,8 @@ fn put_segments(segments: &[Segment], text: &mut Text) -> Result<(), AllocError>
     Ok(())
 }
 
-/// Appends the numbers in brackets, and a space behind them.
+/// Appends the numbers in brackets as one word, followed by a space. On error, `text` still begins
+/// with what it had, and the rest is unspecified.
 fn put_bracketed(numbers: &[u32], marks: Marks, text: &mut Text) -> Result<(), AllocError>
     ensures appended { OnOk result (text.new ≡
         text.old ++ ended_words SPACE (bracketed_numbers marks numbers.now ∷ [])) }
@@ -141,7 +151,8 @@ fn put_bracketed(numbers: &[u32], marks: Marks, text: &mut Text) -> Result<(), A
     text.extend_from_slice(&[marks.close, SPACE])
 }
 
-/// How a community is written as a word.
+/// The words of communities: names of `NO_EXPORT`, `NO_ADVERTISE` and `NO_EXPORT_SUBCONFED`, and
+/// the two 16-bit halves in decimal, joined by a colon, of all others.
 struct CommunityWord;
 
 impl Word for CommunityWord {
@@ -162,8 +173,8 @@ impl Word for CommunityWord {
     }
 }
 
-/// Writes the two halves of a number in decimal, with a colon between them, and an octet behind
-/// both.
+/// Writes the high and the low 16 bits of `number` in decimal, joined by a colon, and then the
+/// octet `end` into `text` at offset `at`. Returns the offset of the octet after `end`.
 #[inline(always)]
 fn write_halves(number: u32, end: u8, text: &mut [u8], at: usize) -> usize
     requires { at + WORD_ROOM ≤ length text.old }
@@ -174,7 +185,8 @@ fn write_halves(number: u32, end: u8, text: &mut [u8], at: usize) -> usize
     write_ended_decimal(number % 0x1_0000, end, text, behind)
 }
 
-/// Writes a name, and an octet behind it.
+/// Writes `name` and then the octet `end` into `text` at offset `at`, and returns the offset of the
+/// octet after `end`.
 #[inline(always)]
 fn write_name(name: &[u8], end: u8, text: &mut [u8], at: usize) -> usize
     requires { at + length name.now < length text.old }

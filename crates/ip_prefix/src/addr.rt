@@ -1,4 +1,5 @@
-//! Addresses of both families.
+//! Addresses of IPv4 and IPv6. Peers and next hops are addresses, and `prefix.rt` makes prefixes of
+//! them. Read [`Addr`] first.
 
 ghost use Rattle.std.specs.Prelude.{◌≡◌, ◌*◌, ◌+◌, ◌<◌, ◌≤◌, Some, slice_get, refl};
 ghost use Rattle.ip_prefix.specs.Network.{IsAddress, octet_at, group_at, octet_count, bit_count, family_cmp, address_cmp};
@@ -12,38 +13,39 @@ use crate::number::{NUMBER_BITS, Number};
 use std::cmp::Ordering;
 use std::marker::Model;
 
-/// How many octets an IPv4 address has.
+/// The number of octets of an IPv4 address.
 pub const V4_OCTETS: usize = 4;
 
-/// How many octets an IPv6 address has.
+/// The number of octets of an IPv6 address.
 pub const V6_OCTETS: usize = 16;
 
-/// How many bits an IPv4 address has.
+/// The number of bits of an IPv4 address.
 pub const V4_BITS: u8 = 32;
 
-/// How many bits an IPv6 address has.
+/// The number of bits of an IPv6 address.
 pub const V6_BITS: u8 = 128;
 
-/// How many bits an octet has.
+/// The number of bits of an octet.
 pub(crate) const OCTET_BITS: usize = 8;
 
-/// How many bits a group has.
+/// The number of bits of a group, one of the fields of an IPv6 address that colons separate in its
+/// text (RFC 4291, section 2.2).
 pub(crate) const GROUP_BITS: usize = 16;
 
-/// How many groups an IPv6 address is written in.
+/// The number of groups of an IPv6 address.
 pub(crate) const GROUP_COUNT: usize = 8;
 
-/// The two families of Internet addresses.
+/// The family of an address or a prefix. IPv4 is ordered before IPv6.
 #[derive(Clone, Copy, Debug, PartialEq, Eq, PartialOrd, Ord)]
 pub enum Family {
-    /// Addresses of 32 bits (RFC 791).
+    /// IPv4, whose addresses have 32 bits (RFC 791).
     V4,
-    /// Addresses of 128 bits (RFC 4291).
+    /// IPv6, whose addresses have 128 bits (RFC 4291).
     V6,
 }
 
 impl Family {
-    /// How many bits an address of the family has.
+    /// Returns the number of bits of an address of the family.
     #[inline]
     pub fn width(self) -> u8
         ensures { result ≡ bit_count self }
@@ -55,10 +57,11 @@ impl Family {
     }
 }
 
-/// An address. It is kept as one number of 128 bits whose highest bits are those of the address,
-/// for either family, so that masks and comparisons are single operations.
+/// An IPv4 or IPv6 address. Addresses are ordered by family, then by their octets.
 #[derive(Clone, Copy, Debug)]
 pub struct Addr {
+    // The bits of the address are the highest of the number, for either family, and the bits below
+    // are 0. So masks and comparisons are single operations.
     number: Number,
     family: Family,
 }
@@ -89,7 +92,7 @@ impl Model for Addr {
 }
 
 impl Addr {
-    /// The IPv4 address of four octets, in the order in which they are written and sent.
+    /// Returns the IPv4 address of these octets, the most significant first.
     #[inline]
     pub fn v4(octets: [u8; V4_OCTETS]) -> Self
         ensures { result ≡ record { family = Family.V4; bits = bits_of_octets octets } }
@@ -101,7 +104,7 @@ impl Addr {
         }
     }
 
-    /// The IPv6 address of sixteen octets, in the order in which they are sent.
+    /// Returns the IPv6 address of these octets, the most significant first.
     #[inline]
     pub fn v6(octets: [u8; V6_OCTETS]) -> Self
         ensures { result ≡ record { family = Family.V6; bits = bits_of_octets octets } }
@@ -112,7 +115,8 @@ impl Addr {
         }
     }
 
-    /// The address of this number.
+    /// Returns the address of `family` whose bits are the highest of `number`. The bits below must
+    /// be 0.
     #[inline]
     pub(crate) fn aligned(number: u128, family: Family) -> Self
         requires { IsAligned family number }
@@ -127,7 +131,7 @@ impl Addr {
         }
     }
 
-    /// The number that the address is kept as.
+    /// Returns a number whose highest bits are those of the address. The bits below are 0.
     #[inline]
     pub(crate) fn number(&self) -> u128
         ensures aligned { IsAligned self.now.family result }
@@ -136,7 +140,7 @@ impl Addr {
         self.number.get()
     }
 
-    /// The family that it is of.
+    /// Returns the family of the address.
     #[inline]
     pub fn family(&self) -> Family
         ensures value { result ≡ self.now.family }
@@ -145,7 +149,7 @@ impl Addr {
         self.family
     }
 
-    /// The octet at a place, counted from 0 in the order in which they are written and sent.
+    /// Returns the octet at index `place`, counted from 0 at the most significant.
     #[inline]
     pub fn octet(&self, place: usize) -> u8
         requires { place < octet_count self.now.family }
@@ -154,7 +158,7 @@ impl Addr {
         (self.number.get() >> (NUMBER_BITS as usize - OCTET_BITS - OCTET_BITS * place) & 0xff) as u8
     }
 
-    /// The group of 16 bits at a place, counted from 0 in the order in which they are written.
+    /// Returns the 16-bit group at index `place`, counted from 0 at the most significant.
     #[inline]
     pub(crate) fn group(&self, place: usize) -> u16
         requires { GROUP_BITS * place + GROUP_BITS ≤ bit_count self.now.family }
@@ -164,7 +168,8 @@ impl Addr {
             & 0xffff) as u16
     }
 
-    /// The bit at a place, counted from 0 at the most significant one.
+    /// Returns whether the bit at index `place` is 1. Bits are counted from 0 at the most
+    /// significant.
     #[inline]
     pub fn bit(&self, place: usize) -> bool
         requires { place < bit_count self.now.family }

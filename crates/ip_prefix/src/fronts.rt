@@ -1,4 +1,5 @@
-//! The bits in front of numbers and octets.
+//! The leading bits of numbers and octets. `prefix.rt` calls these functions to make prefixes. Read
+//! [`highest`] first.
 
 ghost use Rattle.std.specs.Prelude.{◌≡◌, ◌*◌, ◌^◌, ◌<◌, ◌≤◌, length, take};
 ghost use Rattle.ip_prefix.specs.Bits.{bits_of_octets, highest_bits};
@@ -7,16 +8,16 @@ ghost use Rattle.ip_prefix.specs.Kept.{highest_part};
 use crate::addr::{OCTET_BITS, V6_OCTETS};
 use crate::number::{HALF_BITS, NUMBER_BITS};
 
-/// How many octets the most usual prefixes of IPv4 have at most, behind their length.
+/// The number of octets, after the length, that the most usual IPv4 prefixes take at most.
 const SHORT: usize = 3;
 
-// The number with its highest bits, as many as are named, and zeros below them. Mostly they lie in
-// its high half.
+/// Returns `number` with its highest `len` bits unchanged and all bits below cleared.
 #[inline]
 pub(crate) fn highest(number: u128, len: u8) -> u128
     requires { len ≤ NUMBER_BITS }
     ensures { result ≡ highest_part len number }
 {
+    // Mostly the bits that stay are in the high half.
     if len <= HALF_BITS {
         if len == 0 {
             return 0;
@@ -29,14 +30,15 @@ pub(crate) fn highest(number: u128, len: u8) -> u128
     number >> below << below
 }
 
-// A number whose highest bits are those of the octets in front, as many as are named. Its other bits
-// may be any. Octets are taken at once where enough stand there, or where three hold all.
+/// Returns a number whose highest bits are those of the first `size` octets, the first octet the
+/// most significant. The bits below are unspecified.
 #[inline]
 pub(crate) fn number_in_front(octets: &[u8], size: usize) -> u128
     requires { (size ≤ length octets.now) × (size ≤ V6_OCTETS) }
     ensures fits { result < 2 ^ NUMBER_BITS }
     ensures bits { highest_bits (OCTET_BITS * size) result ≡ bits_of_octets (take size octets.now) }
 {
+    // Sixteen octets are read at once if there are as many; three are if they hold all bits.
     if let Some(front) = octets.first_chunk::<V6_OCTETS>() {
         return u128::from_be_bytes(*front);
     }

@@ -1,4 +1,6 @@
-//! Laws of the orders, of the turns, of the texts and of what is sent.
+//! Theorems about the definitions that the contracts of this crate cite. The functions have no code
+//! and nothing calls them: what they state is proved as the crate is checked. `docs/proved.md`
+//! names them.
 
 ghost use Rattle.std.specs.Prelude.{◌≡◌, ◌≤◌, ◌↔◌, ℕ, true, false, List, [], ◌∷◌, codes, length, IsTrue};
 ghost use Rattle.std.specs.Cmp.{IsTotalOrder};
@@ -17,14 +19,14 @@ ghost use Rattle.ip_prefix.specs.Marks.{IsFirstLongestRun};
 ghost use Rattle.octet_forms.specs.Sequences.{SpellsAll};
 ghost use Rattle.octet_forms.specs.Fronts.{IsCode};
 
-/// The order of addresses is total, and only equal ones tie.
+/// Proves that addresses are totally ordered, and that only equal ones compare as equal.
 pub fn address_order()
     ensures total { IsTotalOrder address_cmp }
     ensures ties { IsAntisymmetric address_cmp }
 {}
 
-/// The order of prefixes is total, and only equal ones tie. It is that of the least addresses, and
-/// then of the lengths.
+/// Proves that prefixes are totally ordered, that only equal ones compare as equal, and that the
+/// order is by their least addresses, then by their lengths.
 pub fn prefix_order()
     ensures total { IsTotalOrder network_cmp }
     ensures ties { IsAntisymmetric network_cmp }
@@ -32,8 +34,8 @@ pub fn prefix_order()
         → network_cmp m n ≡ filled_cmp m n }
 {}
 
-/// A prefix contains the addresses of its family that begin with its bits, and covers the prefixes
-/// of its family that do: those of which it contains each address.
+/// Proves that a prefix contains the addresses of its family that begin with its bits, and covers
+/// the prefixes of its family that do, which are those whose addresses it all contains.
 pub fn containment()
     ensures contained { (n : Network) (a : Address)
         → (IsTrue (contains n a) ↔ ((n.family ≡ a.family) × IsFront n.bits a.bits)) }
@@ -43,7 +45,7 @@ pub fn containment()
         → (IsTrue (covers n other) ↔ ContainsAllOf n other) }
 {}
 
-/// Covering is an order of prefixes, and no prefix covers a shorter one.
+/// Proves that covering is a partial order of prefixes, and that no prefix covers a shorter one.
 pub fn covering_order()
     ensures reflexive { (n : Network) → IsTrue (covers n n) }
     ensures transitive { (a b c : Network)
@@ -52,8 +54,8 @@ pub fn covering_order()
     ensures lengths { (a b : Network) → IsTrue (covers a b) → length a.bits ≤ length b.bits }
 {}
 
-/// Of two prefixes that contain one address, one that is no longer covers the other. So of one
-/// length one alone contains the address.
+/// Proves that of two prefixes that contain one address, one that is no longer covers the other. So
+/// at most one prefix of a length contains an address.
 pub fn nested_prefixes()
     ensures covered { (m n : Network) (a : Address) → IsTrue (contains m a) → IsTrue (contains n a)
         → length m.bits ≤ length n.bits → IsTrue (covers m n) }
@@ -61,8 +63,9 @@ pub fn nested_prefixes()
         → length m.bits ≡ length n.bits → m ≡ n }
 {}
 
-/// A prefix lies outside another that doesn't cover it, here if it is the other, and else on the
-/// side of the half that covers it.
+/// Proves which [`Turn`](crate::Turn) a prefix has as seen from another: `Outside` if the other
+/// doesn't cover it, `Here` if they are equal, else `Left` or `Right` by the half of the other that
+/// covers it.
 pub fn turns_by_bits()
     ensures outside { (m n : Network)
         → ((turn_of (way m) (way n) ≡ Outside) ↔ (covers m n ≡ false)) }
@@ -73,8 +76,8 @@ pub fn turns_by_bits()
         → ((turn_of (way m) (way n) ≡ Right) ↔ IsTrue (covers (half m true) n)) }
 {}
 
-/// The prefix of the bits that two of one family share covers both, and each prefix that covers
-/// both covers it.
+/// Proves that the prefix of the bits that two prefixes of one family share covers both, and that
+/// each prefix that covers both covers it.
 pub fn common_prefix()
     ensures both { (m n : Network) → m.family ≡ n.family
         → IsTrue (covers (common m n) m) × IsTrue (covers (common m n) n) }
@@ -82,19 +85,20 @@ pub fn common_prefix()
         → IsTrue (covers other (common m n)) }
 {}
 
-/// The text of an address is a spelling of it, and the text of a prefix one of the prefix.
+/// Proves that the printed text of an address is a spelling of it, and the printed text of a prefix
+/// one of the prefix.
 pub fn text_spells()
     ensures addresses { (a : Address) → IsAddress a → SpellsAddress a (address_text a) }
     ensures prefixes { (n : Network) → IsNetwork n → SpellsPrefix n (network_text n) }
 {}
 
-/// The groups that `::` stands for in the text of an IPv6 address are a run of zeros. None is
-/// longer, and none as long starts before it (RFC 5952, section 4.2).
+/// Proves that the groups that `::` stands for in the printed text of an IPv6 address are the first
+/// of the longest runs of zeros (RFC 5952, section 4.2).
 pub fn shortened_run()
     ensures { (groups : List ℕ) → IsFirstLongestRun groups (longest_zero_run groups) }
 {}
 
-/// No text spells two addresses, nor two prefixes.
+/// Proves that no text is a spelling of two addresses, nor of two prefixes.
 pub fn one_spelling()
     ensures addresses { (a b : Address) (text : List ℕ)
         → SpellsAddress a text → SpellsAddress b text → a ≡ b }
@@ -102,8 +106,8 @@ pub fn one_spelling()
         → SpellsPrefix m text → SpellsPrefix n text → m ≡ n }
 {}
 
-/// No octets begin with spellings of two prefixes of one family, and none are spellings of two
-/// lists of them.
+/// Proves that no octets begin with two prefixes of one family as BGP sends them, and that none are
+/// two lists of such prefixes.
 pub fn one_network()
     ensures single { (family : Family) → IsCode (SpellsNetwork family) }
     ensures lists { (family : Family) (octets : List ℕ) (a b : List Network)
@@ -111,7 +115,7 @@ pub fn one_network()
         → SpellsAll (SpellsNetwork family) b octets → a ≡ b }
 {}
 
-/// The numbers and marks that the definitions name.
+/// Proves the values of the numbers and marks that the definitions name.
 pub fn address_numbers()
     ensures octets { (V4_OCTETS ≡ 4) × (V6_OCTETS ≡ 16) }
     ensures bits { (V4_BITS ≡ 32) × (V6_BITS ≡ 128) × (NUMBER_BITS ≡ 128) }

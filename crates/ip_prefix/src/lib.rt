@@ -1,4 +1,6 @@
-//! Internet addresses and prefixes, their texts, and prefixes as BGP sends them.
+//! IPv4 and IPv6 addresses and prefixes: their orders, their texts, and the parser of prefixes as
+//! BGP sends them (RFC 4271, section 4.3). The crates that read, store and print routes call it.
+//! Read `addr.rt` and `prefix.rt` first.
 #![tactic(auto)]
 
 mod addr;

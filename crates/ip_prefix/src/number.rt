@@ -1,4 +1,5 @@
-//! The numbers that addresses and prefixes are kept as.
+//! The 128-bit numbers that addresses and prefixes are stored as. `addr.rt` and `prefix.rt` use
+//! them. Read [`Number`] first.
 
 ghost use Rattle.std.specs.Prelude.{◌≡◌, ◌-◌, ◌/◌, ◌^◌, ◌<◌, ◌==◌, bit_and};
 ghost use Rattle.std.specs.Ordering.{nat_cmp};
@@ -6,16 +7,16 @@ ghost use Rattle.std.specs.Ordering.{nat_cmp};
 use std::cmp::Ordering;
 use std::marker::Model;
 
-/// How many bits the numbers have that addresses and prefixes are kept as.
+/// The number of bits of a [`Number`].
 pub(crate) const NUMBER_BITS: u8 = 128;
 
-/// How many bits half such a number has.
+/// The number of bits of half a [`Number`].
 pub(crate) const HALF_BITS: u8 = 64;
 
-/// A number of 128 bits. It is kept as two halves, so that what holds it is aligned to eight octets
-/// and not to sixteen.
+/// A 128-bit number.
 #[derive(Clone, Copy, Debug)]
 pub(crate) struct Number {
+    // Two halves have an alignment of eight octets, where a `u128` has one of sixteen.
     high: u64,
     low: u64,
 }
@@ -43,7 +44,7 @@ impl Model for Number {
 }
 
 impl Number {
-    /// It as two halves.
+    /// Returns `number` as two halves.
     #[inline]
     pub(crate) fn new(number: u128) -> Self
         ensures { result ≡ number }
@@ -54,7 +55,7 @@ impl Number {
         }
     }
 
-    /// It as one.
+    /// Returns the number as a `u128`.
     #[inline]
     pub(crate) fn get(self) -> u128
         ensures { result ≡ self }
@@ -62,23 +63,26 @@ impl Number {
         u128::from(self.high) << HALF_BITS | u128::from(self.low)
     }
 
-    /// The bit at a place, counted from 0 at the highest. Mostly it lies in the high half.
+    /// Returns whether the bit at index `place` is 1. Bits are counted from 0 at the most
+    /// significant.
     #[inline]
     pub(crate) fn bit(self, place: u8) -> bool
         requires { place < NUMBER_BITS }
         ensures { result ≡ (bit_and (self / 2 ^ (NUMBER_BITS - 1 - place)) 1 == 1) }
     {
+        // Mostly the bit is in the high half.
         if place < HALF_BITS {
             return self.high >> (HALF_BITS - 1 - place) & 1 == 1;
         }
         self.get() >> (NUMBER_BITS - 1 - place) & 1 == 1
     }
 
-    /// How it compares. Mostly the high halves decide.
+    /// Returns the ordering of the two numbers by value.
     #[inline]
     pub(crate) fn compare(self, other: Number) -> Ordering
         ensures { result ≡ nat_cmp self other }
     {
+        // Mostly the high halves decide.
         if self.high != other.high {
             return self.high.cmp(&other.high);
         }

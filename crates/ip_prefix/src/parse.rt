@@ -1,4 +1,5 @@
-//! The addresses and prefixes that texts spell.
+//! Parsing addresses and prefixes from text. `bgpdump_tool` parses the words of script commands
+//! with it. Read [`Addr::parse`] and [`Prefix::parse`].
 
 ghost use Rattle.std.specs.Prelude.{◌≡◌, ◌≢◌, ℕ, ◌<◌, MatchOption, decimal};
 ghost use Rattle.ip_prefix.specs.Network.{Address, Network};
@@ -11,10 +12,10 @@ use crate::text::{DOT, SLASH};
 use std::net::{Ipv4Addr, Ipv6Addr};
 
 impl Addr {
-    /// The address that the text spells: four decimals without leading zeros, joined by dots, for
-    /// IPv4; groups of one to four hexadecimal digits of either case, joined by colons, with at
-    /// most one `::` in place of one or more groups of 0, for IPv6. A dotted end of an IPv6 address
-    /// is not read.
+    /// Parses an address from text, and returns `None` if `text` spells none. IPv4 is four decimals
+    /// without leading zeros, joined by dots. IPv6 is groups of one to four hexadecimal digits of
+    /// either case, joined by colons, with at most one `::` for one or more groups of 0. An IPv6
+    /// address with a dotted end isn't parsed.
     pub fn parse(text: &[u8]) -> Option<Addr>
         ensures { MatchOption result ((a : Address) → SpellsAddress a text.now → ⊥)
             (λ addr. SpellsAddress addr text.now) }
@@ -33,8 +34,9 @@ impl Addr {
 }
 
 impl Prefix {
-    /// The prefix that the text spells: an address, a slash and a decimal without leading zeros.
-    /// The bits of the address behind the length are cleared.
+    /// Parses a prefix from text: an address, a slash, and the length in decimal without leading
+    /// zeros. Bits of the address after the length are cleared. Returns `None` if `text` spells no
+    /// prefix, as with a length of more bits than the address has.
     pub fn parse(text: &[u8]) -> Option<Prefix>
         ensures { MatchOption result ((n : Network) → SpellsPrefix n text.now → ⊥)
             (λ prefix. SpellsPrefix prefix text.now) }
@@ -46,7 +48,7 @@ impl Prefix {
     }
 }
 
-// Where the last slash stands.
+/// Returns the index of the last slash in `text`, or `None` if there is none.
 fn last_slash(text: &[u8]) -> Option<usize>
     ensures { MatchOption result (HasNoSlash text.now) (IsLastSlash text.now) }
 {
@@ -60,7 +62,8 @@ fn last_slash(text: &[u8]) -> Option<usize>
     None
 }
 
-// The length of a prefix from its decimal, which has no sign and no leading zeros.
+/// Parses the length of a prefix from its decimal, which has no sign and no leading zeros. Returns
+/// `None` for other texts, and for numbers above 255.
 fn read_length(text: &[u8]) -> Option<u8>
     ensures { MatchOption result ((n : ℕ) → n < 256 → text.now ≢ decimal n)
         (λ n. text.now ≡ decimal n) }

@@ -1,4 +1,5 @@
-//! Prefixes of both families.
+//! Prefixes of IPv4 and IPv6, and the parser of prefixes as BGP sends them. Read [`Prefix`] first;
+//! `turn.rt` compares the positions of prefixes, and `text.rt` prints them.
 
 ghost use Rattle.std.specs.Prelude.{◌≡◌, ◌-◌, ◌<◌, ◌≤◌, ◌++◌, false, Some, MatchOption, IfSome, IfNone, length, replicate, take, slice_get, refl};
 ghost use Rattle.ip_prefix.specs.declared.addr.Family.{Family};
@@ -16,10 +17,11 @@ use crate::number::{HALF_BITS, NUMBER_BITS, Number};
 use std::cmp::Ordering;
 use std::marker::Model;
 
-/// A prefix: the addresses of a family that begin with some bits. It is kept as the least of them
-/// and the number of bits.
+/// An IPv4 or IPv6 prefix: the addresses of a family that begin with some bits. Prefixes are
+/// ordered by family, then by their least addresses, then by length.
 #[derive(Clone, Copy, Debug)]
 pub struct Prefix {
+    // The bits of the prefix are the highest of the number, and the bits below are 0.
     number: Number,
     len: u8,
     family: Family,
@@ -51,8 +53,7 @@ impl Model for Prefix {
 }
 
 impl Prefix {
-    /// The prefix of the address's first bits, as many as are named. There is none with more bits
-    /// than an address of the family has.
+    /// Returns the prefix of the first `len` bits of `addr`, or `None` if `addr` has fewer bits.
     pub fn new(addr: Addr, len: u8) -> Option<Prefix>
         ensures { MatchOption result (bit_count addr.family < len)
             (λ prefix. (len ≤ bit_count addr.family) × (prefix ≡ network_of addr len)) }
@@ -68,7 +69,7 @@ impl Prefix {
         })
     }
 
-    /// The prefix of the address alone, of all its bits.
+    /// Returns the prefix that contains `addr` alone, of all its bits.
     #[inline]
     pub fn host(addr: Addr) -> Prefix
         ensures { result ≡ record { family = addr.family; bits = addr.bits } }
@@ -81,7 +82,7 @@ impl Prefix {
         }
     }
 
-    /// The family that it is of.
+    /// Returns the family of the prefix.
     #[inline]
     pub fn family(&self) -> Family
         ensures { result ≡ self.now.family }
@@ -89,7 +90,7 @@ impl Prefix {
         self.family
     }
 
-    /// The least address of the prefix.
+    /// Returns the least address of the prefix, whose bits after the length are 0.
     pub fn addr(&self) -> Addr
         ensures value { result ≡ least_address self.now }
         ensures whole { IsAddress result }
@@ -97,7 +98,7 @@ impl Prefix {
         Addr::aligned(self.number.get(), self.family)
     }
 
-    /// The number that the prefix is kept as: its bits are the highest, and zeros stand below.
+    /// Returns a 128-bit number whose highest bits are those of the prefix. The bits below are 0.
     #[inline]
     pub(crate) fn number(&self) -> u128
         ensures { bits_of NUMBER_BITS result
@@ -106,7 +107,8 @@ impl Prefix {
         self.number.get()
     }
 
-    /// The bit at a place, counted from 0 at the first.
+    /// Returns whether the bit at index `place` is 1. Bits are counted from 0 at the most
+    /// significant.
     #[inline]
     pub(crate) fn bit(&self, place: u8) -> bool
         requires { place < length self.now.bits }
@@ -115,7 +117,8 @@ impl Prefix {
         self.number.bit(place)
     }
 
-    /// The first 64 bits of its least address, as a number. Those of an IPv4 address lie highest.
+    /// Returns the first 64 bits of the least address as a number. An IPv4 address is in its high
+    /// 32 bits, and the low 32 bits are 0.
     #[inline]
     pub fn high_half(&self) -> u64
         ensures { bits_of HALF_BITS result ≡ take HALF_BITS
@@ -124,7 +127,7 @@ impl Prefix {
         (self.number.get() >> HALF_BITS) as u64
     }
 
-    /// The octets of an IPv4 prefix's least address, as a number.
+    /// Returns the least address of an IPv4 prefix as a number.
     #[inline]
     pub(crate) fn v4_number(&self) -> u32
         requires { self.now.family ≡ Family.V4 }
@@ -134,7 +137,7 @@ impl Prefix {
         (self.number.get() >> (NUMBER_BITS - V4_BITS)) as u32
     }
 
-    /// The prefix of its first bits, as many as are named.
+    /// Returns the prefix of the first `len` bits of this prefix.
     #[inline]
     pub(crate) fn front(&self, len: u8) -> Prefix
         requires { len ≤ length self.now.bits }
@@ -147,7 +150,8 @@ impl Prefix {
         }
     }
 
-    /// Whether the address is of the prefix's family and begins with its bits.
+    /// Returns `true` if the prefix contains `addr`, that is, if both are of one family and `addr`
+    /// begins with the bits of the prefix.
     #[inline]
     pub fn contains(&self, addr: &Addr) -> bool
         ensures { result ≡ contains self.now addr.now }
@@ -155,7 +159,8 @@ impl Prefix {
         self.family == addr.family() && highest(addr.number(), self.len) == self.number.get()
     }
 
-    /// Whether the other prefix is of the same family and begins with the bits of this one.
+    /// Returns `true` if this prefix covers `other`, that is, if both are of one family and `other`
+    /// begins with the bits of this prefix. A prefix covers itself.
     #[inline]
     pub fn covers(&self, other: &Prefix) -> bool
         ensures { result ≡ covers self.now other.now }
@@ -165,8 +170,10 @@ impl Prefix {
             && highest(other.number.get(), self.len) == self.number.get()
     }
 
-    /// The prefix of this family that the octets begin with (RFC 4271, section 4.3), and how many
-    /// octets it takes. The bits behind its length may be any.
+    /// Parses the prefix of `family` at the start of `octets`: its length in bits, one octet, and
+    /// its bits in as few octets as hold them (RFC 4271, section 4.3). Returns the prefix and the
+    /// number of octets that it takes, or `None` if `octets` begins with no prefix. Bits after the
+    /// length are ignored.
     #[inline]
     pub fn read(family: Family, octets: &[u8]) -> Option<(Prefix, usize)>
         ensures some { IfSome result (λ found. (found.1 ≤ length octets.now)
@@ -192,7 +199,7 @@ impl Prefix {
         ))
     }
 
-    /// How many bits it has.
+    /// Returns the length of the prefix, in bits.
     #[inline]
     pub fn len(&self) -> u8
         ensures value { result ≡ length self.now.bits }

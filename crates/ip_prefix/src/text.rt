@@ -1,4 +1,5 @@
-//! The printed texts of addresses and prefixes.
+//! Printing addresses and prefixes. The printers of lines and replies call it, mostly through
+//! [`InPlace`]. Read [`Addr::write_text`] and [`Prefix::write_text`] first.
 
 ghost use Rattle.std.specs.Prelude.{◌≡◌, ◌+◌, ◌*◌, ◌<◌, ◌≤◌, [], ◌∷◌, ◌++◌, OnOk, OnErr, length, take, drop, replicate, decimal};
 ghost use Rattle.std.specs.Net.Text as Hex;
@@ -13,33 +14,35 @@ use crate::zero_runs::ZERO_RUNS;
 use octet_text::{HEX_PAIR, InPlace, ROW, hex_pair, put_octets, write_hex_pair, write_short};
 use std::alloc::AllocError;
 
-/// What stands between octets.
+/// The separator of the octets in the text of an IPv4 address.
 pub(crate) const DOT: u8 = b'.';
 
-/// A colon, which stands between groups.
+/// The separator of the groups in the text of an IPv6 address.
 pub const COLON: u8 = b':';
 
-/// What stands before a length.
+/// The separator of the address and the length in the text of a prefix.
 pub(crate) const SLASH: u8 = b'/';
 
-/// How many digits a group has at most.
+/// The greatest number of hexadecimal digits of a group.
 const GROUP_DIGITS: usize = 4;
 
-/// How many groups that are 0 have at least to stand in a row for `::` to stand for them.
+/// The least number of groups of 0 in a row that `::` stands for (RFC 5952, section 4.2.2).
 const LEAST_RUN: usize = 2;
 
-/// The room for a group and the colon before it.
+/// The number of octets that a group and a colon before it take at most.
 const GROUP_ROOM: usize = GROUP_DIGITS + 1;
 
-/// The room for an address: for eight groups with colons before them.
+/// The number of octets that [`Addr::write_text`] needs from its offset on: as many as eight
+/// groups, each with a colon.
 pub const ADDRESS_ROOM: usize = GROUP_ROOM * GROUP_COUNT;
 
-/// The room for a prefix.
+/// The number of octets that [`Prefix::write_text`] needs from its offset on.
 pub const PREFIX_ROOM: usize = ADDRESS_ROOM + 1 + ROW;
 
 impl Addr {
-    /// Writes the address at a place as a person reads it (RFC 5952, section 4, for IPv6), and
-    /// answers the place behind it.
+    /// Writes the address as text into `text` at offset `at`, an IPv6 address as RFC 5952, section
+    /// 4, recommends, and returns the offset of the octet after it. `text` needs [`ADDRESS_ROOM`]
+    /// octets from `at` on, of which those after the address are unspecified.
     #[inline(always)]
     #[tactic(auto, unfolding(crate::specs::Text::address_text))]
     pub fn write_text(&self, text: &mut [u8], at: usize) -> usize
@@ -58,8 +61,8 @@ impl Addr {
         }
     }
 
-    /// Appends the address as a person reads it. Refused for want of memory, it leaves the text as
-    /// it was.
+    /// Appends the address as text, in the form of [`Addr::write_text`]. If memory allocation
+    /// fails, `text` is unchanged.
     pub fn put_text(&self, text: &mut Vec<u8>) -> Result<(), AllocError>
         ensures appended { OnOk result (text.new.items ≡ text.old.items ++ address_text self.now) }
         ensures unchanged { OnErr result (text.new.items ≡ text.old.items) }
@@ -71,8 +74,9 @@ impl Addr {
 }
 
 impl Prefix {
-    /// Writes the prefix at a place as a person reads it, its least address, a slash and its
-    /// length, and answers the place behind it.
+    /// Writes the prefix as text into `text` at offset `at`, and returns the offset of the octet
+    /// after it. The text is the least address, a slash, and the length in decimal. `text` needs
+    /// [`PREFIX_ROOM`] octets from `at` on, of which those after the prefix are unspecified.
     #[inline]
     pub fn write_text(&self, text: &mut [u8], at: usize) -> usize
         requires { at + PREFIX_ROOM ≤ length text.old }
@@ -84,8 +88,8 @@ impl Prefix {
         write_short(u32::from(self.len()), text, slash + 1)
     }
 
-    /// Appends the prefix as a person reads it. Refused for want of memory, it leaves the text as
-    /// it was.
+    /// Appends the prefix as text, in the form of [`Prefix::write_text`]. If memory allocation
+    /// fails, `text` is unchanged.
     pub fn put_text(&self, text: &mut Vec<u8>) -> Result<(), AllocError>
         ensures appended { OnOk result (text.new.items ≡ text.old.items ++ network_text self.now) }
         ensures unchanged { OnErr result (text.new.items ≡ text.old.items) }
@@ -122,7 +126,8 @@ impl InPlace for Prefix {
     }
 }
 
-// Writes an octet and a dot.
+/// Writes `octet` in decimal and a dot at offset `at`, and returns the offset of the octet after
+/// the dot.
 #[inline]
 fn write_octet(octet: u8, text: &mut [u8], at: usize) -> usize
     requires { at + ROW ≤ length text.old }
@@ -134,7 +139,8 @@ fn write_octet(octet: u8, text: &mut [u8], at: usize) -> usize
     dot + 1
 }
 
-// Writes the groups of an IPv6 address, joined by colons and shortened.
+/// Writes the text of an IPv6 address at offset `at`, and returns the offset of the octet after it.
+/// The groups are joined by colons, and `::` stands for the longest run of two or more groups of 0.
 #[inline(never)]
 fn write_colons(address: &Addr, text: &mut [u8], at: usize) -> usize
     requires { (address.now.family ≡ V6) × (at + ADDRESS_ROOM ≤ length text.old) }
@@ -160,14 +166,14 @@ fn write_colons(address: &Addr, text: &mut [u8], at: usize) -> usize
     write_groups(&groups[first + len..], text, gap + 2)
 }
 
-// The start and the length of the longest run of groups that are 0, and of two such runs the
-// first.
+/// Returns the index of the first group and the number of groups of the longest run of groups of 0.
+/// Of several such runs, the first counts. If no group is 0, both numbers are 0.
 #[inline(always)]
 fn longest_zero_run(groups: &[u16; GROUP_COUNT]) -> (usize, usize)
     ensures value { result ≡ Hex.longest_zero_run groups.now }
     ensures within { result.0 + result.1 ≤ length groups.now }
 {
-    // Which groups are 0, the first in the lowest bit.
+    // The mask has a bit for each group, the lowest for the first, which is 1 if the group is 0.
     let mask = usize::from(groups[0] == 0)
         + 2 * usize::from(groups[1] == 0)
         + 4 * usize::from(groups[2] == 0)
@@ -180,7 +186,8 @@ fn longest_zero_run(groups: &[u16; GROUP_COUNT]) -> (usize, usize)
     (usize::from(row[0]), usize::from(row[1]))
 }
 
-// Writes the groups, joined by colons.
+/// Writes the groups in hexadecimal, joined by colons, at offset `at`, and returns the offset of
+/// the octet after them.
 fn write_groups(groups: &[u16], text: &mut [u8], at: usize) -> usize
     requires { at + GROUP_ROOM * length groups.now ≤ length text.old }
     ensures written { IsWritten text.old at (Hex.groups_text groups.now) text.new result }
@@ -197,7 +204,8 @@ fn write_groups(groups: &[u16], text: &mut [u8], at: usize) -> usize
     place
 }
 
-// Writes a group in lower-case hexadecimal, without leading zeros.
+/// Writes `group` in lower-case hexadecimal, without leading zeros, at offset `at`, and returns the
+/// offset of the octet after it.
 #[inline]
 fn write_group(group: u16, text: &mut [u8], at: usize) -> usize
     requires { at + GROUP_DIGITS ≤ length text.old }
@@ -211,7 +219,8 @@ fn write_group(group: u16, text: &mut [u8], at: usize) -> usize
     write_hex_pair(group % 0x100, text, low)
 }
 
-// Writes a group of up to two digits.
+/// Writes `group`, which is below 256, in lower-case hexadecimal, without leading zeros, at offset
+/// `at`, and returns the offset of the octet after it.
 #[inline]
 fn write_low_group(group: u16, text: &mut [u8], at: usize) -> usize
     requires { (group < 0x100) × (at + HEX_PAIR ≤ length text.old) }

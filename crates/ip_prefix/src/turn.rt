@@ -1,4 +1,5 @@
-//! Where prefixes lie, seen from one another.
+//! Where a prefix is as seen from another. The radix trees of `rib_store` decide by it where a key
+//! belongs below a node. Read [`Turn`] first.
 
 ghost use Rattle.std.specs.Prelude.{◌≡◌, ◌≢◌, ℕ, ◌+◌, ◌≤◌, ◌++◌, Bool, true, false, List, length, replicate, take};
 ghost use Rattle.ip_prefix.specs.declared.addr.Family.{Family};
@@ -11,21 +12,21 @@ ghost use Rattle.ip_prefix.specs.Turns.{way, turn_of, common};
 use crate::addr::{Family, V4_BITS, V4_OCTETS};
 use crate::prefix::Prefix;
 
-/// Where a prefix lies, seen from another.
+/// Where a prefix is as seen from another prefix.
 #[derive(Clone, Copy, Debug, PartialEq, Eq)]
 pub enum Turn {
-    /// It isn't covered by the other.
+    /// The other prefix doesn't cover it.
     Outside,
-    /// It is the other.
+    /// The prefixes are equal.
     Here,
-    /// It is covered, and a 0 follows the other's bits.
+    /// The other prefix covers it, and the bit after the bits of the other is 0.
     Left,
-    /// It is covered, and a 1 follows the other's bits.
+    /// The other prefix covers it, and the bit after the bits of the other is 1.
     Right,
 }
 
 impl Prefix {
-    /// Where the other prefix lies, seen from this one.
+    /// Returns where `other` is as seen from this prefix.
     #[inline]
     pub fn turn(&self, other: &Prefix) -> Turn
         ensures { result ≡ turn_of (way self.now) (way other.now) }
@@ -36,7 +37,8 @@ impl Prefix {
         Turn::Outside
     }
 
-    /// Where the prefix lies, seen from that of an IPv4 address's first bits, as many as are named.
+    /// Returns where this prefix is as seen from the IPv4 prefix of the first `len` bits of
+    /// `octets`.
     #[inline]
     pub fn turn_from_v4(&self, octets: [u8; V4_OCTETS], len: u8) -> Turn
         requires { len ≤ V4_BITS }
@@ -54,7 +56,8 @@ impl Prefix {
         Turn::Outside
     }
 
-    /// Where the prefix lies, seen from one that has so many bits and covers it. It looks at one bit.
+    /// Returns where this prefix is as seen from the prefix of `len` bits that covers it. At most
+    /// one bit is read. If no prefix of `len` bits covers it, the result is unspecified.
     #[inline]
     pub fn turn_under(&self, len: u8) -> Turn
         ensures { (other : Network) → length other.bits ≡ len
@@ -70,7 +73,7 @@ impl Prefix {
         }
     }
 
-    /// The longest prefix that covers both: that of the bits that both begin with.
+    /// Returns the longest prefix that covers both prefixes, which must be of one family.
     #[inline]
     pub fn common(&self, other: &Prefix) -> Prefix
         requires { self.now.family ≡ other.now.family }

@@ -1,7 +1,8 @@
-//! The longest runs of groups that are 0.
+//! The table of the longest runs of groups of 0, by which `text.rt` shortens IPv6 addresses.
 
-/// Where the longest run begins and how many groups it has, and of two such runs the first, for
-/// each choice of eight groups that are 0. The lowest bit of a row's place is of the first group.
+/// The index of the first group and the number of groups of the longest run of groups of 0, and of
+/// several such runs the first, by which of the eight groups are 0. The lowest bit of a row's index
+/// stands for the first group, and is 1 if that is 0.
 #[rattlefmt::skip]
 pub(crate) static ZERO_RUNS: [[u8; 2]; 256] = [
     [0, 0], [0, 1], [1, 1], [0, 2], [2, 1], [0, 1], [1, 2], [0, 3],

@@ -1,4 +1,5 @@
-//! Whether two routes, peers or prefixes are the same, so that one can stand for the other.
+//! Whether two routes, peers or prefixes are equal, so that one can stand for the other. The
+//! printers of lines, the table of known routes and the player call it. Read [`same_route`] first.
 
 ghost use Rattle.std.specs.Prelude.{◌≡◌, ◌↔◌, IsTrue};
 
@@ -7,21 +8,21 @@ use crate::peer::Peer;
 use bgp_wire::{Aggregator, Attrs, Segment};
 use ip_prefix::Prefix;
 
-/// Whether two lists of numbers are the same.
+/// Returns whether two lists of numbers are equal.
 fn same_numbers(one: &[u32], other: &[u32]) -> bool
     ensures { IsTrue result ↔ (one.now ≡ other.now) }
 {
     one == other
 }
 
-/// Whether two segments of paths are the same.
+/// Returns whether two segments of AS paths are equal, in kind and AS numbers.
 fn same_segment(one: &Segment, other: &Segment) -> bool
     ensures { IsTrue result ↔ (one.now ≡ other.now) }
 {
     one.kind == other.kind && same_numbers(one.numbers.as_slice(), other.numbers.as_slice())
 }
 
-/// Whether two lists of segments are the same.
+/// Returns whether two lists of segments are equal.
 fn same_segments(ones: &[Segment], others: &[Segment]) -> bool
     ensures { IsTrue result ↔ (ones.now ≡ others.now) }
 {
@@ -36,7 +37,8 @@ fn same_segments(ones: &[Segment], others: &[Segment]) -> bool
     true
 }
 
-/// Whether two values, or their absence, are the same, where `==` tells that of values.
+/// Returns whether two optional values are equal: both are `None`, or both are there and are equal.
+/// `==` must hold exactly for equal values of `T`.
 fn same_option<T: Copy + PartialEq>(one: Option<T>, other: Option<T>) -> bool
     requires { (a b : T) → IsTrue (T.eq a b) ↔ (a ≡ b) }
     ensures { IsTrue result ↔ (one ≡ other) }
@@ -44,7 +46,8 @@ fn same_option<T: Copy + PartialEq>(one: Option<T>, other: Option<T>) -> bool
     one == other
 }
 
-/// Whether two aggregators, or their absence, are the same.
+/// Returns whether two optional aggregators are equal: both are `None`, or both are there, with
+/// equal AS numbers and addresses.
 #[tactic(auto, using(crate::proofs::PeerLaws::tied_addresses))]
 fn same_aggregator(one: Option<Aggregator>, other: Option<Aggregator>) -> bool
     ensures { IsTrue result ↔ (one ≡ other) }
@@ -56,7 +59,7 @@ fn same_aggregator(one: Option<Aggregator>, other: Option<Aggregator>) -> bool
     }
 }
 
-/// Whether two routes have the same attributes.
+/// Returns whether two sets of path attributes are equal.
 fn same_attributes(one: &Attrs, other: &Attrs) -> bool
     ensures { IsTrue result ↔ (one.now ≡ other.now) }
 {
@@ -70,7 +73,7 @@ fn same_attributes(one: &Attrs, other: &Attrs) -> bool
         && same_numbers(one.communities.as_slice(), other.communities.as_slice())
 }
 
-/// Whether two routes are the same.
+/// Returns whether two routes are equal, in time and path attributes.
 #[inline]
 pub fn same_route(one: &Route, other: &Route) -> bool
     ensures { IsTrue result ↔ (one.now ≡ other.now) }
@@ -78,7 +81,7 @@ pub fn same_route(one: &Route, other: &Route) -> bool
     one.time == other.time && same_attributes(&one.attrs, &other.attrs)
 }
 
-/// Whether two peers are the same.
+/// Returns whether two peers are equal, in address and AS number.
 #[inline]
 #[tactic(auto, using(crate::proofs::PeerLaws::tied_addresses))]
 pub fn same_peer(one: &Peer, other: &Peer) -> bool
@@ -87,7 +90,7 @@ pub fn same_peer(one: &Peer, other: &Peer) -> bool
     one.asn == other.asn && one.addr == other.addr
 }
 
-/// Whether two prefixes are the same.
+/// Returns whether two prefixes are equal, in family, least address and length.
 #[inline]
 pub fn same_prefix(one: &Prefix, other: &Prefix) -> bool
     ensures { IsTrue result ↔ (one.now ≡ other.now) }

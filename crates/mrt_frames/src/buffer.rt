@@ -1,4 +1,5 @@
-//! Filling buffers from an input.
+//! Filling buffers from an input, within a limit of octets. `frames.rt` reads headers and bodies
+//! with it. Read [`fill_within`] first.
 
 ghost use Rattle.std.specs.Prelude.{◌≡◌, ◌≤◌, ◌<◌, ◌+◌, ◌-◌, ◌*◌, ◌||◌, IfOk, length, max, take, drop, vec_len};
 ghost use Rattle.mrt_frames.specs.Taken.{FillsWithin, is_read, answer_of_source};
@@ -8,13 +9,13 @@ use crate::header::LONGEST_BODY;
 use crate::input::Input;
 use std::ops::Range;
 
-/// By how many octets a buffer grows while no more than these were filled. Where more were, it grows
-/// by as many as were filled.
+/// The number of octets by which a full buffer grows while it has no more than these. A larger
+/// buffer is doubled.
 const FIRST_GROWTH: usize = 4096;
 
-/// Fills the buffer as far as the input goes, and answers how far that is. What is taken is counted:
-/// at most `limit` octets may be taken in all. An input that has that many, and the buffer is not full
-/// then, is too long.
+/// Fills `buffer` from `input`, and returns the number of octets filled, which is less than the
+/// length of `buffer` only at the end of the input. Adds the octets read to `taken`, on error too,
+/// and fails with `PastLimit` if `taken` reaches `limit` before `buffer` is full.
 #[inline(always)]
 pub(crate) fn fill_within<I: Input>(
     input: &mut I,
@@ -28,6 +29,8 @@ pub(crate) fn fill_within<I: Input>(
     ensures failed { I.failed input.new
         ≡ (I.failed input.old || is_read (answer_of_source result)) }
 {
+    // The input isn't asked for its end when the limit is met. It may have ended there, and
+    // `PastLimit` is returned all the same.
     let end = (limit - *taken).min(buffer.len() as u64) as usize;
     let mut filled = 0;
     while filled < end {
@@ -44,8 +47,9 @@ pub(crate) fn fill_within<I: Input>(
     Ok(filled)
 }
 
-/// How far to fill the buffer next, of which so much is held and filled: as far as it goes, and
-/// where it is full, as far as it may grow.
+/// Returns the index up to which to fill the buffer of a body of `size` octets next, where the
+/// buffer has `held` octets and the first `filled` are filled. It is the end of the buffer, or if
+/// that is full, the length to which it is to grow, and at most `size`.
 fn next_end(held: usize, filled: usize, size: usize) -> usize
     requires unfinished { filled < size }
     requires small { size ≤ LONGEST_BODY }
@@ -61,7 +65,8 @@ fn next_end(held: usize, filled: usize, size: usize) -> usize
     end.min(size)
 }
 
-/// Reads into this part of the buffer, and answers how many octets there are.
+/// Fills the octets of `buffer` in the range `part` from `input`, and returns the number of octets
+/// filled, as [`fill_within`] does. The octets before the range are unchanged.
 pub(crate) fn fill_part<I: Input>(
     input: &mut I,
     buffer: &mut Vec<u8>,
@@ -82,9 +87,10 @@ pub(crate) fn fill_part<I: Input>(
     fill_within(input, &mut buffer[part], taken, limit)
 }
 
-/// Reads a body of `size` octets into the front of the buffer, and answers how many there are. At
-/// most `limit` octets may be taken in all. The buffer grows to at most twice what the input gave,
-/// and 4,096. It stands out of line, since few bodies are longer than all before.
+/// Reads a body of `size` octets into the start of `buffer`, and returns the number of octets read,
+/// which is less than `size` only at the end of the input. Counts them in `taken`, up to `limit`,
+/// as [`fill_within`] does. `buffer` grows to at most twice the octets read plus 4,096, so a length
+/// that the input doesn't have allocates little.
 #[inline(never)]
 pub(crate) fn fill_body<I: Input>(
     input: &mut I,
@@ -102,6 +108,7 @@ pub(crate) fn fill_body<I: Input>(
         vec_len buffer.new ≤ max (vec_len buffer.old) (2 * count + FIRST_GROWTH)) }
     ensures failed { I.failed input.new ≡ (I.failed input.old || is_read result) }
 {
+    // It is out of line, since few bodies are longer than all before.
     let mut filled = 0;
     while filled < size {
         let end = next_end(buffer.len(), filled, size);

@@ -1,4 +1,5 @@
-//! What can be wrong with a record, and what ends a source.
+//! The faults of records, and the errors that stop a source. `frames.rt` and `mrt_wire` return
+//! them. Read [`RecordKind`] and [`SourceFault`].
 
 ghost use Rattle.std.specs.Prelude.{◌≡◌};
 ghost use Rattle.mrt_frames.specs.Taken.{fault_of_source};
@@ -9,41 +10,43 @@ use crate::input::InFault;
 use std::alloc::AllocError;
 use thiserror::Error;
 
-/// What is wrong with a record, in the order in which it is looked for; but a body that is cut is
-/// looked for behind `TooLong`.
+/// The kind of a record's fault. The first that applies in this order is reported, but a cut body
+/// (`CutRecord`) comes after `TooLong`.
 #[derive(Clone, Copy, Debug, PartialEq, Eq)]
 pub enum RecordKind {
     /// The input ends inside the record.
     CutRecord,
-    /// The header states this length, which is past the limit.
+    /// The header states this length of the body, in octets, which is greater than
+    /// [`LONGEST_BODY`](crate::LONGEST_BODY).
     TooLong(u32),
-    /// The type and subtype, which aren't read.
+    /// Records of this type and subtype aren't supported.
     Unsupported(u16, u16),
-    /// The body isn't one of its type and subtype.
+    /// The body doesn't have the form of its type and subtype.
     Malformed,
-    /// The record of a table's entries comes before any accepted index of its peers.
+    /// The record has entries of a table, but no peer index table was accepted before it.
     NoIndex,
-    /// The first number among the entries of a table that is no peer's of its index.
+    /// An entry has this peer index, which is not in the peer index table. The first such entry is
+    /// reported.
     PeerIndex(u16),
 }
 
-/// A faulty record.
+/// The fault of a record, and where the record is in the input.
 #[derive(Clone, Copy, Debug, PartialEq, Eq)]
 pub struct RecordFault {
-    /// Its number from 1. Every record counts.
+    /// The number of the record, counted from 1. Faulty and unsupported records count too.
     pub number: u64,
-    /// What is wrong.
+    /// The kind of the fault.
     pub kind: RecordKind,
-    /// How many octets stand before its header.
+    /// The offset of the record's header from the start of the input, in octets.
     pub offset: u64,
 }
 
-/// Why octets couldn't be taken into room that is there: no memory is asked for.
+/// An error of reading octets into memory that is already allocated.
 #[derive(Clone, Copy)]
 pub(crate) enum TakeFault {
-    /// The input failed.
+    /// A read of the input failed.
     InputFailed,
-    /// To go on, or to see the end, more octets than the limit would have to be taken.
+    /// More octets than the limit would have to be read, be it only to see the end of the input.
     PastLimit,
 }
 
@@ -55,19 +58,19 @@ impl From<InFault> for TakeFault {
     }
 }
 
-/// Why a source stopped before the end of its input.
+/// An error that stops a source before the end of its input.
 #[derive(Clone, Copy, Debug, PartialEq, Eq, Error)]
 pub enum SourceFault {
-    /// The input failed.
+    /// A read of the input failed.
     #[error("cannot read")]
     Read,
-    /// To go on, or to see the end, more octets than the limit would have to be read.
+    /// More octets than the limit would have to be read, be it only to see the end of the input.
     #[error("input too long")]
     InputTooLong,
-    /// Memory was refused.
+    /// Memory allocation failed.
     #[error("out of memory")]
     Memory,
-    /// It has stopped before.
+    /// The source stopped in an earlier call.
     #[error("the source has stopped")]
     Spent,
 }

@@ -1,4 +1,5 @@
-//! The records of an input, one behind the other.
+//! Reading records one after the other: headers, and the bodies of supported types. `mrt_wire`
+//! calls [`FrameReader::take_record`] for each record; read that first.
 
 ghost use Rattle.std.specs.Prelude.{◌≡◌, ◌+◌, ◌≤◌, ◌||◌, ℕ, Option, IfOk, IsTrue, take, length, vec_len};
 ghost use Rattle.mrt_frames.specs.Taken.{is_read, answer_of_source, TakesOctets, TakesHeader, TakesBody, PassesBody, TakesRecord};
@@ -9,58 +10,64 @@ use crate::header::{HEADER_SIZE, Header, LONGEST_BODY, read_header};
 use crate::input::Input;
 use std::alloc::Global;
 
-/// How many octets of room the buffer of bodies has at most when a body of no more is read. Room for
-/// one more is let go then, and the buffer grows anew.
+/// The greatest size of the buffer of bodies, in octets, that is kept when a body of no more octets
+/// is read. A buffer of one octet more is freed then, and grows anew.
 const MOST_KEPT: usize = 1 << 18;
 
-/// How many octets are passed over at once. They are few, since each record that is passed over makes
-/// room for them. A body of one more takes one more read of the input.
+/// The number of octets of a skipped body that are read at once. They are few, since each skipped
+/// record makes a buffer for them. A body of one octet more takes one more read of the input.
 const PIECE: usize = 512;
 
-/// Which records are supported, by their types, and how their bodies are read.
+/// The supported types of records, and the form of the bodies of each.
 pub trait Profile {
-    /// How bodies are read.
+    /// The form of a body, by which it is parsed.
     type Form: Copy;
 
-    /// The form of the bodies of a type and subtype, where these are supported.
+    /// The form of the bodies of a type and subtype, if these are supported.
     ghost form_at: { Self → ℕ → ℕ → Option Self.Form };
 
-    /// Returns the form of the bodies of a type and subtype, or `None` where these aren't supported.
+    /// Returns the form of the bodies of type `kind` and `subtype`, or `None` if these aren't
+    /// supported.
     fn form_of(&self, kind: u16, subtype: u16) -> Option<Self::Form>
         ensures { result ≡ form_at self.now kind subtype };
 }
 
-/// What the octets that are left begin with: a header; or none, with the fault of what is left unless
-/// that is empty.
+/// The header of the next record, or what is left of the input if that is shorter.
 #[derive(Clone, Copy)]
 enum Start {
+    /// The header of a record.
     Header(Header),
+    /// No whole header is left: the fault of the octets left, or `None` at the end of the input.
     Rest(Option<RecordKind>),
 }
 
-/// What stands at the front of the octets left: a record, with the form of its body; a record whose
-/// body was passed over, since it isn't supported; or the rest, with its fault where it isn't empty.
+/// The next record of an input, or its end.
 #[derive(Clone, Copy)]
 pub enum Front<F> {
+    /// A record of a supported type, with the form of its body, which [`FrameReader::body`]
+    /// returns.
     Record(Header, F),
+    /// A record of an unsupported type, whose body was skipped.
     Passed(Header),
+    /// No whole record can be read: the fault of the octets left, or `None` at the end of the
+    /// input.
     Rest(Option<RecordKind>),
 }
 
-/// Takes records one behind the other.
+/// A reader of records from an input, within a limit of octets.
 #[derive(Drop)]
 pub struct FrameReader {
-    /// The last body, and room behind it that the next may use.
+    /// A buffer whose start is the last body that was read. The next body reuses it.
     body: Vec<u8>,
-    /// How many octets may be taken in all.
+    /// The greatest number of octets to read in all.
     limit: u64,
-    /// How many octets were taken.
+    /// The number of octets read so far.
     taken: u64,
     ghost within: { taken ≤ limit },
 }
 
 impl FrameReader {
-    /// A reader at the start of its input, which may take `limit` octets.
+    /// Returns a reader at the start of its input, which reads at most `limit` octets.
     pub fn new(alloc: Global, limit: u64) -> Self
         ensures limit { result.limit ≡ limit }
         ensures taken { result.taken ≡ 0 }
@@ -72,7 +79,7 @@ impl FrameReader {
         }
     }
 
-    /// How many octets were taken so far.
+    /// Returns the number of octets read from the input so far.
     pub fn taken(&self) -> u64
         ensures taken { result ≡ self.now.taken }
         ensures within { self.now.taken ≤ self.now.limit }
@@ -80,7 +87,8 @@ impl FrameReader {
         self.taken
     }
 
-    /// The body of a record of this size.
+    /// Returns the first `size` octets of the buffer of bodies. They are the body of the last
+    /// record if `size` is the length that its header states.
     pub fn body(&self, size: u32) -> &[u8]
         requires { size ≤ vec_len self.now.body }
         ensures { result.now ≡ take size self.now.body.items }
@@ -88,7 +96,7 @@ impl FrameReader {
         &self.body[..size as usize]
     }
 
-    /// Takes the next header.
+    /// Reads the next header, or returns [`Start::Rest`] if the input ends before or inside it.
     #[inline(always)]
     fn take_header<I: Input>(&mut self, input: &mut I) -> Result<Start, TakeFault>
         ensures octets { TakesOctets (TakesHeader self.new.limit (answer_of_source result))
@@ -105,7 +113,8 @@ impl FrameReader {
         Ok(Start::Rest((count > 0).then_some(RecordKind::CutRecord)))
     }
 
-    /// Takes a body, and answers whether it is whole. Room for a long one is let go before a short one.
+    /// Reads a body of `size` octets into the buffer of bodies. Returns `false` if the input ends
+    /// inside the body.
     #[inline(always)]
     fn take_body<I: Input>(&mut self, input: &mut I, size: u32) -> Result<bool, SourceFault>
         requires { size ≤ LONGEST_BODY }
@@ -115,6 +124,7 @@ impl FrameReader {
         ensures failed { I.failed input.new ≡ (I.failed input.old || is_read result) }
         ensures limit { self.new.limit ≡ self.old.limit }
     {
+        // The buffer of a long body is freed before a short one is read.
         let size = size as usize;
         if size <= MOST_KEPT && self.body.len() > MOST_KEPT {
             self.body = Vec::new(*self.body.allocator());
@@ -127,7 +137,7 @@ impl FrameReader {
         Ok(count == size)
     }
 
-    /// Passes over a body, and answers whether it is whole.
+    /// Skips a body of `size` octets. Returns `false` if the input ends inside the body.
     #[inline(never)]
     fn pass_body<I: Input>(&mut self, input: &mut I, size: u32) -> Result<bool, TakeFault>
         ensures octets { TakesOctets (PassesBody self.new.limit size (answer_of_source result))
@@ -149,7 +159,9 @@ impl FrameReader {
         Ok(true)
     }
 
-    /// Takes the next record. The bodies of those that the profile doesn't support aren't held.
+    /// Reads the next record from `input`, or returns [`Front::Rest`] if there is no whole one.
+    /// Bodies of types that `profile` doesn't support are skipped. On error, a part of the record
+    /// may have been read.
     #[inline(always)]
     pub fn take_record<P: Profile, I: Input>(
         &mut self,

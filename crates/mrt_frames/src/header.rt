@@ -1,4 +1,5 @@
-//! The header of a record (RFC 6396, section 2).
+//! The header of an MRT record (RFC 6396, section 2). `frames.rt` parses it with [`read_header`];
+//! read that first.
 
 ghost use Rattle.std.specs.Prelude.{◌≡◌, ◌+◌, ◌≤◌, length, take, drop};
 ghost use Rattle.std.specs.Int.{to_be_bytes, w16, w32};
@@ -6,25 +7,27 @@ ghost use Rattle.mrt_frames.specs.Record.{IsHeader, header_octets};
 
 use byteorder::{BigEndian, ByteOrder};
 
-/// How many octets a header has.
+/// The size of a header, in octets.
 pub const HEADER_SIZE: usize = 12;
 
-/// The greatest length that a header may state. One more ends what is read of the input.
+/// The greatest length of a body, in octets, that a header may state. After a header that states
+/// one octet more, nothing of the input is read.
 pub const LONGEST_BODY: u32 = 16_777_216;
 
-/// The fields of a header.
+/// The header of an MRT record (RFC 6396, section 2).
 #[derive(Clone, Copy)]
 pub struct Header {
-    /// Seconds since 1970.
+    /// The timestamp, in seconds since 1970-01-01 00:00:00 UTC.
     pub seconds: u32,
-    /// The type of the record, and its subtype.
+    /// The type of the record.
     pub kind: u16,
+    /// The subtype of the record.
     pub subtype: u16,
-    /// How many octets the body has.
+    /// The length of the body, in octets.
     pub size: u32,
 }
 
-/// The number of two octets at a place.
+/// Returns the big-endian 16-bit number at offset `place` of `octets`.
 fn u16_at(octets: &[u8], place: usize) -> u16
     requires { place + 2 ≤ length octets.now }
     ensures { to_be_bytes w16 result ≡ take 2 (drop place octets.now) }
@@ -32,7 +35,7 @@ fn u16_at(octets: &[u8], place: usize) -> u16
     BigEndian::read_u16(&octets[place..])
 }
 
-/// The number of four octets at a place.
+/// Returns the big-endian 32-bit number at offset `place` of `octets`.
 fn u32_at(octets: &[u8], place: usize) -> u32
     requires { place + 4 ≤ length octets.now }
     ensures { to_be_bytes w32 result ≡ take 4 (drop place octets.now) }
@@ -40,7 +43,7 @@ fn u32_at(octets: &[u8], place: usize) -> u32
     BigEndian::read_u32(&octets[place..])
 }
 
-/// The fields that the octets spell.
+/// Returns the header of which `octets` are the spelling. Numbers are big-endian.
 pub(crate) fn read_header(octets: &[u8; HEADER_SIZE]) -> Header
     ensures fits { IsHeader result.seconds result.kind result.subtype result.size }
     ensures octets { header_octets result.seconds result.kind result.subtype result.size
@@ -54,7 +57,7 @@ pub(crate) fn read_header(octets: &[u8; HEADER_SIZE]) -> Header
     }
 }
 
-/// Whether a whole record stands in front, by the length that its header states.
+/// Returns `true` if `octets` begins with a whole record, by the length that its header states.
 #[inline]
 pub(crate) fn begins_with_record(octets: &[u8]) -> bool {
     octets.split_first_chunk::<HEADER_SIZE>().is_some_and(|(header, body)| body.len()

@@ -1,4 +1,6 @@
-//! The records of an input of MRT (RFC 6396), one behind the other, as headers and bodies.
+//! A reader of MRT records (RFC 6396) that returns the header and the body of each. `mrt_wire`
+//! calls [`FrameReader::take_record`], and parses the bodies. Read `frames.rt` first, then
+//! `input.rt`.
 #![tactic(auto)]
 
 mod buffer;

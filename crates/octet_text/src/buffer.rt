@@ -1,4 +1,5 @@
-//! Texts that grow at their end.
+//! A growable text of octets, to which paths and lines are printed. `bgp_paths` and `bgpdump_lines`
+//! call its appends. Read [`Text`] first, then [`make_room`].
 
 ghost use Rattle.std.specs.Prelude.{◌≡◌, ◌+◌, ◌-◌, ◌*◌, ◌<◌, ◌≤◌, ◌++◌, ◌∷◌, [], OnOk, OnErr, length, map, take, drop, slice_range, decimal};
 ghost use Rattle.octet_text.specs.Written.{ended_words};
@@ -12,18 +13,18 @@ use std::alloc::{AllocError, Global};
 use std::marker::Model;
 use std::mem;
 
-/// How much room is made at least, where there isn't enough. Where an octet more is needed, as much is
-/// made as that.
+/// The least number of octets that a buffer has after its text once it has grown. An append of more
+/// octets grows the buffer by as many as it needs.
 const LEAST_ROOM: usize = 512;
 
-/// For how many octets a text that is cleared keeps room at most. One that has room for more gives it
-/// all back, and the next long text asks for its own.
+/// The greatest size of a buffer, in octets, that [`Text::clear`] keeps. A larger buffer is freed,
+/// and the next long text allocates its own.
 const MOST_KEPT: usize = 1 << 18;
 
-/// A text of octets. It is kept in a buffer that has room behind it, so that what is appended is
-/// written in place.
+/// A growable text of octets. Appends fail if memory allocation fails.
 #[derive(Drop)]
 pub struct Text {
+    // The text is its first `len` octets. Those after it are unspecified; appends overwrite them.
     buffer: Vec<u8>,
     len: usize,
 }
@@ -39,7 +40,7 @@ impl Model for Text {
 }
 
 impl Text {
-    /// An empty text.
+    /// Returns an empty text, without allocating memory.
     pub fn new(alloc: Global) -> Self
         ensures { result ≡ [] }
     {
@@ -49,7 +50,7 @@ impl Text {
         }
     }
 
-    /// The text that the octets are, which leaves none of them there.
+    /// Returns a text of the octets in `octets`, without copying them, and leaves `octets` empty.
     #[inline]
     pub fn taken_from(octets: &mut Vec<u8>) -> Self
         ensures taken { result ≡ octets.old.items }
@@ -63,7 +64,7 @@ impl Text {
         }
     }
 
-    /// Its octets, without the room behind them.
+    /// Returns the octets of the text as a vector, without copying them.
     #[inline]
     pub fn into_vec(self) -> Vec<u8>
         ensures { result.items ≡ self }
@@ -73,7 +74,7 @@ impl Text {
         buffer
     }
 
-    /// How many octets it has.
+    /// Returns the length of the text, in octets.
     #[inline]
     pub fn len(&self) -> usize
         ensures { result ≡ length self.now }
@@ -81,7 +82,7 @@ impl Text {
         self.as_slice().len()
     }
 
-    /// Its octets.
+    /// Returns the octets of the text as a slice.
     #[inline]
     pub fn as_slice(&self) -> &[u8]
         ensures { result.now ≡ self.now }
@@ -89,7 +90,7 @@ impl Text {
         &self.buffer[..self.len]
     }
 
-    /// Keeps as many of its first octets as are named, or all.
+    /// Keeps the first `len` octets of the text, or all if it has no more.
     #[inline]
     pub fn truncate(&mut self, len: usize)
         ensures { self.new ≡ take len self.old }
@@ -97,7 +98,7 @@ impl Text {
         self.len = self.len.min(len);
     }
 
-    /// Takes all octets away. Room for many is let go.
+    /// Removes all octets from the text. A buffer of more than 2^18 octets is freed.
     #[inline]
     pub fn clear(&mut self)
         ensures { self.new ≡ [] }
@@ -108,7 +109,7 @@ impl Text {
         }
     }
 
-    /// Appends an octet.
+    /// Appends an octet. On error, the text is unchanged.
     #[inline]
     pub fn push(&mut self, octet: u8) -> Result<(), AllocError>
         ensures appended { OnOk result (self.new ≡ self.old ++ octet ∷ []) }
@@ -121,7 +122,7 @@ impl Text {
         Ok(())
     }
 
-    /// Appends the number in decimal, without leading zeros.
+    /// Appends `number` in decimal, without leading zeros. On error, the text is unchanged.
     #[inline]
     pub fn put_decimal(&mut self, number: u32) -> Result<(), AllocError>
         ensures appended { OnOk result (self.new ≡ self.old ++ decimal number) }
@@ -132,7 +133,7 @@ impl Text {
         Ok(())
     }
 
-    /// The same, for a number of 64 bits.
+    /// Appends a 64-bit number in decimal, without leading zeros. On error, the text is unchanged.
     pub fn put_long_decimal(&mut self, number: u64) -> Result<(), AllocError>
         ensures appended { OnOk result (self.new ≡ self.old ++ decimal number) }
         ensures unchanged { OnErr result (self.new ≡ self.old) }
@@ -143,7 +144,7 @@ impl Text {
         }
     }
 
-    /// Appends the number in decimal, and an octet behind it.
+    /// Appends `number` in decimal, and then the octet `end`. On error, the text is unchanged.
     #[inline]
     pub fn put_ended_decimal(&mut self, number: u32, end: u8) -> Result<(), AllocError>
         ensures appended { OnOk result (self.new ≡ self.old ++ (decimal number ++ end ∷ [])) }
@@ -154,7 +155,7 @@ impl Text {
         Ok(())
     }
 
-    /// Appends an octet, and the number in decimal behind it.
+    /// Appends the octet `lead`, and then `number` in decimal. On error, the text is unchanged.
     #[inline(always)]
     pub fn put_led_decimal(&mut self, lead: u8, number: u32) -> Result<(), AllocError>
         ensures appended { OnOk result (self.new ≡ self.old ++ lead ∷ decimal number) }
@@ -168,7 +169,7 @@ impl Text {
         Ok(())
     }
 
-    /// Appends the numbers in decimal, and the octet behind each.
+    /// Appends each number in decimal, followed by `end`. On error, the text is unchanged.
     #[inline]
     pub fn put_ended_decimals(&mut self, numbers: &[u32], end: u8) -> Result<(), AllocError>
         ensures appended { OnOk result
@@ -185,7 +186,7 @@ impl Text {
         Ok(())
     }
 
-    /// Appends the words of the numbers, and the octet behind each.
+    /// Appends the word of each number, followed by `end`. On error, the text is unchanged.
     #[inline]
     pub fn put_ended_words<W: Word>(&mut self, numbers: &[u32], end: u8) -> Result<(), AllocError>
         ensures appended { OnOk result
@@ -202,7 +203,7 @@ impl Text {
         Ok(())
     }
 
-    /// Appends the text of a value.
+    /// Appends the text of `value`. On error, the text is unchanged.
     #[inline]
     pub fn put<V: InPlace>(&mut self, value: &V) -> Result<(), AllocError>
         ensures appended { OnOk result (self.new ≡ self.old ++ V.shown value.now) }
@@ -213,7 +214,7 @@ impl Text {
         Ok(())
     }
 
-    /// Appends an octet, and the text of a value behind it.
+    /// Appends the octet `lead`, and then the text of `value`. On error, the text is unchanged.
     #[inline]
     pub fn put_led<V: InPlace>(&mut self, lead: u8, value: &V) -> Result<(), AllocError>
         ensures appended { OnOk result (self.new ≡ self.old ++ lead ∷ V.shown value.now) }
@@ -227,7 +228,7 @@ impl Text {
         Ok(())
     }
 
-    /// Appends the octets.
+    /// Appends `octets`. On error, the text is unchanged.
     #[inline(always)]
     pub fn extend_from_slice(&mut self, octets: &[u8]) -> Result<(), AllocError>
         ensures appended { OnOk result (self.new ≡ self.old ++ octets.now) }
@@ -240,7 +241,7 @@ impl Text {
         Ok(())
     }
 
-    /// Appends once more what stands from the first place to the second.
+    /// Appends a copy of the octets in `start..end`. On error, the text is unchanged.
     #[inline]
     pub fn extend_from_within(&mut self, start: usize, end: usize) -> Result<(), AllocError>
         requires { (start ≤ end) × (end ≤ length self.old) }
@@ -255,8 +256,7 @@ impl Text {
     }
 }
 
-/// Appends the number in decimal, without leading zeros. Refused for want of memory, it leaves
-/// the text as it was.
+/// Appends `number` in decimal, without leading zeros. On error, the vector is unchanged.
 pub fn put_decimal(number: u64, text: &mut Vec<u8>) -> Result<(), AllocError>
     ensures appended { OnOk result (text.new.items ≡ text.old.items ++ decimal number) }
     ensures unchanged { OnErr result (text.new.items ≡ text.old.items) }
@@ -264,7 +264,7 @@ pub fn put_decimal(number: u64, text: &mut Vec<u8>) -> Result<(), AllocError>
     text.extend_from_slice(Buffer::new().format(number).as_bytes())
 }
 
-// Makes the buffer at least so much longer than a text at its front.
+/// Makes `buffer` at least `room` octets longer than its first `len`, which are unchanged.
 #[inline(always)]
 fn make_room(buffer: &mut Vec<u8>, len: usize, room: usize) -> Result<(), AllocError>
     requires { len ≤ length buffer.old.items }
@@ -278,7 +278,7 @@ fn make_room(buffer: &mut Vec<u8>, len: usize, room: usize) -> Result<(), AllocE
     Ok(())
 }
 
-// The same, with so much room for each of so many.
+/// Makes `buffer` at least `count * each` octets longer than its first `len`, which are unchanged.
 #[inline(always)]
 fn make_rooms(buffer: &mut Vec<u8>, len: usize, count: usize, each: usize) -> Result<(), AllocError>
     requires front { len ≤ length buffer.old.items }
@@ -293,8 +293,7 @@ fn make_rooms(buffer: &mut Vec<u8>, len: usize, count: usize, each: usize) -> Re
     Ok(())
 }
 
-// The same, where there isn't room, out of line. Where the sum, or the product before, would pass
-// the greatest number, that number is asked for, which is longer than any vector: it is refused.
+/// Grows a shorter `buffer` to at least `len + room` octets. The first `len` are unchanged.
 #[cold]
 #[inline(never)]
 fn grow(buffer: &mut Vec<u8>, len: usize, room: usize) -> Result<(), AllocError>
@@ -303,11 +302,12 @@ fn grow(buffer: &mut Vec<u8>, len: usize, room: usize) -> Result<(), AllocError>
     ensures within { len ≤ length buffer.new.items }
     ensures kept { take len buffer.new.items ≡ take len buffer.old.items }
 {
+    // Overflow saturates at `usize::MAX`. No vector is that long, so memory allocation fails.
     let size = len.saturating_add(room.max(LEAST_ROOM));
     buffer.resize(size, 0)
 }
 
-// Copies octets from the front of a slice to a place behind them.
+/// Copies the octets in the range `start..end` to offset `at`, which is at least `end`.
 #[inline]
 fn copy_within(octets: &mut [u8], start: usize, end: usize, at: usize)
     requires order { (start ≤ end) × (end ≤ at) }

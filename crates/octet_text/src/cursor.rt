@@ -1,39 +1,44 @@
-//! Texts and words written forwards at a place of a slice. What stands behind a text, within the room
-//! that it asks for, may be anything then.
+//! Functions that write numbers and other values as text into a slice at an offset, and return the
+//! offset of the octet after the text. The slice needs a fixed number of octets from the offset on;
+//! those after the text are unspecified. [`Text`](crate::Text) and the crates that print values
+//! call them. Read [`write_decimal`] first.
 
 ghost use Rattle.std.specs.Prelude.{◌≡◌, ℕ, List, ◌+◌, ◌<◌, ◌≤◌, ◌++◌, ◌∷◌, [], length, take, drop, decimal};
 ghost use Rattle.octet_text.specs.Written.{IsWritten, three_digits, filled, two_hex_digits};
 
 use crate::digits::{DIGIT_ROWS, HEX_PAIRS};
 
-/// The room for a number of 32 bits in decimal.
+/// The number of octets that [`write_decimal`] needs from its offset on. A `u32` has at most ten
+/// digits, but they are written four octets at a time.
 pub const DECIMAL_ROOM: usize = 12;
 
-/// The room for such a number, and an octet behind it.
+/// The number of octets that [`write_ended_decimal`] needs from its offset on.
 pub(crate) const ENDED_ROOM: usize = DECIMAL_ROOM + 1;
 
-/// How many digits a number of 32 bits has at most.
+/// The greatest number of decimal digits of a `u32`.
 const DECIMAL_DIGITS: usize = 10;
 
-/// How many octets are written at once.
+/// The number of octets that [`write_short`] needs from its offset on, and writes at once.
 pub const ROW: usize = 4;
 
-/// How many hexadecimal digits are written at once.
+/// The number of octets that [`write_hex_pair`] writes, and needs from its offset on.
 pub const HEX_PAIR: usize = 2;
 
-/// What stands between words, and in a row behind the digits.
+/// A space. It separates words, and fills rows of fewer than three digits.
 pub const SPACE: u8 = b' ';
 
-/// The digit 0.
+/// The ASCII code of the digit 0.
 const ZERO: usize = b'0' as usize;
 
-/// A thousand.
+/// One thousand. Numbers below it have at most three digits.
 const THOUSAND: u32 = 1000;
 
-/// A million.
+/// One million. Numbers below it have at most six digits.
 const MILLION: u32 = 1_000_000;
 
-/// Writes the number in decimal, without leading zeros, and answers the place behind it.
+/// Writes `number` in decimal, without leading zeros, into `text` at offset `at`, and returns the
+/// offset of the octet after it. `text` needs [`DECIMAL_ROOM`] octets from `at` on, of which those
+/// after the number are unspecified.
 #[inline]
 pub fn write_decimal(number: u32, text: &mut [u8], at: usize) -> usize
     requires { at + DECIMAL_ROOM ≤ length text.old }
@@ -46,7 +51,9 @@ pub fn write_decimal(number: u32, text: &mut [u8], at: usize) -> usize
     write_long(number, text, at)
 }
 
-/// Writes the number in decimal, and an octet behind it, and answers the place behind both.
+/// Writes `number` in decimal and then the octet `end` into `text` at offset `at`, and returns the
+/// offset of the octet after `end`. `text` needs `DECIMAL_ROOM + 1` octets from `at` on, of which
+/// those after `end` are unspecified.
 #[inline]
 pub fn write_ended_decimal(number: u32, end: u8, text: &mut [u8], at: usize) -> usize
     requires { at + ENDED_ROOM ≤ length text.old }
@@ -58,20 +65,23 @@ pub fn write_ended_decimal(number: u32, end: u8, text: &mut [u8], at: usize) -> 
     behind + 1
 }
 
-// Writes a number of seven digits or more. It stands out of line, since few numbers have so many.
+/// Writes `number`, which is at least a million, in decimal at offset `at`, and returns the offset
+/// of the octet after it.
 #[inline(never)]
 fn write_long(number: u32, text: &mut [u8], at: usize) -> usize
     requires { (MILLION ≤ number) × (at + DECIMAL_ROOM ≤ length text.old) }
     ensures written { IsWritten text.old at (decimal number) text.new result }
     ensures short { result ≤ at + DECIMAL_DIGITS }
 {
+    // It is out of line, since few numbers have so many digits.
     let low = number % MILLION;
     let millions = write_six(number / MILLION, text, at);
     let thousands = write_three(low / THOUSAND, text, millions);
     write_three(low % THOUSAND, text, thousands)
 }
 
-// Writes a number of up to six digits.
+/// Writes `number`, which is below a million, in decimal at offset `at`, and returns the offset of
+/// the octet after it.
 #[inline(always)]
 fn write_six(number: u32, text: &mut [u8], at: usize) -> usize
     requires { (number < MILLION) × (at + 3 + ROW ≤ length text.old) }
@@ -85,7 +95,9 @@ fn write_six(number: u32, text: &mut [u8], at: usize) -> usize
     write_three(number % THOUSAND, text, thousands)
 }
 
-/// Writes a number of up to three digits, and answers the place behind it.
+/// Writes `number`, which is below 1,000, in decimal into `text` at offset `at`, and returns the
+/// offset of the octet after it. `text` needs [`ROW`] octets from `at` on, of which those after the
+/// number are unspecified.
 #[inline(always)]
 pub fn write_short(number: u32, text: &mut [u8], at: usize) -> usize
     requires { (number < THOUSAND) × (at + ROW ≤ length text.old) }
@@ -97,7 +109,8 @@ pub fn write_short(number: u32, text: &mut [u8], at: usize) -> usize
     at + usize::from(row[3]) - ZERO
 }
 
-// Writes a number below a thousand in three digits.
+/// Writes `number`, which is below 1,000, in three digits at offset `at`, and returns the offset of
+/// the octet after them.
 #[inline(always)]
 fn write_three(number: u32, text: &mut [u8], at: usize) -> usize
     requires { (number < THOUSAND) × (at + ROW ≤ length text.old) }
@@ -107,7 +120,8 @@ fn write_three(number: u32, text: &mut [u8], at: usize) -> usize
     at + 3
 }
 
-// The decimal of a number below a thousand, filled with spaces, and how many digits it has.
+/// Returns the decimal digits of `number`, which is below 1,000, filled with spaces to three
+/// octets, and then the digit of their count.
 #[inline(always)]
 fn short_row(number: u32) -> [u8; ROW]
     requires { number < THOUSAND }
@@ -116,7 +130,7 @@ fn short_row(number: u32) -> [u8; ROW]
     DIGIT_ROWS[number as usize]
 }
 
-// A number below a thousand in three digits, and a space.
+/// Returns `number`, which is below 1,000, in three digits, and then a space.
 #[inline(always)]
 fn three_row(number: u32) -> [u8; ROW]
     requires { number < THOUSAND }
@@ -125,7 +139,8 @@ fn three_row(number: u32) -> [u8; ROW]
     DIGIT_ROWS[THOUSAND as usize + number as usize]
 }
 
-/// Writes a number below 256 in two hexadecimal digits, and answers the place behind them.
+/// Writes `number`, which is below 256, in two lower-case hexadecimal digits into `text` at offset
+/// `at`, and returns the offset of the octet after them.
 #[inline]
 pub fn write_hex_pair(number: u16, text: &mut [u8], at: usize) -> usize
     requires { (number < 0x100) × (at + HEX_PAIR ≤ length text.old) }
@@ -136,7 +151,7 @@ pub fn write_hex_pair(number: u16, text: &mut [u8], at: usize) -> usize
     at + HEX_PAIR
 }
 
-/// A number below 256 in two hexadecimal digits.
+/// Returns the two lower-case hexadecimal digits of `number`, which is below 256.
 #[inline(always)]
 pub fn hex_pair(number: u16) -> [u8; HEX_PAIR]
     requires { number < 0x100 }
@@ -145,7 +160,7 @@ pub fn hex_pair(number: u16) -> [u8; HEX_PAIR]
     HEX_PAIRS[number as usize]
 }
 
-/// Puts octets there.
+/// Copies `octets` into `text` at offset `at`.
 #[inline(always)]
 pub fn put_octets(octets: &[u8], text: &mut [u8], at: usize)
     requires { at + length octets.now ≤ length text.old }
@@ -154,32 +169,37 @@ pub fn put_octets(octets: &[u8], text: &mut [u8], at: usize)
     text[at..at + octets.len()].copy_from_slice(octets);
 }
 
-/// A value that is written as a text at a place of a slice.
+/// A value that can be written as text into a slice at an offset.
 pub trait InPlace {
-    /// The text of a value.
+    /// The text of a value, as octets.
     ghost shown: { Self → List ℕ };
 
-    /// The room for a text.
+    /// The value of `ROOM` in contracts.
     ghost ROOM: { ℕ };
 
-    /// The room for a text.
+    /// The number of octets that [`InPlace::write_in_place`] needs from its offset on.
     const ROOM: usize;
 
-    /// Writes the text at the place, and answers the place behind it.
+    /// Writes the text of the value into `text` at offset `at`, and returns the offset of the octet
+    /// after it. `text` needs `ROOM` octets from `at` on, of which those after the value's text are
+    /// unspecified.
     fn write_in_place(&self, text: &mut [u8], at: usize) -> usize
         requires { at + ROOM ≤ length text.old }
         ensures { IsWritten text.old at (shown self.now) text.new result };
 }
 
-/// The room for a word, and an octet behind it: that for two decimals, and an octet behind each.
+/// The number of octets that [`Word::write_ended`] needs from its offset on: as many as two
+/// decimals, each followed by an octet.
 pub const WORD_ROOM: usize = 2 * ENDED_ROOM;
 
-/// How a number is written as a word.
+/// A way to write a number as a word.
 pub trait Word {
-    /// The word of a number.
+    /// The word of a number, as octets.
     ghost word: { ℕ → List ℕ };
 
-    /// Writes the word of a number, and an octet behind it, and answers the place behind both.
+    /// Writes the word of `number` and then the octet `end` into `text` at offset `at`, and returns
+    /// the offset of the octet after `end`. `text` needs [`WORD_ROOM`] octets from `at` on, of
+    /// which those after `end` are unspecified.
     fn write_ended(number: u32, end: u8, text: &mut [u8], at: usize) -> usize
         requires { at + WORD_ROOM ≤ length text.old }
         ensures written { IsWritten text.old at (word number ++ end ∷ []) text.new result }

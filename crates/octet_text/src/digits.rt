@@ -1,7 +1,8 @@
-//! The digits of the numbers below a thousand.
+//! Tables of the digits of small numbers. `cursor.rt` copies numbers from them into texts.
 
-/// Each in decimal, without leading zeros, then spaces, and last how many digits it has. Behind these
-/// a row of each with three digits and a space.
+/// The decimal digits of the numbers below 1,000. Row `n` has the digits of `n` without leading
+/// zeros, filled with spaces to three octets, and then the digit of their count. Row `1000 + n` has
+/// `n` in three digits, and then a space.
 #[rattlefmt::skip]
 pub(crate) static DIGIT_ROWS: [[u8; 4]; 2000] = [
     *b"0  1", *b"1  1", *b"2  1", *b"3  1", *b"4  1", *b"5  1", *b"6  1", *b"7  1", *b"8  1", *b"9  1",
@@ -206,7 +207,7 @@ pub(crate) static DIGIT_ROWS: [[u8; 4]; 2000] = [
     *b"990 ", *b"991 ", *b"992 ", *b"993 ", *b"994 ", *b"995 ", *b"996 ", *b"997 ", *b"998 ", *b"999 ",
 ];
 
-/// The two hexadecimal digits of each number below 256.
+/// The two lower-case hexadecimal digits of each number below 256.
 #[rattlefmt::skip]
 pub(crate) static HEX_PAIRS: [[u8; 2]; 256] = [
     *b"00", *b"01", *b"02", *b"03", *b"04", *b"05", *b"06", *b"07",

@@ -1,4 +1,6 @@
-//! Texts of octets: numbers written in them in place, and texts that grow at their end.
+//! Text built from octets: [`Text`], which grows at its end, and functions that write numbers into
+//! a slice at an offset. The crates that print addresses, AS paths and lines call them. Read
+//! `buffer.rt` first, then `cursor.rt`.
 #![tactic(auto)]
 
 mod buffer;
