@@ -4,6 +4,7 @@
 ghost use Rattle.std.specs.Prelude.{◌≡◌, ◌≤◌, ◌<◌, IsTrue, IfOk, IfErr, IfSome, OnOk, vec_len};
 ghost use Rattle.bgp_wire.specs.Content.{SpellsRibAttrs};
 ghost use Rattle.mrt_wire.specs.declared.peers.TheConstants.{PEER_PLACES};
+ghost use Rattle.mrt_wire.specs.declared.read_routes.TheConstants.{MOST_SPARES};
 ghost use Rattle.mrt_wire.specs.Judging.{IsSentAs, RefusesSent};
 
 use crate::peers::PEER_PLACES;
