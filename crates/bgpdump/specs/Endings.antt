@@ -1,6 +1,6 @@
 -- Private.
 -- What a run of the program leaves, and how it ends.
-use Rattle.std.specs.Prelude.{◌≡◌, ◌≤◌, ℕ, ◌^◌, List, [], length, Option, Some, None, IfSome, IsTrue, ◌⊎◌, ⊥, codes}
+use Rattle.std.specs.Prelude.{◌≡◌, ◌≤◌, ℕ, ◌^◌, List, [], length, Option, Some, None, IfSome, IsTrue, ◌⊎◌, codes}
 use Rattle.std.specs.Io.KnownBytes.{Keeps}
 use Rattle.std.specs.Io.Buffered.{reader_remaining, writer_contents}
 use Rattle.mrt_wire.specs.declared.BufferedInput.{BufferedInput}

@@ -18,7 +18,7 @@ pub enum Cause {
     IsRead,
 }
 
-/// What says what the program does.
+/// What tells the program what to do.
 #[derive(Clone, Copy, PartialEq, Eq)]
 pub enum Instructions {
     /// The words of the command line.

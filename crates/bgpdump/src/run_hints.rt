@@ -74,16 +74,16 @@ fn write_form(rt: &HostRuntime, settings: &Settings, form: Form) -> io::Result<(
 
 /// Writes what is meant by an option that isn't there, by what `clap` says of it.
 fn write_option_hint(rt: &HostRuntime, text: &str) -> io::Result<()> {
-    match find_option(text) {
-        Some(option) => match find_option_elsewhere(option) {
-            Some(elsewhere) => eprintln!(rt;
-                "bgpdump: there is no {elsewhere} here; use -m; see man bgpdump, COMPATIBILITY"
-            ),
-            None if text.contains(VALUE_ADVICE) => eprintln!(rt;
-                "bgpdump: there is no option {option}; there are -m, --play, -t and -O"
-            ),
-            None => Ok(()),
-        },
+    let Some(option) = find_option(text) else {
+        return Ok(());
+    };
+    match find_option_elsewhere(option) {
+        Some(elsewhere) => eprintln!(rt;
+            "bgpdump: there is no {elsewhere} here; use -m; see man bgpdump, COMPATIBILITY"
+        ),
+        None if text.contains(VALUE_ADVICE) => eprintln!(rt;
+            "bgpdump: there is no option {option}; there are -m, --play, -t and -O"
+        ),
         None => Ok(()),
     }
 }

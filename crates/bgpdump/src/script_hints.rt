@@ -76,8 +76,8 @@ fn is_bad(line: &[u8]) -> bool {
     !line.is_empty() && read_command(line).is_none()
 }
 
-/// Returns why the line is no command, by the first of its words that can't stand there. None says
-/// nothing.
+/// Returns why the line is no command, by the first of its words that can't stand there. None where no
+/// such word is found.
 fn find_flaw(line: &[u8]) -> Option<Flaw<'_>> {
     if line.ends_with(b"\r") {
         return Some(Flaw::CarriageReturn);
