@@ -35,6 +35,7 @@ KNOWN = {
     # Of an error of the system, or of std's readers, that says so.
     ('bgpdump/src/files.rt', 'read_outcome'): 1,
     ('bgpdump/src/files.rt', 'not_opened'): 1,
+    ('bgpdump/src/files.rt', 'not_read'): 1,
     # The status of words that were refused for it.
     ('bgpdump/src/ending.rt', 'status'): 1,
 }

@@ -15,8 +15,9 @@ use Rattle.bgpdump.specs.declared.run.Streams.{Streams}
 use Rattle.bgpdump_tool.specs.Going.{status_of}
 use Rattle.bgpdump_tool.specs.declared.Outcome.{Outcome}
 use Rattle.bgpdump_tool.specs.declared.Outcome.TheVariants.{ReadFault, WriteFault, InputTooLong, ScriptTooLong, Memory}
+use Rattle.bgpdump.specs.declared.ending.Instructions.{Instructions}
 use Rattle.bgpdump.specs.declared.ending.Ending.{Ending}
-use Rattle.bgpdump.specs.declared.ending.Ending.TheVariants.{Usage, NotOpened, Ran}
+use Rattle.bgpdump.specs.declared.ending.Ending.TheVariants.{Usage, NotOpened, NotRead, Ran}
 use Rattle.bgpdump_tool.specs.declared.UsageFault.TheVariants as usage
 
 -- ---- what a run of the program leaves with its writers, and of its input
@@ -79,17 +80,24 @@ TookMost left left' = (taken after : List ℕ) → Took left left' taken after �
 
 -- ---- how the program ends: its exit status, and its last message
 
--- 0 for help, 2 for other faults of the words, 3 for a file that can't be opened; else, and for want of memory, that of the run
+-- 0 for help, 2 for other faults of the words, 3 for a file that isn't opened; for instructions that can't be read that of a read fault; else, and for want of memory, that of the run
 abbrev pub ending_status : Ending → ℕ
 ending_status (Usage (usage.Help text)) = 0
 ending_status (Usage usage.Memory) = status_of Memory
 ending_status (Usage fault) = 2
-ending_status (NotOpened name) = 3
+ending_status (NotOpened name cause) = 3
+ending_status (NotRead instructions error) = status_of ReadFault
 ending_status (Ran outcome) = status_of outcome
 
 -- how a run ends that was kept from beginning by what it was to read
 abbrev pub IsReadOutcome : Outcome → Type 0
 IsReadOutcome outcome = (outcome ≡ ReadFault) ⊎ (outcome ≡ Memory)
+
+-- how the program ends where these instructions can't be read, or where there is no memory for them
+abbrev pub IsNotRead : Instructions → Ending → Type 0
+IsNotRead instructions (Ran outcome) = outcome ≡ Memory
+IsNotRead instructions (NotRead others error) = others ≡ instructions
+IsNotRead instructions other = ⊥
 
 -- how a run ends that ended so, and whose writers failed at the end: want of memory stands in place of any other answer
 abbrev pub lost_outcome : Outcome → Outcome
@@ -101,6 +109,7 @@ abbrev pub ending_message : Ending → Option (List ℕ)
 ending_message (Usage usage.Mode) = Some (codes "choose one of -m and --play")
 ending_message (Usage usage.TwoInputs) = Some (codes "standard input named twice")
 ending_message (Usage usage.Memory) = Some (codes "out of memory")
+ending_message (NotRead instructions error) = Some (codes "read fault")
 ending_message (Ran ReadFault) = Some (codes "read fault")
 ending_message (Ran WriteFault) = Some (codes "write fault")
 ending_message (Ran InputTooLong) = Some (codes "input too long")

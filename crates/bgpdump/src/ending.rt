@@ -5,18 +5,37 @@ ghost use Rattle.bgpdump.specs.declared.ending.Ending.TheVariants.{Ran};
 ghost use Rattle.bgpdump_tool.specs.declared.Outcome.TheVariants.{Memory};
 ghost use Rattle.bgpdump.specs.Endings.{ending_message, ending_status};
 
-use crate::hints::option_elsewhere;
 use bgpdump_tool::{Outcome, UsageFault};
 use std::alloc::{AllocError, AllocFailed};
 use std::io;
+
+/// Why a file isn't opened.
+#[derive(Clone, Copy)]
+pub enum Cause {
+    /// The system refuses to, with this error.
+    Refused(io::Error),
+    /// The program reads it, and would empty it by opening it to write.
+    IsRead,
+}
+
+/// What tells the program what to do.
+#[derive(Clone, Copy, PartialEq, Eq)]
+pub enum Instructions {
+    /// The words of the command line.
+    Words,
+    /// The script.
+    Script,
+}
 
 /// How the program ends.
 #[derive(Drop)]
 pub enum Ending<'a> {
     /// The words give no settings.
     Usage(UsageFault),
-    /// The file of this name can't be opened.
-    NotOpened(&'a str),
+    /// The file of this name isn't opened.
+    NotOpened(&'a str, Cause),
+    /// The instructions can't be read: words aren't text, or the system answers this error.
+    NotRead(Instructions, io::Error),
     /// A run ended so, or was kept from beginning.
     Ran(Outcome),
 }
@@ -54,7 +73,8 @@ impl Ending<'_> {
             Ending::Usage(UsageFault::Help(_)) => 0,
             Ending::Usage(UsageFault::Memory) => Outcome::Memory.status(),
             Ending::Usage(_) => 2,
-            Ending::NotOpened(_) => 3,
+            Ending::NotOpened(_, _) => 3,
+            Ending::NotRead(_, _) => Outcome::ReadFault.status(),
             Ending::Ran(outcome) => outcome.status(),
         }
     }
@@ -64,16 +84,8 @@ impl Ending<'_> {
     pub fn print(&self, rt: &HostRuntime) -> io::Result<()> {
         match self {
             Ending::Usage(UsageFault::Help(text)) => print!(rt; "{text}"),
-            Ending::Usage(UsageFault::Words(text)) => {
-                eprint!(rt; "{text}")?;
-                match option_elsewhere(text.as_str()) {
-                    Some(option) => eprintln!(rt;
-                        "bgpdump: there is no {option} here; use -m; see man bgpdump, COMPATIBILITY"
-                    ),
-                    None => Ok(()),
-                }
-            }
-            Ending::NotOpened(name) => eprintln!(rt; "bgpdump: cannot open {name}"),
+            Ending::Usage(UsageFault::Words(text)) => eprint!(rt; "{text}"),
+            Ending::NotOpened(name, _) => eprintln!(rt; "bgpdump: cannot open {name}"),
             _ => match self.message() {
                 Some(message) => eprintln!(rt; "bgpdump: {message}"),
                 None => Ok(()),
@@ -88,14 +100,14 @@ impl Ending<'_> {
         match self {
             Ending::Usage(UsageFault::Mode) => Some("choose one of -m and --play"),
             Ending::Usage(UsageFault::TwoInputs) => Some("standard input named twice"),
-            Ending::Ran(Outcome::ReadFault) => Some("read fault"),
+            Ending::NotRead(_, _) | Ending::Ran(Outcome::ReadFault) => Some("read fault"),
             Ending::Ran(Outcome::WriteFault) => Some("write fault"),
             Ending::Ran(Outcome::InputTooLong) => Some("input too long"),
             Ending::Ran(Outcome::ScriptTooLong) => Some("script too long"),
             Ending::Usage(UsageFault::Memory) | Ending::Ran(Outcome::Memory) => {
                 Some("out of memory")
             }
-            Ending::Usage(_) | Ending::NotOpened(_) | Ending::Ran(_) => None,
+            Ending::Usage(_) | Ending::NotOpened(_, _) | Ending::Ran(_) => None,
         }
     }
 }

@@ -2,9 +2,9 @@
 
 ghost use Rattle.std.specs.Prelude.{◌≡◌, ◌≢◌, ◌↔◌, ◌+◌, ℕ, List, Some, IsTrue, take, IfOk, IfErr};
 ghost use Rattle.std.specs.IoError.{error_kind};
-ghost use Rattle.bgpdump.specs.Endings.{IsReadOutcome};
+ghost use Rattle.bgpdump.specs.Endings.{IsReadOutcome, IsNotRead};
 
-use crate::ending::Ending;
+use crate::ending::{Cause, Ending, Instructions};
 use bgpdump_tool::{LONGEST_SCRIPT, Mode, Outcome, STANDARD_INPUT, Settings};
 use std::alloc::Global;
 use std::fs::{self, File, Metadata};
@@ -42,11 +42,25 @@ fn not_opened<'a>(name: &'a str, error: &io::Error) -> Ending<'a>
     ensures memory { error_kind error.now ≡ ErrorKind.OutOfMemory →
         result ≡ Ending.Ran Outcome.Memory }
     ensures other { error_kind error.now ≢ ErrorKind.OutOfMemory →
-        result ≡ Ending.NotOpened name.entry }
+        result ≡ Ending.NotOpened name.entry (Cause.Refused error.now) }
 {
     match error.kind() {
         ErrorKind::OutOfMemory => Ending::Ran(Outcome::Memory),
-        _ => Ending::NotOpened(name),
+        _ => Ending::NotOpened(name, Cause::Refused(*error)),
+    }
+}
+
+/// How the program ends where this error kept it from reading its instructions.
+pub fn not_read<'a>(instructions: Instructions, error: &io::Error) -> Ending<'a>
+    ensures memory { error_kind error.now ≡ ErrorKind.OutOfMemory →
+        result ≡ Ending.Ran Outcome.Memory }
+    ensures other { error_kind error.now ≢ ErrorKind.OutOfMemory →
+        result ≡ Ending.NotRead instructions error.now }
+    ensures either { IsNotRead instructions result }
+{
+    match read_outcome(error) {
+        Outcome::Memory => Ending::Ran(Outcome::Memory),
+        _ => Ending::NotRead(instructions, *error),
     }
 }
 
@@ -76,7 +90,7 @@ pub fn create<'a>(
 ) -> Result<File, Ending<'a>> {
     match is_read(rt, settings, name) {
         Ok(false) => File::create(rt, name).map_err(|error| not_opened(name, &error)),
-        Ok(true) => Err(Ending::NotOpened(name)),
+        Ok(true) => Err(Ending::NotOpened(name, Cause::IsRead)),
         Err(error) => Err(not_opened(name, &error)),
     }
 }
@@ -151,15 +165,15 @@ fn is_one_file(one: FileNumber, other: FileNumber) -> bool
 }
 
 /// The octets of a script, of one that is too long no more than tell so.
-pub fn read_script<R: Read + Drop>(alloc: Global, reader: R) -> Result<Vec<u8>, Outcome>
+pub fn read_script<'a, R: Read + Drop>(alloc: Global, reader: R) -> Result<Vec<u8>, Ending<'a>>
     ensures octets { IfOk result (λ script. (octets : List ℕ) → R.remaining reader ≡ Some octets →
         script.items ≡ take (LONGEST_SCRIPT + 1) octets) }
-    ensures fault { IfErr result IsReadOutcome }
+    ensures fault { IfErr result (IsNotRead Instructions.Script) }
 {
     let mut script = Vec::new(alloc);
     let mut front = reader.take(LONGEST_SCRIPT as u64 + 1);
     match front.read_to_end(&mut script) {
         Ok(_) => Ok(script),
-        Err(error) => Err(read_outcome(&error)),
+        Err(error) => Err(not_read(Instructions::Script, &error)),
     }
 }

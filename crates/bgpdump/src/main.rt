@@ -2,17 +2,22 @@
 //! script over it.
 #![tactic(auto)]
 
+mod command_words;
 mod ending;
 mod files;
 mod hints;
 mod in_memory;
 mod run;
+mod run_hints;
+mod script_hints;
 
-use bgpdump_tool::{Mode, Outcome, STANDARD_INPUT, Settings, settings};
-use ending::Ending;
-use files::{create, hold_standard_streams, open, read_outcome, read_script};
-use hints::{Form, NotedDevices};
+use bgpdump_tool::{LONGEST_SCRIPT, Mode, Outcome, STANDARD_INPUT, Settings, settings};
+use ending::{Ending, Instructions};
+use files::{create, hold_standard_streams, not_read, open, read_script};
+use hints::{NotedDevices, Notes, are_hints_wanted};
 use run::{Devices, dump, play};
+use run_hints::{write_ending_hint, write_input_hints};
+use script_hints::write_script_hints;
 use std::io::{Read, Write};
 use std::process::ExitCode;
 use std::{env, io};
@@ -21,28 +26,21 @@ use std::{env, io};
 #[derive(Drop)]
 struct Ran {
     outcome: Outcome,
-    /// The form that the input seems to be compressed in.
-    form: Option<Form>,
+    /// What was noted of the input.
+    notes: Notes,
 }
 
 fn main(rt: HostRuntime) -> ExitCode {
     hold_standard_streams(&rt);
     match read_settings(&rt) {
-        Ok(settings) => match run_settings(&rt, &settings) {
-            Ok(ran) => {
-                let status = end(&rt, &Ending::Ran(ran.outcome));
-                tell_form(&rt, settings.input.as_str(), ran.form);
-                status
-            }
-            Err(ending) => end(&rt, &ending),
-        },
+        Ok(settings) => run_to_end(&rt, &settings),
         Err(ending) => end(&rt, &ending),
     }
 }
 
 /// What the words of the command line ask for. Words that aren't text can't be read.
 fn read_settings<'a>(rt: &HostRuntime) -> Result<Settings, Ending<'a>> {
-    let words = read_words(rt).map_err(|error| read_outcome(&error))?;
+    let words = read_words(rt).map_err(|error| not_read(Instructions::Words, &error))?;
     settings(rt.alloc(), words).map_err(|fault| Ending::Usage(fault))
 }
 
@@ -51,9 +49,25 @@ fn read_words(rt: &HostRuntime) -> io::Result<Vec<String>> {
     Ok(env::args(rt)?.collect(rt.alloc())?)
 }
 
+/// Runs as the settings say, prints the last message, and gives the exit status. Tells a person what
+/// seems to be amiss with the input, where the run ended with a fault.
+fn run_to_end(rt: &HostRuntime, settings: &Settings) -> ExitCode {
+    match run_settings(rt, settings) {
+        Ok(ran) => {
+            let ending = Ending::Ran(ran.outcome);
+            let status = end(rt, &ending);
+            if are_hints_wanted(rt) && ending.status() > 0 {
+                write_input_hints(rt, settings, &ran.notes);
+            }
+            status
+        }
+        Err(ending) => end(rt, &ending),
+    }
+}
+
 /// Opens what the settings name, the output last, and runs over it.
 fn run_settings<'a>(rt: &HostRuntime, settings: &'a Settings) -> Result<Ran, Ending<'a>> {
-    let script = script_of(rt, &settings.mode)?;
+    let script = read_script_of(rt, &settings.mode)?;
     let name = settings.input.as_str();
     let input: Box<dyn Read + Drop> = if name == STANDARD_INPUT {
         Box::new(rt.alloc(), rt.stdin())?
@@ -64,7 +78,7 @@ fn run_settings<'a>(rt: &HostRuntime, settings: &'a Settings) -> Result<Ran, End
 }
 
 /// The script that is to be played, if one is.
-fn script_of<'a>(rt: &HostRuntime, mode: &'a Mode) -> Result<Option<Vec<u8>>, Ending<'a>> {
+fn read_script_of<'a>(rt: &HostRuntime, mode: &'a Mode) -> Result<Option<Vec<u8>>, Ending<'a>> {
     match mode {
         Mode::Lines => Ok(None),
         Mode::Play(name) if name.as_str() == STANDARD_INPUT => {
@@ -74,8 +88,8 @@ fn script_of<'a>(rt: &HostRuntime, mode: &'a Mode) -> Result<Option<Vec<u8>>, En
     }
 }
 
-/// Opens the output that the settings name, runs over an input that was opened, and tells what it
-/// begins with. In their boxes all inputs have one type, and all outputs, so that the run's code
+/// Opens the output that the settings name, runs over an input that was opened, and gives what was
+/// noted of it. In their boxes all inputs have one type, and all outputs, so that the run's code
 /// stands in the program once.
 fn run_input<'a>(
     rt: &HostRuntime,
@@ -89,30 +103,34 @@ fn run_input<'a>(
     };
     let (reader, err) = (input, rt.stderr());
     let noted = NotedDevices::new(rt.alloc(), Devices { reader, out, err })?;
-    let NotedDevices { front, devices } = noted;
+    let NotedDevices { notes, devices } = noted;
     let outcome = match script {
         None => dump(rt.alloc(), settings.stamp, devices).outcome,
-        Some(script) => play(rt.alloc(), settings.stamp, script, devices).outcome,
+        Some(script) => {
+            write_bad_lines(rt, script);
+            play(rt.alloc(), settings.stamp, script, devices).outcome
+        }
     };
-    let form = front.get().form();
-    Ok(Ran { outcome, form })
+    let notes = notes.get();
+    Ok(Ran { outcome, notes })
 }
 
-/// Says how to read an input that seems to be compressed. Where that can't be printed it is lost.
-fn tell_form(rt: &HostRuntime, name: &str, form: Option<Form>) {
-    if let Some(form) = form {
-        let (compressed, printer) = (form.name, form.printer);
-        let _ = eprintln!(rt;
-            "bgpdump: {name} looks like {compressed}; try {printer} {name} | bgpdump -m -"
-        );
+/// Tells a person which lines of a script aren't carried out, unless it is too long to be begun: in a
+/// stream their reports may come hours later.
+fn write_bad_lines(rt: &HostRuntime, script: &[u8]) {
+    if are_hints_wanted(rt) && script.len() <= LONGEST_SCRIPT {
+        write_script_hints(rt, script);
     }
 }
 
-/// Prints the last message, and gives the exit status. Where help can't be printed, that is a write
-/// fault; any other message that can't be printed is lost.
+/// Prints the last message, with a hint for a person, and gives the exit status. Where help can't be
+/// printed, that is a write fault; any other message that can't be printed is lost.
 fn end(rt: &HostRuntime, ending: &Ending<'_>) -> ExitCode {
     let is_printed = ending.print(rt).is_ok();
     if is_printed || ending.status() > 0 {
+        if are_hints_wanted(rt) {
+            write_ending_hint(rt, ending);
+        }
         return ExitCode::from(ending.status());
     }
     let fault = Ending::Ran(Outcome::WriteFault);

@@ -1,0 +1,71 @@
+//! Commands that a hint tells a person to type.
+
+use bgpdump_tool::{Mode, STANDARD_INPUT, Settings};
+use mrt_wire::Stamp;
+use std::fmt;
+
+/// What stands for a name that can't be typed on a line.
+const FILE: &str = "FILE";
+
+/// The marks, besides letters and digits, of words that a shell takes as they are.
+const PLAIN_MARKS: &[u8] = b"%+,-./:@_";
+
+/// A file's name, as a word of a command.
+#[derive(Clone, Copy)]
+pub struct FileWord<'a>(pub &'a str);
+
+/// The command of these settings, with standard input as its input.
+#[derive(Clone, Copy)]
+pub struct PipedCommand<'a>(pub &'a Settings);
+
+/// Returns whether a shell takes the octet as it is.
+fn is_plain(octet: u8) -> bool {
+    octet.is_ascii_alphanumeric() || PLAIN_MARKS.contains(&octet)
+}
+
+impl fmt::Display for FileWord<'_> {
+    /// Writes the name between quotation marks, where a shell would take it apart, and with `./` in
+    /// front where it would be an option.
+    fn fmt<W: fmt::Write>(&self, f: &mut fmt::Formatter<W>) -> fmt::Result {
+        let name = self.0;
+        if name.as_bytes().iter().any(|octet| octet.is_ascii_control()) {
+            return f.write_str(FILE);
+        }
+        let front = if name.starts_with('-') { "./" } else { "" };
+        f.write_str(front)?;
+        if !name.is_empty() && name.as_bytes().iter().all(|octet| is_plain(*octet)) {
+            return f.write_str(name);
+        }
+        f.write_str("'")?;
+        for (index, part) in name.split('\'').enumerate() {
+            let mark = if index > 0 { "'\\''" } else { "" };
+            write!(f, "{mark}{part}")?;
+        }
+        f.write_str("'")
+    }
+}
+
+impl fmt::Display for PipedCommand<'_> {
+    fn fmt<W: fmt::Write>(&self, f: &mut fmt::Formatter<W>) -> fmt::Result {
+        let settings = self.0;
+        match &settings.mode {
+            Mode::Lines => f.write_str("bgpdump -m")?,
+            // Not both the script and the input can be standard input.
+            Mode::Play(script) if script.as_str() == STANDARD_INPUT => {
+                f.write_str("bgpdump --play SCRIPT")?;
+            }
+            Mode::Play(script) => {
+                let script = FileWord(script.as_str());
+                write!(f, "bgpdump --play {script}")?;
+            }
+        }
+        if settings.stamp == Stamp::Change {
+            f.write_str(" -t change")?;
+        }
+        if let Some(output) = &settings.output {
+            let output = FileWord(output.as_str());
+            write!(f, " -O {output}")?;
+        }
+        f.write_str(" -")
+    }
+}

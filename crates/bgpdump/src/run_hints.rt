@@ -1,0 +1,130 @@
+//! What a person is told of a run that ended with a fault, behind its last message.
+
+use crate::command_words::{FileWord, PipedCommand};
+use crate::ending::{Cause, Ending, Instructions};
+use crate::hints::{Form, Notes};
+use bgpdump_tool::{LONGEST_SCRIPT, Outcome, STANDARD_INPUT, Settings, UsageFault};
+use mrt_frames::LONGEST_BODY;
+use std::io::{self, ErrorKind};
+
+/// Options of the C program of the same name that this one doesn't have.
+const OPTIONS_ELSEWHERE: [&str; 9] = ["-H", "-M", "-T", "-l", "-p", "-q", "-s", "-u", "-v"];
+
+/// What `clap` puts before an option that it doesn't know, and behind it.
+const BEFORE_OPTION: &str = "unexpected argument '";
+
+const BEHIND_OPTION: &str = "' found";
+
+/// How `clap` begins its advice to write an option as a value.
+const VALUE_ADVICE: &str = "use '-- ";
+
+/// Writes why the program ends so, where there is more to say than its last message does. What can't
+/// be written is lost.
+pub fn write_ending_hint(rt: &HostRuntime, ending: &Ending<'_>) {
+    let _ = match ending {
+        Ending::Usage(UsageFault::Words(text)) => write_option_hint(rt, text.as_str()),
+        Ending::Usage(UsageFault::Mode) => eprintln!(rt;
+            "bgpdump: for lines type bgpdump -m INPUT, for a script bgpdump --play SCRIPT INPUT"
+        ),
+        Ending::Usage(UsageFault::TwoInputs) => eprintln!(rt;
+            "bgpdump: only one of SCRIPT and INPUT may be -"
+        ),
+        Ending::NotOpened(name, cause) => write_cause(rt, name, cause),
+        Ending::NotRead(Instructions::Words, _) => eprintln!(rt;
+            "bgpdump: a word of the command is not UTF-8 text"
+        ),
+        Ending::NotRead(Instructions::Script, error) => write_error(rt, "the script", error),
+        Ending::Ran(Outcome::ScriptTooLong) => eprintln!(rt;
+            "bgpdump: a script has at most {LONGEST_SCRIPT} octets"
+        ),
+        _ => Ok(()),
+    };
+}
+
+/// Writes what is amiss with the input, as it seems by what is noted of it. What can't be written is
+/// lost.
+pub fn write_input_hints(rt: &HostRuntime, settings: &Settings, notes: &Notes) {
+    if let Some(error) = &notes.error {
+        let _ = write_error(rt, "the input", error);
+    }
+    let _ = match (notes.front.find_form(), notes.front.find_body_size()) {
+        (Some(form), _) => write_form(rt, settings, form),
+        (None, Some(size)) if size > LONGEST_BODY => eprintln!(rt;
+            "bgpdump: the input may be no MRT file: its first record would have {size} octets"
+        ),
+        _ => Ok(()),
+    };
+}
+
+/// Writes how to read an input that seems to be compressed.
+fn write_form(rt: &HostRuntime, settings: &Settings, form: Form) -> io::Result<()> {
+    let Form {
+        name: form,
+        printer,
+    } = form;
+    let command = PipedCommand(settings);
+    if settings.input.as_str() == STANDARD_INPUT {
+        return eprintln!(rt;
+            "bgpdump: standard input looks like {form}; try {printer} FILE | {command}"
+        );
+    }
+    let name = FileWord(settings.input.as_str());
+    eprintln!(rt; "bgpdump: {name} looks like {form}; try {printer} {name} | {command}")
+}
+
+/// Writes what is meant by an option that isn't there, by what `clap` says of it.
+fn write_option_hint(rt: &HostRuntime, text: &str) -> io::Result<()> {
+    let Some(option) = find_option(text) else {
+        return Ok(());
+    };
+    match find_option_elsewhere(option) {
+        Some(elsewhere) => eprintln!(rt;
+            "bgpdump: there is no {elsewhere} here; use -m; see man bgpdump, COMPATIBILITY"
+        ),
+        None if text.contains(VALUE_ADVICE) => eprintln!(rt;
+            "bgpdump: there is no option {option}; there are -m, --play, -t and -O"
+        ),
+        None => Ok(()),
+    }
+}
+
+/// Returns the argument that `clap` doesn't know, by what it says of it.
+fn find_option(text: &str) -> Option<&str> {
+    let (_, behind) = text.split_once(BEFORE_OPTION)?;
+    let (option, _) = behind.split_once(BEHIND_OPTION)?;
+    Some(option)
+}
+
+/// Returns the option that only the C program has, where the argument begins with one.
+fn find_option_elsewhere(argument: &str) -> Option<&'static str> {
+    OPTIONS_ELSEWHERE
+        .into_iter()
+        .find(|option| argument.starts_with(*option))
+}
+
+/// Writes why the file isn't opened.
+fn write_cause(rt: &HostRuntime, name: &str, cause: &Cause) -> io::Result<()> {
+    match cause {
+        Cause::IsRead => eprintln!(rt;
+            "bgpdump: -O would overwrite what is read; give it another name"
+        ),
+        Cause::Refused(_) if name.is_empty() => eprintln!(rt; "bgpdump: the name is empty"),
+        Cause::Refused(error) => match error.kind() {
+            ErrorKind::NotFound => eprintln!(rt; "bgpdump: there is no such file or folder"),
+            ErrorKind::PermissionDenied => eprintln!(rt; "bgpdump: permission denied"),
+            ErrorKind::IsADirectory => eprintln!(rt; "bgpdump: it is a folder"),
+            ErrorKind::NotADirectory => eprintln!(rt;
+                "bgpdump: a part of its path is not a folder"
+            ),
+            _ => eprintln!(rt; "bgpdump: the system says: {error}"),
+        },
+    }
+}
+
+/// Writes why this can't be read. A standard stream that was closed is read as a folder.
+fn write_error(rt: &HostRuntime, what: &str, error: &io::Error) -> io::Result<()> {
+    match error.kind() {
+        ErrorKind::IsADirectory => eprintln!(rt; "bgpdump: {what} is a folder or a closed stream"),
+        _ => eprintln!(rt; "bgpdump: {what} can't be read: {error}"),
+    }
+}
