@@ -4,7 +4,7 @@ use bgpdump_tool::{Mode, STANDARD_INPUT, Settings};
 use mrt_wire::Stamp;
 use std::fmt;
 
-/// What stands for a name that can't be typed on a line.
+/// The placeholder of a name with control characters, which can't be typed.
 const FILE: &str = "FILE";
 
 /// The marks, besides letters and digits, of words that a shell takes as they are.

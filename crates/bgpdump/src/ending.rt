@@ -1,4 +1,4 @@
-//! How the program ends.
+//! How the program ends: its exit status and its last message.
 
 ghost use Rattle.std.specs.Prelude.{◌≡◌, option_map};
 ghost use Rattle.bgpdump.specs.declared.ending.Ending.TheVariants.{Ran};
@@ -12,9 +12,9 @@ use std::io;
 /// Why a file isn't opened.
 #[derive(Clone, Copy)]
 pub enum Cause {
-    /// The system refuses to, with this error.
+    /// The system failed to open it, with this error.
     Refused(io::Error),
-    /// The program reads it, and would empty it by opening it to write.
+    /// It is the output and also the input or the script, which opening it would empty.
     IsRead,
 }
 
@@ -30,13 +30,13 @@ pub enum Instructions {
 /// How the program ends.
 #[derive(Drop)]
 pub enum Ending<'a> {
-    /// The words give no settings.
+    /// The command line is wrong, or asks for help.
     Usage(UsageFault),
     /// The file of this name isn't opened.
     NotOpened(&'a str, Cause),
-    /// The instructions can't be read: words aren't text, or the system answers this error.
+    /// The instructions can't be read: a word isn't UTF-8 text, or the system failed with this error.
     NotRead(Instructions, io::Error),
-    /// A run ended so, or was kept from beginning.
+    /// The outcome of a run, or of what kept it from starting.
     Ran(Outcome),
 }
 
@@ -65,7 +65,7 @@ impl<T: Drop> From<AllocFailed<T>> for Ending<'_> {
 }
 
 impl Ending<'_> {
-    /// The exit status that tells it.
+    /// Returns the exit status.
     pub fn status(&self) -> u8
         ensures { result ≡ ending_status self.now }
     {
@@ -79,8 +79,7 @@ impl Ending<'_> {
         }
     }
 
-    /// Prints the last message, if there is one: help to standard output, all others to standard
-    /// error.
+    /// Prints the last message, if there is one: help to standard output, all others to standard error.
     pub fn print(&self, rt: &HostRuntime) -> io::Result<()> {
         match self {
             Ending::Usage(UsageFault::Help(text)) => print!(rt; "{text}"),
@@ -93,7 +92,8 @@ impl Ending<'_> {
         }
     }
 
-    /// The last message, where it holds no name and no text of `clap`.
+    /// Returns the last message, without the program's name. `None` means that there is none, or that it has
+    /// the name of a file or a text of `clap`.
     pub(crate) fn message(&self) -> Option<&'static str>
         ensures { option_map (λ text. text.now) result ≡ ending_message self.now }
     {

@@ -1,4 +1,4 @@
-//! The files that the program opens, and the script that it reads.
+//! Opens the files that the command line names, and reads the script.
 
 ghost use Rattle.std.specs.Prelude.{◌≡◌, ◌≢◌, ◌↔◌, ◌+◌, ℕ, List, Some, IsTrue, take, IfOk, IfErr};
 ghost use Rattle.std.specs.IoError.{error_kind};
@@ -12,21 +12,21 @@ use std::io::{self, ErrorKind, Read};
 use std::os::unix::fs::{FileTypeExt, MetadataExt};
 use std::os::unix::io::{AsRawFd, IntoRawFd};
 
-/// How many standard streams there are. Their numbers are those below.
+/// The number of standard streams, whose descriptors are the numbers below it.
 const STANDARD_STREAMS: i32 = 3;
 
-/// Where the system has standard input: the first is missing where `/dev` was left empty.
+/// The paths of standard input. A system with an empty `/dev` has only the second.
 const STANDARD_INPUT_PATHS: [&str; 2] = ["/dev/stdin", "/proc/self/fd/0"];
 
-/// What tells a file from all others: its device, and its number there. A block device is told by its
-/// own number, whatever path leads to it, and has none there.
+/// The identity of a file: its device, and its inode there. A block device has its own device number,
+/// whatever its path, and inode 0.
 #[derive(Clone, Copy, PartialEq, Eq)]
 struct FileNumber {
     device: u64,
     inode: u64,
 }
 
-/// How a run ends that this error of reading keeps from beginning.
+/// Returns the outcome of a run that an error of reading keeps from starting.
 pub fn read_outcome(error: &io::Error) -> Outcome
     ensures memory { (result ≡ Outcome.Memory) ↔ (error_kind error.now ≡ ErrorKind.OutOfMemory) }
     ensures other { IsReadOutcome result }
@@ -37,7 +37,7 @@ pub fn read_outcome(error: &io::Error) -> Outcome
     }
 }
 
-/// How the program ends where this error kept the file from being opened.
+/// Returns how the program ends if opening the file fails with this error.
 fn not_opened<'a>(name: &'a str, error: &io::Error) -> Ending<'a>
     ensures memory { error_kind error.now ≡ ErrorKind.OutOfMemory →
         result ≡ Ending.Ran Outcome.Memory }
@@ -50,7 +50,7 @@ fn not_opened<'a>(name: &'a str, error: &io::Error) -> Ending<'a>
     }
 }
 
-/// How the program ends where this error kept it from reading its instructions.
+/// Returns how the program ends if reading its instructions fails with this error.
 pub fn not_read<'a>(instructions: Instructions, error: &io::Error) -> Ending<'a>
     ensures memory { error_kind error.now ≡ ErrorKind.OutOfMemory →
         result ≡ Ending.Ran Outcome.Memory }
@@ -64,8 +64,8 @@ pub fn not_read<'a>(instructions: Instructions, error: &io::Error) -> Ending<'a>
     }
 }
 
-/// Takes the numbers of standard streams that are closed, so that no file that is opened later gets
-/// one and is taken for that stream. What is read from a folder, or written to it, fails.
+/// Opens a folder on the descriptor of each standard stream that is closed, so that no file that is
+/// opened later gets that descriptor. Reading from the folder, or writing to it, fails.
 pub fn hold_standard_streams(rt: &HostRuntime) {
     for _ in 0..STANDARD_STREAMS {
         match File::open(rt, "/") {
@@ -82,7 +82,7 @@ pub fn open<'a>(rt: &HostRuntime, name: &'a str) -> Result<File, Ending<'a>> {
     File::open(rt, name).map_err(|error| not_opened(name, &error))
 }
 
-/// Opens a file to write it, made new or emptied, unless that would empty what the program reads.
+/// Creates or empties a file to write it. Fails if the file is the input or the script.
 pub fn create<'a>(
     rt: &HostRuntime,
     settings: &Settings,
@@ -95,7 +95,7 @@ pub fn create<'a>(
     }
 }
 
-/// Whether the file is one that the settings have the program read.
+/// Returns whether the file is the input or the script of these settings.
 fn is_read(rt: &HostRuntime, settings: &Settings, name: &str) -> io::Result<bool> {
     let is_script = match &settings.mode {
         Mode::Lines => false,
@@ -104,9 +104,8 @@ fn is_read(rt: &HostRuntime, settings: &Settings, name: &str) -> io::Result<bool
     Ok(is_script || is_same_file(rt, settings.input.as_str(), name)?)
 }
 
-/// Whether what is read by one name is the regular file, or the block device, of the other. Where
-/// nothing has the other name yet, it isn't. Where the system doesn't tell what standard input is, it
-/// may be.
+/// Returns whether the input is the regular file or block device that has the name of the output. It
+/// isn't if there is no such file yet, and counts as it if the system can't tell what standard input is.
 fn is_same_file(rt: &HostRuntime, input: &str, output: &str) -> io::Result<bool> {
     let Some(output) = described(rt, output)? else {
         return Ok(false);
@@ -126,7 +125,7 @@ fn is_same_file(rt: &HostRuntime, input: &str, output: &str) -> io::Result<bool>
     })
 }
 
-/// What the system says of standard input, or None where it has no path.
+/// Returns the metadata of standard input. `None` means that the system has no path for it.
 fn described_standard_input(rt: &HostRuntime) -> io::Result<Option<Metadata>> {
     for path in STANDARD_INPUT_PATHS {
         if let Some(metadata) = described(rt, path)? {
@@ -136,7 +135,7 @@ fn described_standard_input(rt: &HostRuntime) -> io::Result<Option<Metadata>> {
     Ok(None)
 }
 
-/// What the system says of the file of this name, or None where there is none.
+/// Returns the metadata of a file. `None` means that there is no such file.
 fn described(rt: &HostRuntime, name: &str) -> io::Result<Option<Metadata>> {
     match fs::metadata(rt, name) {
         Ok(metadata) => Ok(Some(metadata)),
@@ -146,7 +145,7 @@ fn described(rt: &HostRuntime, name: &str) -> io::Result<Option<Metadata>> {
 }
 
 impl FileNumber {
-    /// The number of the file that this is said of.
+    /// Returns the identity of the file that has this metadata.
     fn of(metadata: &Metadata) -> FileNumber {
         let (device, inode) = if metadata.file_type().is_block_device() {
             (metadata.rdev(), 0)
@@ -157,14 +156,14 @@ impl FileNumber {
     }
 }
 
-/// Whether two files are one.
+/// Returns whether two identities are of one file.
 fn is_one_file(one: FileNumber, other: FileNumber) -> bool
     ensures { IsTrue result ↔ (one ≡ other) }
 {
     one == other
 }
 
-/// The octets of a script, of one that is too long no more than tell so.
+/// Reads a script, at most one octet more than the longest script may have.
 pub fn read_script<'a, R: Read + Drop>(alloc: Global, reader: R) -> Result<Vec<u8>, Ending<'a>>
     ensures octets { IfOk result (λ script. (octets : List ℕ) → R.remaining reader ≡ Some octets →
         script.items ≡ take (LONGEST_SCRIPT + 1) octets) }

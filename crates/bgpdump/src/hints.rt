@@ -1,4 +1,5 @@
-//! What hints go by: who reads them, and what an input begins with or fails at.
+//! What hints are based on: whether a person reads them, and what the input begins with or fails with.
+//! Hints themselves are in `run_hints.rt` and `script_hints.rt`.
 
 ghost use Rattle.std.specs.Prelude.{◌≡◌, IfOk};
 
@@ -9,15 +10,15 @@ use std::cell::Cell;
 use std::io::{self, IsTerminal, Read};
 use std::rc::Rc;
 
-/// Where the mark of bzip2 goes on: behind its first three octets and the digit of a level.
+/// The offset of the second part of the mark of bzip2, after `BZh` and the digit of a level.
 const BEHIND_LEVEL: usize = 4;
 
-/// Returns whether hints are written: where standard error is a terminal, so that a person reads it.
+/// Returns whether hints are to be written: if standard error is a terminal, a person reads it.
 pub fn are_hints_wanted(rt: &HostRuntime) -> bool {
     rt.stderr().is_terminal()
 }
 
-/// A form that an input may be compressed in, and the program that prints what it was.
+/// A format of compressed files, and the program that prints their content.
 #[derive(Clone, Copy, Debug, PartialEq, Eq)]
 pub struct Form {
     pub name: &'static str,
@@ -32,7 +33,7 @@ pub struct Front {
 }
 
 impl Front {
-    /// Adds what comes behind them, as far as it belongs to the first.
+    /// Adds the next octets of the input, of which those beyond a header are ignored.
     fn add_octets(&mut self, octets: &[u8]) {
         for octet in octets {
             if self.len >= HEADER_SIZE {
@@ -43,9 +44,10 @@ impl Front {
         }
     }
 
-    /// Returns the form that the input is compressed in, as it seems. Records of MRT begin with their
-    /// time; that of no router is 1986 or 1991, as the marks of gzip and zstd would be, or 2104.
+    /// Returns the format that the input seems to be compressed in.
     pub fn find_form(&self) -> Option<Form> {
+        // Records of MRT begin with their time; that of no router is 1986 or 1991, as the marks of gzip
+        // and zstd would be, or 2104.
         let front = &self.octets[..self.len.min(HEADER_SIZE)];
         let form = |name, printer| Some(Form { name, printer });
         if front.starts_with(b"\x1F\x8B\x08") {
@@ -61,7 +63,8 @@ impl Front {
         }
     }
 
-    /// Returns how many octets the body of the first record has by its header, where that is there.
+    /// Returns the length of the first record's body in octets, by its header. `None` means that fewer
+    /// octets than a header were read.
     pub fn find_body_size(&self) -> Option<u32> {
         if self.len < HEADER_SIZE {
             return None;
@@ -76,16 +79,16 @@ impl Front {
     }
 }
 
-/// What is noted of an input as it is read: nothing at first.
+/// What is known of an input that is read.
 #[derive(Clone, Copy, Default)]
 pub struct Notes {
     /// Its first octets.
     pub front: Front,
-    /// The error that its reader answered last, if it did.
+    /// The last error of its reader.
     pub error: Option<io::Error>,
 }
 
-/// A reader that notes its first octets, and an error, where others can see them.
+/// A reader over another one that shares its first octets, and its last error, through a cell.
 #[derive(Drop)]
 pub struct NotedReader<R> {
     notes: Rc<Cell<Notes>>,
@@ -93,21 +96,21 @@ pub struct NotedReader<R> {
 }
 
 impl<R> NotedReader<R> {
-    /// Returns a reader of what `reader` reads, which writes `notes` of it.
+    /// Returns a reader of what `reader` reads, which keeps `notes` of it.
     pub fn new(notes: Rc<Cell<Notes>>, reader: R) -> Self
         ensures { result.reader ≡ reader }
     {
         NotedReader { notes, reader }
     }
 
-    /// Notes an error of the reader.
+    /// Keeps an error of the reader.
     fn note_error(&self, error: io::Error) {
         let mut notes = self.notes.get();
         notes.error = Some(error);
         self.notes.set(notes);
     }
 
-    /// Notes octets that were read.
+    /// Keeps octets that were read, as far as they are among the first.
     fn note_octets(&self, octets: &[u8]) {
         let mut notes = self.notes.get();
         notes.front.add_octets(octets);
@@ -132,17 +135,18 @@ impl<R: Read> Read for NotedReader<R> {
     }
 }
 
-/// The devices of a run, and what is noted of its input.
+/// The devices of a run, and what is known of its input.
 #[derive(Drop)]
 pub struct NotedDevices<R, O, E> {
-    /// Where it is noted.
+    /// What is known of the input so far.
     pub notes: Rc<Cell<Notes>>,
-    /// The devices, whose reader notes it.
+    /// The devices, whose reader updates `notes`.
     pub devices: Devices<NotedReader<R>, O, E>,
 }
 
 impl<R: Drop, O: Drop, E: Drop> NotedDevices<R, O, E> {
-    /// Returns these devices, with a reader that is noted. They are dropped where memory is refused.
+    /// Returns these devices with their reader in a [`NotedReader`]. If memory allocation fails, they are
+    /// dropped.
     pub fn new(alloc: Global, devices: Devices<R, O, E>) -> Result<Self, AllocError>
         ensures reader { IfOk result (λ noted. noted.devices.reader.reader ≡ devices.reader) }
         ensures out { IfOk result (λ noted. noted.devices.out ≡ devices.out) }

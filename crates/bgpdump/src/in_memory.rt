@@ -1,6 +1,5 @@
-//! Runs over devices in memory, through all that the program puts between a run and its devices. The
-//! program calls none of them: that they are proved shows that nothing in between loses, changes or
-//! hides an octet.
+//! Runs over devices in memory, through all layers that the program puts between a run and its devices.
+//! The program calls none of them. Their proofs show that no layer loses, changes or hides an octet.
 
 ghost use Rattle.std.specs.Prelude.{◌≡◌, [], Some, IfOk};
 ghost use Rattle.bgpdump_tool.specs.Run.{dump_texts};
@@ -14,7 +13,7 @@ use std::alloc::{AllocError, Global};
 use std::collections::VecDeque;
 use std::io::{Read, Write};
 
-/// Writes the lines of the octets and their reports, and returns how the run ended.
+/// Writes the lines and reports of an MRT file in memory, and returns the outcome of the run.
 pub fn dump_octets(alloc: Global, stamp: Stamp, octets: &[u8]) -> Result<Outcome, AllocError> {
     let mut held = Vec::new(alloc);
     held.extend_from_slice(octets)?;
@@ -25,7 +24,8 @@ pub fn dump_octets(alloc: Global, stamp: Stamp, octets: &[u8]) -> Result<Outcome
     Ok(ended.outcome)
 }
 
-/// Writes the replies to the script over the octets and their reports, and returns how the run ended.
+/// Writes the replies to a script over an MRT file in memory, and the reports, and returns the outcome of
+/// the run.
 pub fn play_octets(
     alloc: Global,
     stamp: Stamp,
@@ -41,8 +41,7 @@ pub fn play_octets(
     Ok(ended.outcome)
 }
 
-/// Writes the lines of the octets that the reader has and their reports, to writers that hold
-/// nothing.
+/// Writes the lines and reports of the octets of a reader to empty writers.
 fn dump_known<R: Read + Drop, O: Write + Drop, E: Write + Drop>(
     alloc: Global,
     stamp: Stamp,
@@ -58,8 +57,7 @@ fn dump_known<R: Read + Drop, O: Write + Drop, E: Write + Drop>(
     Ok(dump(alloc, stamp, noted.devices))
 }
 
-/// Writes the replies to the script over the octets that the reader has and their reports, to writers
-/// that hold nothing.
+/// Writes the replies to a script over the octets of a reader, and the reports, to empty writers.
 fn play_known<R: Read + Drop, O: Write + Drop, E: Write + Drop>(
     alloc: Global,
     stamp: Stamp,

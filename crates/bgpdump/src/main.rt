@@ -1,5 +1,5 @@
-//! Prints what a dump of routing tables and messages (MRT, RFC 6396) holds as lines, or plays a
-//! script over it.
+//! The program `bgpdump`: prints an MRT file (RFC 6396) as lines, or plays a script over it. `main` reads
+//! the command line and opens files; [`run`] has the two runs over readers and writers.
 #![tactic(auto)]
 
 mod command_words;
@@ -22,11 +22,11 @@ use std::io::{Read, Write};
 use std::process::ExitCode;
 use std::{env, io};
 
-/// What came of a run.
+/// The result of a run.
 #[derive(Drop)]
 struct Ran {
     outcome: Outcome,
-    /// What was noted of the input.
+    /// What is known of the input.
     notes: Notes,
 }
 
@@ -38,19 +38,19 @@ fn main(rt: HostRuntime) -> ExitCode {
     }
 }
 
-/// What the words of the command line ask for. Words that aren't text can't be read.
+/// Parses the command line. It can't be read if a word isn't UTF-8 text.
 fn read_settings<'a>(rt: &HostRuntime) -> Result<Settings, Ending<'a>> {
     let words = read_words(rt).map_err(|error| not_read(Instructions::Words, &error))?;
     settings(rt.alloc(), words).map_err(|fault| Ending::Usage(fault))
 }
 
-/// The words that the program was given, its own name first.
+/// Returns the words of the command line, of which the first is the program's name.
 fn read_words(rt: &HostRuntime) -> io::Result<Vec<String>> {
     Ok(env::args(rt)?.collect(rt.alloc())?)
 }
 
-/// Runs as the settings say, prints the last message, and gives the exit status. Tells a person what
-/// seems to be amiss with the input, where the run ended with a fault.
+/// Runs with these settings, prints the last message, and returns the exit status. If the run fails, a
+/// hint may tell a person what seems to be wrong with the input.
 fn run_to_end(rt: &HostRuntime, settings: &Settings) -> ExitCode {
     match run_settings(rt, settings) {
         Ok(ran) => {
@@ -65,7 +65,7 @@ fn run_to_end(rt: &HostRuntime, settings: &Settings) -> ExitCode {
     }
 }
 
-/// Opens what the settings name, the output last, and runs over it.
+/// Opens the files that the settings name, the output last, and runs over them.
 fn run_settings<'a>(rt: &HostRuntime, settings: &'a Settings) -> Result<Ran, Ending<'a>> {
     let script = read_script_of(rt, &settings.mode)?;
     let name = settings.input.as_str();
@@ -77,7 +77,7 @@ fn run_settings<'a>(rt: &HostRuntime, settings: &'a Settings) -> Result<Ran, End
     run_input(rt, settings, script.as_deref(), input)
 }
 
-/// The script that is to be played, if one is.
+/// Reads the script that is to be played. `None` means that lines are to be printed.
 fn read_script_of<'a>(rt: &HostRuntime, mode: &'a Mode) -> Result<Option<Vec<u8>>, Ending<'a>> {
     match mode {
         Mode::Lines => Ok(None),
@@ -88,15 +88,14 @@ fn read_script_of<'a>(rt: &HostRuntime, mode: &'a Mode) -> Result<Option<Vec<u8>
     }
 }
 
-/// Opens the output that the settings name, runs over an input that was opened, and gives what was
-/// noted of it. In their boxes all inputs have one type, and all outputs, so that the run's code
-/// stands in the program once.
+/// Opens the output that the settings name, and runs over the opened input.
 fn run_input<'a>(
     rt: &HostRuntime,
     settings: &'a Settings,
     script: Option<&[u8]>,
     input: Box<dyn Read + Drop>,
 ) -> Result<Ran, Ending<'a>> {
+    // In boxes all inputs have one type, and all outputs, so that the program has the run's code once.
     let out: Box<dyn Write + Drop> = match &settings.output {
         Some(name) => Box::new(rt.alloc(), create(rt, settings, name.as_str())?)?,
         None => Box::new(rt.alloc(), rt.stdout())?,
@@ -115,16 +114,16 @@ fn run_input<'a>(
     Ok(Ran { outcome, notes })
 }
 
-/// Tells a person which lines of a script aren't carried out, unless it is too long to be begun: in a
-/// stream their reports may come hours later.
+/// Writes hints on the bad lines of a script, unless it is too long to be run.
 fn write_bad_lines(rt: &HostRuntime, script: &[u8]) {
+    // They come before the run, since in a stream the reports of these lines may come hours later.
     if are_hints_wanted(rt) && script.len() <= LONGEST_SCRIPT {
         write_script_hints(rt, script);
     }
 }
 
-/// Prints the last message, with a hint for a person, and gives the exit status. Where help can't be
-/// printed, that is a write fault; any other message that can't be printed is lost.
+/// Prints the last message, with a hint for a person, and returns the exit status. If help can't be
+/// printed, that is a write fault; other messages that can't be printed are lost.
 fn end(rt: &HostRuntime, ending: &Ending<'_>) -> ExitCode {
     let is_printed = ending.print(rt).is_ok();
     if is_printed || ending.status() > 0 {

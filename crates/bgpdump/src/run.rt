@@ -1,4 +1,4 @@
-//! Runs over readers and writers, through buffers.
+//! The two runs of the program, [`dump`] and [`play`], over any reader and writers, through buffers.
 
 ghost use Rattle.std.specs.Prelude.{◌≡◌, ◌≤◌, ◌<◌, ◌⊎◌, ℕ, List, false, length, Some, None, IfSome, IfOk, IfErr, IsNone};
 ghost use Rattle.std.specs.Io.Buffered.{writer_contents};
@@ -15,18 +15,18 @@ use std::alloc::Global;
 use std::io::{BufReader, BufWriter, Read, Write};
 use std::rc::Rc;
 
-/// How many octets each buffer holds.
+/// The number of octets of each buffer.
 const BUFFER_SIZE: usize = 65_536;
 
-/// The store of the player. The program ends soon behind a run, so what the player's stores still
-/// hold then is left to the system: to take it apart would take as long again as the run. In the
-/// course of a run the player drops a store only once it has no keys, and then it has no memory.
+/// The store of the player, which isn't freed when it is dropped. The program ends soon after a run, and
+/// freeing node by node would take as long as the run. During a run the player drops a store only when it
+/// has no keys, and so no memory.
 type Routes = LeftStore<RadixStore<Rc<Route>>>;
 
-/// What a run reads from, and what it writes to.
+/// The reader of a run, and its writers.
 #[derive(Drop)]
 pub struct Devices<R, O, E> {
-    /// What is read.
+    /// The reader of the MRT file.
     pub reader: R,
     /// The writer of lines or replies.
     pub out: O,
@@ -34,19 +34,19 @@ pub struct Devices<R, O, E> {
     pub err: E,
 }
 
-/// How a run ended, with its input and its writers.
+/// The outcome of a run, with its input and its writers.
 #[derive(Drop)]
 pub struct Ended<R, O, E> {
-    /// How it ended.
+    /// The outcome.
     pub outcome: Outcome,
-    /// The input, with what the run left of it: None where memory was refused before the run began.
+    /// The input, after what the run has read. `None` if memory allocation failed before the run began.
     pub input: Option<BufferedInput<R>>,
-    /// The writers of lines or replies and of reports, with all that the run wrote: None also where
-    /// a writer failed at the end.
+    /// The writers of lines or replies and of reports, with all that the run wrote. `None` also if a
+    /// writer failed at the end.
     pub writers: Option<(O, E)>,
 }
 
-/// The input and the outputs of a run, through buffers.
+/// The input and the outputs of a run, with their buffers.
 #[derive(Drop)]
 struct Streams<R, O: Write + Drop, E: Write + Drop> {
     input: BufferedInput<R>,
@@ -54,7 +54,7 @@ struct Streams<R, O: Write + Drop, E: Write + Drop> {
     err: WriteOutput<BufWriter<E>>,
 }
 
-/// Writes the lines of a dump and its reports.
+/// Writes the lines of an MRT file to `devices.out`, and the reports to `devices.err`.
 pub fn dump<R: Read + Drop, O: Write + Drop, E: Write + Drop>(
     alloc: Global,
     stamp: Stamp,
@@ -96,7 +96,7 @@ pub fn dump<R: Read + Drop, O: Write + Drop, E: Write + Drop>(
     close(streams, outcome)
 }
 
-/// Writes the replies to a script over a dump and its reports.
+/// Writes the replies to a script over an MRT file to `devices.out`, and the reports to `devices.err`.
 pub fn play<R: Read + Drop, O: Write + Drop, E: Write + Drop>(
     alloc: Global,
     stamp: Stamp,
@@ -148,7 +148,7 @@ pub fn play<R: Read + Drop, O: Write + Drop, E: Write + Drop>(
     close(streams, outcome)
 }
 
-/// Puts a buffer before the reader and behind each writer. The error is want of memory.
+/// Returns the devices with a buffer for each. Fails with [`Outcome::Memory`].
 fn through_buffers<R: Read + Drop, O: Write + Drop, E: Write + Drop>(
     alloc: Global,
     devices: Devices<R, O, E>,
@@ -182,7 +182,7 @@ fn through_buffers<R: Read + Drop, O: Write + Drop, E: Write + Drop>(
     })
 }
 
-/// A run that was refused before it began.
+/// Returns the end of a run that failed before it began.
 fn not_begun<R, O, E>(refusal: Outcome) -> Ended<R, O, E>
     ensures outcome { result.outcome ≡ refusal }
     ensures input { result.input ≡ None }
@@ -195,7 +195,7 @@ fn not_begun<R, O, E>(refusal: Outcome) -> Ended<R, O, E>
     }
 }
 
-/// Passes on what the buffers still hold after a run that ended so.
+/// Flushes the buffers after a run with this outcome, and takes the devices out of them.
 fn close<R: Read + Drop, O: Write + Drop, E: Write + Drop>(
     streams: Streams<R, O, E>,
     outcome: Outcome,
@@ -223,8 +223,8 @@ fn close<R: Read + Drop, O: Write + Drop, E: Write + Drop>(
     }
 }
 
-/// How a run ends that ended so, and whose writers failed at the end. Want of memory stands in
-/// place of any other answer.
+/// Returns the outcome of a run with this outcome whose writers failed at the end: a write fault, unless
+/// the run was out of memory.
 fn lost_outcome(outcome: Outcome) -> Outcome
     ensures { result ≡ lost_outcome outcome }
 {
@@ -234,7 +234,7 @@ fn lost_outcome(outcome: Outcome) -> Outcome
     }
 }
 
-/// The writer behind a buffer, with what the buffer held, unless it failed to take that.
+/// Flushes a buffer and returns its writer. `None` means that the writer failed.
 fn flushed<W: Write + Drop>(mut buffer: BufWriter<W>) -> Option<W>
     ensures { IfSome result (λ writer.
         Keeps (writer_contents W.contents buffer) (W.contents writer)) }

@@ -1,4 +1,4 @@
-//! What a person is told of a run that ended with a fault, behind its last message.
+//! Hints on how the program ended and on its input, which are written after the last message.
 
 use crate::command_words::{FileWord, PipedCommand};
 use crate::ending::{Cause, Ending, Instructions};
@@ -7,18 +7,19 @@ use bgpdump_tool::{LONGEST_SCRIPT, Outcome, STANDARD_INPUT, Settings, UsageFault
 use mrt_frames::LONGEST_BODY;
 use std::io::{self, ErrorKind};
 
-/// Options of the C program of the same name that this one doesn't have.
+/// The options of the C program `bgpdump` that this program doesn't have.
 const OPTIONS_ELSEWHERE: [&str; 9] = ["-H", "-M", "-T", "-l", "-p", "-q", "-s", "-u", "-v"];
 
-/// What `clap` puts before an option that it doesn't know, and behind it.
+/// The text of `clap` before an option that it doesn't know.
 const BEFORE_OPTION: &str = "unexpected argument '";
 
+/// The text of `clap` after such an option.
 const BEHIND_OPTION: &str = "' found";
 
-/// How `clap` begins its advice to write an option as a value.
+/// The start of `clap`'s advice to write an option as a value.
 const VALUE_ADVICE: &str = "use '-- ";
 
-/// Writes why the program ends so, where there is more to say than its last message does. What can't
+/// Writes a hint on how the program ends, if there is more to say than the last message does. What can't
 /// be written is lost.
 pub fn write_ending_hint(rt: &HostRuntime, ending: &Ending<'_>) {
     let _ = match ending {
@@ -41,8 +42,8 @@ pub fn write_ending_hint(rt: &HostRuntime, ending: &Ending<'_>) {
     };
 }
 
-/// Writes what is amiss with the input, as it seems by what is noted of it. What can't be written is
-/// lost.
+/// Writes hints on what seems to be wrong with the input, by its first octets and its error. What can't be
+/// written is lost.
 pub fn write_input_hints(rt: &HostRuntime, settings: &Settings, notes: &Notes) {
     if let Some(error) = &notes.error {
         let _ = write_error(rt, "the input", error);
@@ -56,7 +57,7 @@ pub fn write_input_hints(rt: &HostRuntime, settings: &Settings, notes: &Notes) {
     };
 }
 
-/// Writes how to read an input that seems to be compressed.
+/// Writes the command that reads an input which seems to be compressed.
 fn write_form(rt: &HostRuntime, settings: &Settings, form: Form) -> io::Result<()> {
     let Form {
         name: form,
@@ -72,7 +73,7 @@ fn write_form(rt: &HostRuntime, settings: &Settings, form: Form) -> io::Result<(
     eprintln!(rt; "bgpdump: {name} looks like {form}; try {printer} {name} | {command}")
 }
 
-/// Writes what is meant by an option that isn't there, by what `clap` says of it.
+/// Writes a hint on an unknown option, by the text of `clap`.
 fn write_option_hint(rt: &HostRuntime, text: &str) -> io::Result<()> {
     let Some(option) = find_option(text) else {
         return Ok(());
@@ -88,21 +89,21 @@ fn write_option_hint(rt: &HostRuntime, text: &str) -> io::Result<()> {
     }
 }
 
-/// Returns the argument that `clap` doesn't know, by what it says of it.
+/// Returns the unknown argument in a text of `clap`.
 fn find_option(text: &str) -> Option<&str> {
     let (_, behind) = text.split_once(BEFORE_OPTION)?;
     let (option, _) = behind.split_once(BEHIND_OPTION)?;
     Some(option)
 }
 
-/// Returns the option that only the C program has, where the argument begins with one.
+/// Returns the option of the C program that the argument begins with.
 fn find_option_elsewhere(argument: &str) -> Option<&'static str> {
     OPTIONS_ELSEWHERE
         .into_iter()
         .find(|option| argument.starts_with(*option))
 }
 
-/// Writes why the file isn't opened.
+/// Writes why a file isn't opened.
 fn write_cause(rt: &HostRuntime, name: &str, cause: &Cause) -> io::Result<()> {
     match cause {
         Cause::IsRead => eprintln!(rt;
@@ -121,7 +122,7 @@ fn write_cause(rt: &HostRuntime, name: &str, cause: &Cause) -> io::Result<()> {
     }
 }
 
-/// Writes why this can't be read. A standard stream that was closed is read as a folder.
+/// Writes why `what` can't be read. A closed standard stream is read as a folder.
 fn write_error(rt: &HostRuntime, what: &str, error: &io::Error) -> io::Result<()> {
     match error.kind() {
         ErrorKind::IsADirectory => eprintln!(rt; "bgpdump: {what} is a folder or a closed stream"),

@@ -1,16 +1,16 @@
-//! What a person is told of the lines of a script that are no commands, before it is carried out.
+//! Hints on the bad lines of a script, which are written before it is run.
 
 use bgpdump_tool::read_command;
 use ip_prefix::{Addr, Prefix, SPACE};
 use std::fmt;
 
-/// Of how many bad lines a hint is written.
+/// The number of bad lines that have a hint.
 const MOST_HINTS: usize = 5;
 
-/// How many octets of a line or a word are shown.
+/// The number of octets of a line or a word that are shown.
 const SHOWN: usize = 60;
 
-/// What a word behind a command's name is.
+/// The kind of a word after a command's name.
 #[derive(Clone, Copy, PartialEq, Eq)]
 enum Argument {
     /// How often a step is made: a number from 1 on.
@@ -44,23 +44,23 @@ enum Flaw<'a> {
     CarriageReturn,
     /// A tab stands in it.
     Tab,
-    /// A word is empty: two blanks stand behind one another, or one at an end.
+    /// A word is empty: there are two blanks in a row, or one at an end.
     EmptyWord,
     /// No command has this name.
     NoCommand(Shown<'a>),
-    /// It ends where this is wanted.
+    /// It ends before this word.
     Missing(Argument),
-    /// This word isn't what is wanted there.
+    /// This word isn't of the kind that is wanted there.
     Wrong(&'a [u8], Argument),
-    /// This word stands behind the last that is wanted.
+    /// This word follows the last one that is wanted.
     Extra(Shown<'a>),
 }
 
-/// Octets as a person reads them: the first of them, with escapes where they aren't printed.
+/// Octets as a hint shows them: the first ones, with escapes for what isn't printable ASCII.
 #[derive(Clone, Copy)]
 struct Shown<'a>(&'a [u8]);
 
-/// Writes why the first lines that are no commands are none. What can't be written is lost.
+/// Writes hints on the first bad lines of a script. What can't be written is lost.
 pub fn write_script_hints(rt: &HostRuntime, script: &[u8]) {
     let lines = script.split(|octet| *octet == b'\n').zip(1..=u64::MAX);
     for (line, number) in lines.filter(|(line, _)| is_bad(line)).take(MOST_HINTS) {
@@ -109,7 +109,8 @@ fn find_flaw(line: &[u8]) -> Option<Flaw<'_>> {
     }
 }
 
-/// Returns what stands behind the name of a command, if it is one.
+/// Returns the kinds of words that follow the name of a command. `None` means that there is no such
+/// command.
 fn find_arguments(name: &[u8]) -> Option<&'static [Argument]> {
     match name {
         b"next" | b"back" => Some(TIMES),
@@ -122,17 +123,17 @@ fn find_arguments(name: &[u8]) -> Option<&'static [Argument]> {
     }
 }
 
-/// Returns whether only digits stand in the word, and at least one.
+/// Returns whether the word is one or more digits.
 fn is_digits(word: &[u8]) -> bool {
     !word.is_empty() && word.iter().all(|octet| octet.is_ascii_digit())
 }
 
-/// Returns whether a zero stands before other digits of the word.
+/// Returns whether the word is digits with a leading zero.
 fn has_leading_zero(word: &[u8]) -> bool {
     is_digits(word) && word.len() > 1 && word[0] == b'0'
 }
 
-/// Returns the number of 32 bits that the digits of the word have, with or without zeros in front.
+/// Returns the number of 32 bits that the digits of the word spell, with or without leading zeros.
 fn find_number(word: &[u8]) -> Option<u32> {
     if !is_digits(word) {
         return None;
@@ -140,7 +141,7 @@ fn find_number(word: &[u8]) -> Option<u32> {
     str::from_utf8(word).ok()?.parse().ok()
 }
 
-/// Returns what stands behind `AS`, where those are digits.
+/// Returns the digits after `AS`, in letters of either case. `None` means that the word isn't of this form.
 fn find_digits_behind_as(word: &[u8]) -> Option<&[u8]> {
     let (front, digits) = word.split_at_checked(2)?;
     if front.eq_ignore_ascii_case(b"AS") && is_digits(digits) {
@@ -151,7 +152,7 @@ fn find_digits_behind_as(word: &[u8]) -> Option<&[u8]> {
 }
 
 impl Argument {
-    /// Returns whether the word is one of these.
+    /// Returns whether the word is of this kind.
     fn is_spelled_by(self, word: &[u8]) -> bool {
         let is_number = find_number(word).is_some() && !has_leading_zero(word);
         match self {
@@ -162,7 +163,7 @@ impl Argument {
         }
     }
 
-    /// Returns what it is called, with its article.
+    /// Returns the name of the kind, with its article.
     fn find_name(self) -> &'static str {
         match self {
             Argument::Times | Argument::Number => "a number",
