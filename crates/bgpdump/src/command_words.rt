@@ -14,7 +14,7 @@ const PLAIN_MARKS: &[u8] = b"%+,-./:@_";
 #[derive(Clone, Copy)]
 pub struct FileWord<'a>(pub &'a str);
 
-/// The command of these settings, with standard input as its input.
+/// The command line of these settings, but with standard input as its input, as a hint shows it.
 #[derive(Clone, Copy)]
 pub struct PipedCommand<'a>(pub &'a Settings);
 

@@ -11,7 +11,7 @@ use std::io;
 
 /// Why a file isn't opened.
 #[derive(Clone, Copy)]
-pub enum Cause {
+pub enum OpenFailure {
     /// The system failed to open it, with this error.
     Refused(io::Error),
     /// It is the output and also the input or the script, which opening it would empty.
@@ -33,7 +33,7 @@ pub enum Ending<'a> {
     /// The command line is wrong, or asks for help.
     Usage(UsageFault),
     /// The file of this name isn't opened.
-    NotOpened(&'a str, Cause),
+    NotOpened(&'a str, OpenFailure),
     /// The instructions can't be read: a word isn't UTF-8 text, or the system failed with this error.
     NotRead(Instructions, io::Error),
     /// The outcome of a run, or of what kept it from starting.

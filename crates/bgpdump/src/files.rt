@@ -4,7 +4,7 @@ ghost use Rattle.std.specs.Prelude.{◌≡◌, ◌≢◌, ◌↔◌, ◌+◌, �
 ghost use Rattle.std.specs.IoError.{error_kind};
 ghost use Rattle.bgpdump.specs.Endings.{IsReadOutcome, IsNotRead};
 
-use crate::ending::{Cause, Ending, Instructions};
+use crate::ending::{Ending, Instructions, OpenFailure};
 use bgpdump_tool::{LONGEST_SCRIPT, Mode, Outcome, STANDARD_INPUT, Settings};
 use std::alloc::Global;
 use std::fs::{self, File, Metadata};
@@ -42,11 +42,11 @@ fn not_opened<'a>(name: &'a str, error: &io::Error) -> Ending<'a>
     ensures memory { error_kind error.now ≡ ErrorKind.OutOfMemory →
         result ≡ Ending.Ran Outcome.Memory }
     ensures other { error_kind error.now ≢ ErrorKind.OutOfMemory →
-        result ≡ Ending.NotOpened name.entry (Cause.Refused error.now) }
+        result ≡ Ending.NotOpened name.entry (OpenFailure.Refused error.now) }
 {
     match error.kind() {
         ErrorKind::OutOfMemory => Ending::Ran(Outcome::Memory),
-        _ => Ending::NotOpened(name, Cause::Refused(*error)),
+        _ => Ending::NotOpened(name, OpenFailure::Refused(*error)),
     }
 }
 
@@ -90,7 +90,7 @@ pub fn create<'a>(
 ) -> Result<File, Ending<'a>> {
     match is_read(rt, settings, name) {
         Ok(false) => File::create(rt, name).map_err(|error| not_opened(name, &error)),
-        Ok(true) => Err(Ending::NotOpened(name, Cause::IsRead)),
+        Ok(true) => Err(Ending::NotOpened(name, OpenFailure::IsRead)),
         Err(error) => Err(not_opened(name, &error)),
     }
 }
@@ -163,7 +163,8 @@ fn is_one_file(one: FileNumber, other: FileNumber) -> bool
     one == other
 }
 
-/// Reads a script, at most one octet more than the longest script may have.
+/// Reads a script, up to one octet beyond [`LONGEST_SCRIPT`], so that a run can tell that it is too long.
+/// `Err` is how the program ends if it can't be read or memory allocation fails.
 pub fn read_script<'a, R: Read + Drop>(alloc: Global, reader: R) -> Result<Vec<u8>, Ending<'a>>
     ensures octets { IfOk result (λ script. (octets : List ℕ) → R.remaining reader ≡ Some octets →
         script.items ≡ take (LONGEST_SCRIPT + 1) octets) }

@@ -20,7 +20,7 @@ pub fn are_hints_wanted(rt: &HostRuntime) -> bool {
 
 /// A format of compressed files, and the program that prints their content.
 #[derive(Clone, Copy, Debug, PartialEq, Eq)]
-pub struct Form {
+pub struct CompressedFormat {
     pub name: &'static str,
     pub printer: &'static str,
 }
@@ -45,11 +45,11 @@ impl Front {
     }
 
     /// Returns the format that the input seems to be compressed in.
-    pub fn find_form(&self) -> Option<Form> {
+    pub fn find_format(&self) -> Option<CompressedFormat> {
         // Records of MRT begin with their time; that of no router is 1986 or 1991, as the marks of gzip
         // and zstd would be, or 2104.
         let front = &self.octets[..self.len.min(HEADER_SIZE)];
-        let form = |name, printer| Some(Form { name, printer });
+        let form = |name, printer| Some(CompressedFormat { name, printer });
         if front.starts_with(b"\x1F\x8B\x08") {
             form("gzip", "zcat")
         } else if front.starts_with(b"BZh") && self.octets[BEHIND_LEVEL..].starts_with(b"1AY&SY") {
@@ -79,9 +79,9 @@ impl Front {
     }
 }
 
-/// What is known of an input that is read.
+/// What is noted of an input while it is read, for hints: its first octets, and an error.
 #[derive(Clone, Copy, Default)]
-pub struct Notes {
+pub struct InputNotes {
     /// Its first octets.
     pub front: Front,
     /// The last error of its reader.
@@ -91,13 +91,13 @@ pub struct Notes {
 /// A reader over another one that shares its first octets, and its last error, through a cell.
 #[derive(Drop)]
 pub struct NotedReader<R> {
-    notes: Rc<Cell<Notes>>,
+    notes: Rc<Cell<InputNotes>>,
     pub(crate) reader: R,
 }
 
 impl<R> NotedReader<R> {
     /// Returns a reader of what `reader` reads, which keeps `notes` of it.
-    pub fn new(notes: Rc<Cell<Notes>>, reader: R) -> Self
+    pub fn new(notes: Rc<Cell<InputNotes>>, reader: R) -> Self
         ensures { result.reader ≡ reader }
     {
         NotedReader { notes, reader }
@@ -110,7 +110,7 @@ impl<R> NotedReader<R> {
         self.notes.set(notes);
     }
 
-    /// Keeps octets that were read, as far as they are among the first.
+    /// Keeps those of the octets just read that are among the first of the input.
     fn note_octets(&self, octets: &[u8]) {
         let mut notes = self.notes.get();
         notes.front.add_octets(octets);
@@ -135,11 +135,11 @@ impl<R: Read> Read for NotedReader<R> {
     }
 }
 
-/// The devices of a run, and what is known of its input.
+/// The reader and the writers of a run, with what is noted of its input.
 #[derive(Drop)]
 pub struct NotedDevices<R, O, E> {
-    /// What is known of the input so far.
-    pub notes: Rc<Cell<Notes>>,
+    /// What is noted of the input so far.
+    pub notes: Rc<Cell<InputNotes>>,
     /// The devices, whose reader updates `notes`.
     pub devices: Devices<NotedReader<R>, O, E>,
 }
@@ -152,7 +152,7 @@ impl<R: Drop, O: Drop, E: Drop> NotedDevices<R, O, E> {
         ensures out { IfOk result (λ noted. noted.devices.out ≡ devices.out) }
         ensures err { IfOk result (λ noted. noted.devices.err ≡ devices.err) }
     {
-        let notes = Rc::new(alloc, Cell::new(Notes::default()))?;
+        let notes = Rc::new(alloc, Cell::new(InputNotes::default()))?;
         let Devices { reader, out, err } = devices;
         let reader = NotedReader::new(notes.clone()?, reader);
         let devices = Devices { reader, out, err };

@@ -41,7 +41,7 @@ pub fn play_octets(
     Ok(ended.outcome)
 }
 
-/// Writes the lines and reports of the octets of a reader to empty writers.
+/// Writes the lines and reports of a reader that has just `octets` to writers that hold nothing yet.
 fn dump_known<R: Read + Drop, O: Write + Drop, E: Write + Drop>(
     alloc: Global,
     stamp: Stamp,
@@ -57,7 +57,8 @@ fn dump_known<R: Read + Drop, O: Write + Drop, E: Write + Drop>(
     Ok(dump(alloc, stamp, noted.devices))
 }
 
-/// Writes the replies to a script over the octets of a reader, and the reports, to empty writers.
+/// Writes the replies to a script over a reader that has just `octets`, and the reports, to writers that
+/// hold nothing yet.
 fn play_known<R: Read + Drop, O: Write + Drop, E: Write + Drop>(
     alloc: Global,
     stamp: Stamp,

@@ -14,7 +14,7 @@ mod script_hints;
 use bgpdump_tool::{LONGEST_SCRIPT, Mode, Outcome, STANDARD_INPUT, Settings, settings};
 use ending::{Ending, Instructions};
 use files::{create, hold_standard_streams, not_read, open, read_script};
-use hints::{NotedDevices, Notes, are_hints_wanted};
+use hints::{InputNotes, NotedDevices, are_hints_wanted};
 use run::{Devices, dump, play};
 use run_hints::{write_ending_hint, write_input_hints};
 use script_hints::write_script_hints;
@@ -26,8 +26,8 @@ use std::{env, io};
 #[derive(Drop)]
 struct Ran {
     outcome: Outcome,
-    /// What is known of the input.
-    notes: Notes,
+    /// What was noted of the input.
+    notes: InputNotes,
 }
 
 fn main(rt: HostRuntime) -> ExitCode {
@@ -38,7 +38,8 @@ fn main(rt: HostRuntime) -> ExitCode {
     }
 }
 
-/// Parses the command line. It can't be read if a word isn't UTF-8 text.
+/// Parses the command line. `Err` is how the program ends instead: with help, with a usage error, or since
+/// a word isn't UTF-8 text.
 fn read_settings<'a>(rt: &HostRuntime) -> Result<Settings, Ending<'a>> {
     let words = read_words(rt).map_err(|error| not_read(Instructions::Words, &error))?;
     settings(rt.alloc(), words).map_err(|fault| Ending::Usage(fault))
@@ -77,7 +78,8 @@ fn run_settings<'a>(rt: &HostRuntime, settings: &'a Settings) -> Result<Ran, End
     run_input(rt, settings, script.as_deref(), input)
 }
 
-/// Reads the script that is to be played. `None` means that lines are to be printed.
+/// Reads the script that `mode` names. `None` means that it names none, since lines are to be printed.
+/// `Err` is how the program ends if the file can't be opened or read.
 fn read_script_of<'a>(rt: &HostRuntime, mode: &'a Mode) -> Result<Option<Vec<u8>>, Ending<'a>> {
     match mode {
         Mode::Lines => Ok(None),

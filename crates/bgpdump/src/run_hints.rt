@@ -1,8 +1,8 @@
 //! Hints on how the program ended and on its input, which are written after the last message.
 
 use crate::command_words::{FileWord, PipedCommand};
-use crate::ending::{Cause, Ending, Instructions};
-use crate::hints::{Form, Notes};
+use crate::ending::{Ending, Instructions, OpenFailure};
+use crate::hints::{CompressedFormat, InputNotes};
 use bgpdump_tool::{LONGEST_SCRIPT, Outcome, STANDARD_INPUT, Settings, UsageFault};
 use mrt_frames::LONGEST_BODY;
 use std::io::{self, ErrorKind};
@@ -30,7 +30,7 @@ pub fn write_ending_hint(rt: &HostRuntime, ending: &Ending<'_>) {
         Ending::Usage(UsageFault::TwoInputs) => eprintln!(rt;
             "bgpdump: only one of SCRIPT and INPUT may be -"
         ),
-        Ending::NotOpened(name, cause) => write_cause(rt, name, cause),
+        Ending::NotOpened(name, cause) => write_open_failure(rt, name, cause),
         Ending::NotRead(Instructions::Words, _) => eprintln!(rt;
             "bgpdump: a word of the command is not UTF-8 text"
         ),
@@ -44,12 +44,12 @@ pub fn write_ending_hint(rt: &HostRuntime, ending: &Ending<'_>) {
 
 /// Writes hints on what seems to be wrong with the input, by its first octets and its error. What can't be
 /// written is lost.
-pub fn write_input_hints(rt: &HostRuntime, settings: &Settings, notes: &Notes) {
+pub fn write_input_hints(rt: &HostRuntime, settings: &Settings, notes: &InputNotes) {
     if let Some(error) = &notes.error {
         let _ = write_error(rt, "the input", error);
     }
-    let _ = match (notes.front.find_form(), notes.front.find_body_size()) {
-        (Some(form), _) => write_form(rt, settings, form),
+    let _ = match (notes.front.find_format(), notes.front.find_body_size()) {
+        (Some(form), _) => write_format(rt, settings, form),
         (None, Some(size)) if size > LONGEST_BODY => eprintln!(rt;
             "bgpdump: the input may be no MRT file: its first record would have {size} octets"
         ),
@@ -58,8 +58,8 @@ pub fn write_input_hints(rt: &HostRuntime, settings: &Settings, notes: &Notes) {
 }
 
 /// Writes the command that reads an input which seems to be compressed.
-fn write_form(rt: &HostRuntime, settings: &Settings, form: Form) -> io::Result<()> {
-    let Form {
+fn write_format(rt: &HostRuntime, settings: &Settings, form: CompressedFormat) -> io::Result<()> {
+    let CompressedFormat {
         name: form,
         printer,
     } = form;
@@ -104,13 +104,13 @@ fn find_option_elsewhere(argument: &str) -> Option<&'static str> {
 }
 
 /// Writes why a file isn't opened.
-fn write_cause(rt: &HostRuntime, name: &str, cause: &Cause) -> io::Result<()> {
+fn write_open_failure(rt: &HostRuntime, name: &str, cause: &OpenFailure) -> io::Result<()> {
     match cause {
-        Cause::IsRead => eprintln!(rt;
+        OpenFailure::IsRead => eprintln!(rt;
             "bgpdump: -O would overwrite what is read; give it another name"
         ),
-        Cause::Refused(_) if name.is_empty() => eprintln!(rt; "bgpdump: the name is empty"),
-        Cause::Refused(error) => match error.kind() {
+        OpenFailure::Refused(_) if name.is_empty() => eprintln!(rt; "bgpdump: the name is empty"),
+        OpenFailure::Refused(error) => match error.kind() {
             ErrorKind::NotFound => eprintln!(rt; "bgpdump: there is no such file or folder"),
             ErrorKind::PermissionDenied => eprintln!(rt; "bgpdump: permission denied"),
             ErrorKind::IsADirectory => eprintln!(rt; "bgpdump: it is a folder"),

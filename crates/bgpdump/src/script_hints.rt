@@ -37,9 +37,9 @@ const PEER_AND_PREFIX: &[Argument] = &[Argument::Address, Argument::AsNumber, Ar
 
 const PEER_AND_ADDRESS: &[Argument] = &[Argument::Address, Argument::AsNumber, Argument::Address];
 
-/// Why a line is no command.
+/// Why a line of a script is no command.
 #[derive(Clone, Copy)]
-enum Flaw<'a> {
+enum LineFlaw<'a> {
     /// It ends with a carriage return.
     CarriageReturn,
     /// A tab stands in it.
@@ -78,34 +78,34 @@ fn is_bad(line: &[u8]) -> bool {
 
 /// Returns why the line is no command, by the first of its words that can't stand there. None where no
 /// such word is found.
-fn find_flaw(line: &[u8]) -> Option<Flaw<'_>> {
+fn find_flaw(line: &[u8]) -> Option<LineFlaw<'_>> {
     if line.ends_with(b"\r") {
-        return Some(Flaw::CarriageReturn);
+        return Some(LineFlaw::CarriageReturn);
     }
     if line.contains(&b'\t') {
-        return Some(Flaw::Tab);
+        return Some(LineFlaw::Tab);
     }
     let mut words = line.split(|octet| *octet == SPACE);
     let name = words.next()?;
     if name.is_empty() {
-        return Some(Flaw::EmptyWord);
+        return Some(LineFlaw::EmptyWord);
     }
     let Some(arguments) = find_arguments(name) else {
-        return Some(Flaw::NoCommand(Shown(name)));
+        return Some(LineFlaw::NoCommand(Shown(name)));
     };
     for argument in arguments {
         match words.next() {
-            None => return Some(Flaw::Missing(*argument)),
-            Some(word) if word.is_empty() => return Some(Flaw::EmptyWord),
+            None => return Some(LineFlaw::Missing(*argument)),
+            Some(word) if word.is_empty() => return Some(LineFlaw::EmptyWord),
             Some(word) if !argument.is_spelled_by(word) => {
-                return Some(Flaw::Wrong(word, *argument));
+                return Some(LineFlaw::Wrong(word, *argument));
             }
             Some(_) => {}
         }
     }
     match words.next()? {
-        [] => Some(Flaw::EmptyWord),
-        word => Some(Flaw::Extra(Shown(word))),
+        [] => Some(LineFlaw::EmptyWord),
+        word => Some(LineFlaw::Extra(Shown(word))),
     }
 }
 
@@ -128,7 +128,7 @@ fn is_digits(word: &[u8]) -> bool {
     !word.is_empty() && word.iter().all(|octet| octet.is_ascii_digit())
 }
 
-/// Returns whether the word is digits with a leading zero.
+/// Returns whether the word is two or more digits of which the first is 0.
 fn has_leading_zero(word: &[u8]) -> bool {
     is_digits(word) && word.len() > 1 && word[0] == b'0'
 }
@@ -152,7 +152,7 @@ fn find_digits_behind_as(word: &[u8]) -> Option<&[u8]> {
 }
 
 impl Argument {
-    /// Returns whether the word is of this kind.
+    /// Returns whether the word is a well-formed argument of this kind.
     fn is_spelled_by(self, word: &[u8]) -> bool {
         let is_number = find_number(word).is_some() && !has_leading_zero(word);
         match self {
@@ -174,19 +174,22 @@ impl Argument {
     }
 }
 
-impl fmt::Display for Flaw<'_> {
+impl fmt::Display for LineFlaw<'_> {
     fn fmt<W: fmt::Write>(&self, f: &mut fmt::Formatter<W>) -> fmt::Result {
         match self {
-            Flaw::CarriageReturn => f.write_str("lines end with CR LF; LF alone is wanted"),
-            Flaw::Tab => f.write_str("a tab stands where a blank is wanted"),
-            Flaw::EmptyWord => f.write_str("there is a blank too many"),
-            Flaw::NoCommand(word) => write!(f, "{word} is no command; see man bgpdump, SCRIPTS"),
-            Flaw::Missing(argument) => {
+            LineFlaw::CarriageReturn => f.write_str("lines end with CR LF; LF alone is wanted"),
+            LineFlaw::Tab => f.write_str("a tab stands where a blank is wanted"),
+            LineFlaw::EmptyWord => f.write_str("there is a blank too many"),
+            LineFlaw::NoCommand(word) => write!(
+                f,
+                "{word} is no command; see man bgpdump, SCRIPTS"
+            ),
+            LineFlaw::Missing(argument) => {
                 let name = argument.find_name();
                 write!(f, "{name} is missing")
             }
-            Flaw::Wrong(word, argument) => write_wrong_word(f, word, *argument),
-            Flaw::Extra(word) => write!(f, "{word} is a word too many"),
+            LineFlaw::Wrong(word, argument) => write_wrong_word(f, word, *argument),
+            LineFlaw::Extra(word) => write!(f, "{word} is a word too many"),
         }
     }
 }
