@@ -33,6 +33,13 @@ pub struct Front {
 }
 
 impl Front {
+    /// Returns the first of these octets.
+    pub fn of(octets: &[u8]) -> Self {
+        let mut front = Front::default();
+        front.add_octets(octets);
+        front
+    }
+
     /// Adds the next octets of the input, of which those beyond a header are ignored.
     fn add_octets(&mut self, octets: &[u8]) {
         for octet in octets {
@@ -61,6 +68,11 @@ impl Front {
         } else {
             None
         }
+    }
+
+    /// Returns whether an octet is 0, as in the header of each record and in no text.
+    pub fn has_zero(&self) -> bool {
+        self.octets[..self.len.min(HEADER_SIZE)].contains(&0)
     }
 
     /// Returns the length of the first record's body in octets, by its header. `None` means that fewer

@@ -7,8 +7,11 @@ use bgpdump_tool::{LONGEST_SCRIPT, Outcome, STANDARD_INPUT, Settings, UsageFault
 use mrt_frames::LONGEST_BODY;
 use std::io::{self, ErrorKind};
 
-/// The options of the C program `bgpdump` that this program doesn't have.
-const OPTIONS_ELSEWHERE: [&str; 9] = ["-H", "-M", "-T", "-l", "-p", "-q", "-s", "-u", "-v"];
+/// The options of the C program `bgpdump` that choose other lines.
+const OPTIONS_OF_LINES: [&str; 6] = ["-H", "-M", "-T", "-l", "-p", "-u"];
+
+/// The options of the C program `bgpdump` that choose where it reports to.
+const OPTIONS_OF_REPORTS: [&str; 3] = ["-q", "-s", "-v"];
 
 /// The text of `clap` before an option that it doesn't know.
 const BEFORE_OPTION: &str = "unexpected argument '";
@@ -78,14 +81,20 @@ fn write_option_hint(rt: &HostRuntime, text: &str) -> io::Result<()> {
     let Some(option) = find_option(text) else {
         return Ok(());
     };
-    match find_option_elsewhere(option) {
-        Some(elsewhere) => eprintln!(rt;
-            "bgpdump: there is no {elsewhere} here; use -m; see man bgpdump, COMPATIBILITY"
-        ),
-        None if text.contains(VALUE_ADVICE) => eprintln!(rt;
-            "bgpdump: there is no option {option}; there are -m, --play, -t and -O"
-        ),
-        None => Ok(()),
+    if let Some(of_lines) = find_front(option, &OPTIONS_OF_LINES) {
+        eprintln!(rt;
+            "bgpdump: there is no {of_lines} here; use -m; see man bgpdump, COMPATIBILITY"
+        )
+    } else if let Some(of_reports) = find_front(option, &OPTIONS_OF_REPORTS) {
+        eprintln!(rt;
+            "bgpdump: there is no {of_reports} here; leave it out; 2>/dev/null hides reports"
+        )
+    } else if text.contains(VALUE_ADVICE) {
+        eprintln!(rt; "bgpdump: there is no option {option}; there are -m, --play, -t, -O and -h")
+    } else if !option.starts_with('-') {
+        eprintln!(rt; "bgpdump: there is one INPUT; of several type cat FILE .. | bgpdump -m -")
+    } else {
+        Ok(())
     }
 }
 
@@ -96,10 +105,11 @@ fn find_option(text: &str) -> Option<&str> {
     Some(option)
 }
 
-/// Returns the option of the C program that the argument begins with.
-fn find_option_elsewhere(argument: &str) -> Option<&'static str> {
-    OPTIONS_ELSEWHERE
-        .into_iter()
+/// Returns the first of these options that the argument begins with.
+fn find_front(argument: &str, options: &[&'static str]) -> Option<&'static str> {
+    options
+        .iter()
+        .copied()
         .find(|option| argument.starts_with(*option))
 }
 

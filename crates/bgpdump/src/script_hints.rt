@@ -1,5 +1,6 @@
 //! Hints on the bad lines of a script, which are written before it is run.
 
+use crate::hints::Front;
 use bgpdump_tool::read_command;
 use ip_prefix::{Addr, Prefix, SPACE};
 use std::fmt;
@@ -17,6 +18,8 @@ enum Argument {
     Times,
     /// A number from 0 on.
     Number,
+    /// The number of a step, from 0 on.
+    Step,
     /// The number of an AS.
     AsNumber,
     /// An address.
@@ -30,6 +33,8 @@ const NONE: &[Argument] = &[];
 const TIMES: &[Argument] = &[Argument::Times];
 
 const NUMBER: &[Argument] = &[Argument::Number];
+
+const STEP: &[Argument] = &[Argument::Step];
 
 const PEER: &[Argument] = &[Argument::Address, Argument::AsNumber];
 
@@ -60,8 +65,26 @@ enum LineFlaw<'a> {
 #[derive(Clone, Copy)]
 struct Shown<'a>(&'a [u8]);
 
-/// Writes hints on the first bad lines of a script. What can't be written is lost.
+/// Writes a hint if the script seems to be no text, and else hints on its first bad lines. What can't be
+/// written is lost.
 pub fn write_script_hints(rt: &HostRuntime, script: &[u8]) {
+    let front = Front::of(script);
+    if let Some(format) = front.find_format() {
+        let (format, printer) = (format.name, format.printer);
+        let _ = eprintln!(rt;
+            "bgpdump: the script looks like {format}; unpack it by {printer} first"
+        );
+    } else if front.has_zero() {
+        let _ = eprintln!(rt;
+            "bgpdump: the script looks like an MRT file; SCRIPT comes before INPUT"
+        );
+    } else {
+        write_line_hints(rt, script);
+    }
+}
+
+/// Writes hints on the first bad lines of a script. What can't be written is lost.
+fn write_line_hints(rt: &HostRuntime, script: &[u8]) {
     let lines = script.split(|octet| *octet == b'\n').zip(1..=u64::MAX);
     for (line, number) in lines.filter(|(line, _)| is_bad(line)).take(MOST_HINTS) {
         if let Some(flaw) = find_flaw(line) {
@@ -114,7 +137,8 @@ fn find_flaw(line: &[u8]) -> Option<LineFlaw<'_>> {
 fn find_arguments(name: &[u8]) -> Option<&'static [Argument]> {
     match name {
         b"next" | b"back" => Some(TIMES),
-        b"goto" | b"forget" => Some(NUMBER),
+        b"goto" => Some(STEP),
+        b"forget" => Some(NUMBER),
         b"where" | b"peers" => Some(NONE),
         b"table" | b"lose" => Some(PEER),
         b"route" => Some(PEER_AND_PREFIX),
@@ -157,7 +181,7 @@ impl Argument {
         let is_number = find_number(word).is_some() && !has_leading_zero(word);
         match self {
             Argument::Times => is_number && find_number(word) != Some(0),
-            Argument::Number | Argument::AsNumber => is_number,
+            Argument::Number | Argument::Step | Argument::AsNumber => is_number,
             Argument::Address => Addr::parse(word).is_some(),
             Argument::Prefix => Prefix::parse(word).is_some(),
         }
@@ -167,6 +191,7 @@ impl Argument {
     fn find_name(self) -> &'static str {
         match self {
             Argument::Times | Argument::Number => "a number",
+            Argument::Step => "the number of a step",
             Argument::AsNumber => "an AS number",
             Argument::Address => "an address",
             Argument::Prefix => "a prefix",
@@ -177,7 +202,9 @@ impl Argument {
 impl fmt::Display for LineFlaw<'_> {
     fn fmt<W: fmt::Write>(&self, f: &mut fmt::Formatter<W>) -> fmt::Result {
         match self {
-            LineFlaw::CarriageReturn => f.write_str("lines end with CR LF; LF alone is wanted"),
+            LineFlaw::CarriageReturn => {
+                f.write_str("lines end with CR LF; LF alone is wanted (tr -d '\\r')")
+            }
             LineFlaw::Tab => f.write_str("a tab stands where a blank is wanted"),
             LineFlaw::EmptyWord => f.write_str("there is a blank too many"),
             LineFlaw::NoCommand(word) => write!(
@@ -215,7 +242,7 @@ fn write_wrong_word<W: fmt::Write>(
         Argument::Times if find_number(word) == Some(0) && !has_leading_zero(word) => {
             write!(f, "{shown} is too small; the least is 1")
         }
-        Argument::Times | Argument::Number | Argument::AsNumber => {
+        Argument::Times | Argument::Number | Argument::Step | Argument::AsNumber => {
             write_wrong_number(f, word, argument)
         }
     }
