@@ -34,7 +34,7 @@ pub struct Front {
 
 impl Front {
     /// Returns the first of these octets.
-    pub fn of(octets: &[u8]) -> Self {
+    pub fn read_from(octets: &[u8]) -> Self {
         let mut front = Front::default();
         front.add_octets(octets);
         front

@@ -68,7 +68,7 @@ struct Shown<'a>(&'a [u8]);
 /// Writes a hint if the script seems to be no text, and else hints on its first bad lines. What can't be
 /// written is lost.
 pub fn write_script_hints(rt: &HostRuntime, script: &[u8]) {
-    let front = Front::of(script);
+    let front = Front::read_from(script);
     if let Some(format) = front.find_format() {
         let (format, printer) = (format.name, format.printer);
         let _ = eprintln!(rt;
