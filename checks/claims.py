@@ -56,6 +56,7 @@ CLAIMS = {
         Ground(PLAYER, 'table', ('routes',), 'callers get the table at the cursor'),
         Ground('rib_player/src/table.rt', 'get', ('',), 'its route at a pair'),
         Ground(MEANING, 'routes_at', (), 'what a script asks: the table of the events before the cursor'),
+        Ground(MEANING, 'meaning', (), 'what each command replies, and what it makes of the history'),
     ),
     'Undo and redo move the cursor one step where there is one, need no memory and restore every route': (
         Ground(PLAYER, 'undo', ('after_undo', 'can'),
@@ -70,7 +71,8 @@ CLAIMS = {
     'Malformed records and refused steps change nothing': (
         Ground(RESULTS, 'ReadsAs', (), 'a record makes an event or has a fault'),
         Ground(RESULTS, 'index_after', (), 'one with a fault leaves the peer index'),
-        Ground('mrt_wire/src/source.rt', 'next', ('next', 'first'), 'the reader answers just that'),
+        Ground('mrt_wire/src/source.rt', 'next', ('next', 'first'),
+               'the reader answers just that, or a fault of its own, after which it is spent'),
         Ground(MEANING, 'events', (), 'a fault is no event of a script\'s history'),
         Ground(PLAYER, 'play', ('refused',), 'the player is as it was, steps ahead included'),
         Ground(PLAYER, 'table', ('keys',), 'so are its keys, which are stated after each call'),
@@ -89,10 +91,12 @@ CLAIMS = {
         Ground(RESULTS, 'results', (), 'the results of frames and a rest'),
         Ground(RESULTS, 'Splits', (), 'octets split into frames and a rest'),
         Ground('mrt_wire/src/laws.rt', 'one_split', ('',), 'they do so in one way, so the texts are a function of them'),
-        Ground('mrt_wire/src/laws.rt', 'no_octets_without_a_split', ('',), 'and no octets are without one'),
+        Ground('mrt_wire/src/laws.rt', 'no_octets_without_a_split', ('',),
+               'and no octets are without one. That it is a double negation suffices: what is said of texts can be '
+               'decided'),
         Ground('bgpdump_tool/src/laws.rt', 'one_script', ('one', 'some'), 'likewise a script and its lines'),
     ),
-    'For every input and script, even when memory allocation fails': (
+    'For every input and every script of up to 1 MiB, even when memory allocation fails': (
         Ground(DUMP, 'run_dump', ('input_sound', 'out_sound', 'err_sound'),
                'its only conditions: no device has failed before. No clause supposes that there is memory'),
         Ground(PLAY, 'run_play', ('input_sound', 'out_sound', 'err_sound'), 'likewise; `dump` and `play` have none'),
