@@ -205,6 +205,9 @@ def differing(folder, seed):
 
 
 def main():
+    if len(sys.argv) > 1:
+        print(__doc__)
+        return
     with tempfile.TemporaryDirectory() as folder:
         found = [fault for seed in (1, 3) for fault in differing(Path(folder), seed)]
     sys.exit('other answers: %s' % '; '.join(found) if found else 0)
