@@ -6,7 +6,9 @@
     examples/ask.py parts [LINES ..]
 
 who      each gain and loss of the prefix: time, gained or lost, peer, AS number, how many peers
-         have it now, and the path, or what took it: withdrawn or session
+         have it now, and the path, or what took it: withdrawn or session. Another path of a peer
+         that has it is neither. With --at TIME, the peers that have it then: time of the route,
+         peer, AS number, path
 changes  what differs between two times: gained, lost, path or origin; peer, AS number, prefix,
          old path, new path
 parts    each prefix and origin, once, where the longest prefix around it has other origins, which
@@ -14,7 +16,8 @@ parts    each prefix and origin, once, where the longest prefix around it has ot
          it and its origins
 
 LINES are files, or - for standard input, which is read where no file is named. They are read one
-behind the other. NAME=FILE is of the collector NAME, which has peers of its own; the name stands
+behind the other, so in order of time; where times go back between files, or in one by more than a
+minute, a note on standard error tells. NAME=FILE is of the collector NAME, which has peers of its own; the name stands
 last in what is printed. Several collectors are read in order of time, if each is in that order.
 
 Times are of UTC, as 2026-06-01T12:30, or seconds since 1970; a table at a time has the lines of
@@ -60,6 +63,7 @@ def settings():
                          help='who, parts: print nothing before this time, though earlier lines count')
     program.add_argument('--until', dest='last', type=time, default=float('inf'), metavar='TIME',
                          help='who, parts: pass over the lines behind this time')
+    program.add_argument('--at', type=time, metavar='TIME', help='who: print who has the prefix at this time')
     found = program.parse_intermixed_args()
     arguments = ARGUMENTS[found.question]
     if len(found.words) < len(arguments):
@@ -85,8 +89,23 @@ def lines_of(file):
         yield from lines
 
 
-def time_of(collector_and_line):
-    return float(collector_and_line[1].split('|', 2)[1])
+def time_of(line):
+    return float(line.split('|', 2)[1])
+
+
+def lines_in_turn(files):
+    """The lines of files. A note tells where times go back, except in tables: theirs may be those of the routes."""
+    latest, is_noted = 0, False
+    for file in files:
+        earliest = latest
+        for line in lines_of(file):
+            time = time_of(line)
+            if time < earliest and not is_noted and '|B|' not in line:
+                print('%s: not in order of time: %s' % (file, line.rstrip('\n')), file=sys.stderr)
+                is_noted = True
+            latest = max(latest, time)
+            earliest = latest - 60
+            yield line
 
 
 def all_lines(words):
@@ -96,9 +115,8 @@ def all_lines(words):
         name, equals, file = word.partition('=')
         is_named = equals and '/' not in name
         files.setdefault(name if is_named else '', []).append(file if is_named else word)
-    collectors = [zip(itertools.repeat(name), itertools.chain.from_iterable(map(lines_of, names)))
-                  for name, names in files.items()]
-    return collectors[0] if len(collectors) == 1 else heapq.merge(*collectors, key=time_of)
+    collectors = [zip(itertools.repeat(name), lines_in_turn(names)) for name, names in files.items()]
+    return collectors[0] if len(collectors) == 1 else heapq.merge(*collectors, key=lambda pair: time_of(pair[1]))
 
 
 def is_loss(fields):
@@ -123,21 +141,30 @@ def show(collector, *fields):
 # Questions.
 
 def who(lines, wanted):
-    have = set()
+    have, is_named = {}, False  # the peers, each with the time and the path of its route
     for collector, line in lines:
         if wanted.prefix not in line and '|STATE|' not in line:
             continue
         _, time, kind, address, number, *rest = fields = line.rstrip('\n').split('|')
-        peer = collector, address, number
+        is_named = is_named or rest[0] == wanted.prefix
         if float(time) > wanted.last or not is_loss(fields) and rest[0] != wanted.prefix:
             continue
-        has = kind in ('A', 'B')
-        if (peer in have) == has:
-            continue
-        (have.add if has else have.remove)(peer)
-        if float(time) >= wanted.first:
+        peer, has = (collector, address, number), kind in ('A', 'B')
+        had = have.pop(peer, None) is not None
+        if has:
+            have[peer] = time, rest[1]
+        if had != has and float(time) >= wanted.first:
             show(collector, clock(time), 'gained' if has else 'lost', address, number, str(len(have)),
                  rest[1] if has else 'withdrawn' if kind == 'W' else 'session')
+    if not is_named:
+        sys.exit('no line names %s' % wanted.prefix)
+    return have
+
+
+def who_at(lines, wanted):
+    wanted.first, wanted.last = float('inf'), wanted.at
+    for (collector, address, number), (time, path) in sorted(who(lines, wanted).items()):
+        show(collector, clock(time), address, number, path)
 
 
 def play(tables, peer, fields):
@@ -227,8 +254,9 @@ def main():
     for ending in (signal.SIGINT, signal.SIGPIPE):
         signal.signal(ending, signal.SIG_DFL)
     sys.stdout.reconfigure(line_buffering=wanted.question != 'changes')
+    questions = {'who': who if wanted.at is None else who_at, 'changes': changes, 'parts': parts}
     try:
-        {'who': who, 'changes': changes, 'parts': parts}[wanted.question](all_lines(wanted.lines), wanted)
+        questions[wanted.question](all_lines(wanted.lines), wanted)
     except (IndexError, ValueError):
         sys.exit('a line is cut, or not one of bgpdump -m')
     except OSError as fault:

@@ -181,6 +181,11 @@ def differing_files(folder, settings):
 def main():
     if len(sys.argv) != 2:
         sys.exit(__doc__)
+    if sys.argv[1] in ('-h', '--help'):
+        print(__doc__)
+        return
+    if not os.path.isfile(sys.argv[1]) or not os.access(sys.argv[1], os.X_OK):
+        sys.exit('%s: not a program' % sys.argv[1])
     text = COOKBOOK.read_text()
     with tempfile.TemporaryDirectory() as name:
         folder = Path(name)

@@ -3,6 +3,7 @@
 # some lines of each kind.
 #   examples/demo.sh PROGRAM
 set -eu
+case ${1-} in -h | --help) sed -n '2,4s/^# *//p' "$0" && exit ;; esac
 program=$1
 here=$(dirname "$0")
 out=$(mktemp -d)

@@ -236,6 +236,9 @@ STORY = [
 def main():
     if len(sys.argv) != 2:
         sys.exit(__doc__)
+    if sys.argv[1] in ('-h', '--help'):
+        print(__doc__)
+        return
     with open(sys.argv[1], 'wb') as file:
         file.write(peer_index())
         for sequence, (text, paths) in enumerate(TABLE.items()):

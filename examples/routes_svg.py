@@ -67,4 +67,7 @@ def picture(found):
 
 if len(sys.argv) != 2:
     sys.exit(__doc__)
+if sys.argv[1] in ('-h', '--help'):
+    print(__doc__)
+    sys.exit()
 print(picture(samples(sys.argv[1])))

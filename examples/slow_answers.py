@@ -95,6 +95,13 @@ def slow_who(events, prefix):
         before = have
 
 
+def slow_who_at(events, prefix):
+    for peer in sorted(set(map(peer_of, events))):
+        if path_of(events, peer, prefix) is not None:
+            fields = last_of(events, peer, prefix)
+            yield '|'.join([clock(fields[1]), *fields[3:5], fields[6], peer[0]])
+
+
 def up_to(events, time):
     return [event for event in events if event[0] <= time]
 
@@ -178,6 +185,8 @@ def differing(folder, seed):
     events = events_of(collectors)
     times = [START, START + 7, START + 20.25, START + 30]
     asked = [(['who', prefix], slow_who(events, prefix)) for prefix in PREFIXES] + [(['parts'], slow_parts(events))]
+    asked += [(['who', prefix, '--at', times[2]], slow_who_at(up_to(events, times[2]), prefix))
+              for prefix in PREFIXES]
     asked += [(['changes', first, last], slow_changes(events, first, last)) for first, last in zip(times, times[1:])]
     for words, expected in asked:
         if answers(HERE / 'ask.py', *words, *named) != list(expected):
@@ -196,6 +205,9 @@ def differing(folder, seed):
 
 
 def main():
+    if len(sys.argv) > 1:
+        print(__doc__)
+        return
     with tempfile.TemporaryDirectory() as folder:
         found = [fault for seed in (1, 3) for fault in differing(Path(folder), seed)]
     sys.exit('other answers: %s' % '; '.join(found) if found else 0)

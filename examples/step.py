@@ -7,11 +7,12 @@
 at  prints the last step at or before each time. INPUT is an MRT file, or - for standard input. Times
     are of UTC, as 2026-06-01T12:30, or seconds since 1970. Where steps before that one are later,
     since the file isn't in order of time, a note on standard error tells how many.
-of  prints the step of each line of `bgpdump -m`: the first in its second after which the peer's
-    route to the prefix has its time and path, or, for a withdrawal, after which there is no route.
-    INPUT is an MRT file.
+of  prints the step of each line of `bgpdump -m` for a route (A, B or W): the first in its second
+    after which the peer's route to the prefix has its time and path, or, for a withdrawal, after
+    which there is no route. INPUT is an MRT file.
 
-Each record is a step, but those that `bgpdump` reports. It is looked for on the PATH.
+Each record is a step, but those that `bgpdump` reports. It is looked for on the PATH. Where it reads
+no further, since a record is cut or too long, its report is passed on, and the status is 1.
 """
 import argparse
 import re
@@ -26,6 +27,13 @@ LONGEST = 16_777_216  # octets of a record; behind one that states more nothing 
 MICROSECONDS = 17  # the type of records that begin with them (BGP4MP_ET)
 
 
+# What compressed files begin with, and what unpacks them.
+UNPACKERS = {rb'\x1f\x8b\x08': 'zcat', rb'BZh[1-9]1AY&SY': 'bzcat', rb'\xfd7zXZ\0': 'xzcat',
+             rb'\x28\xb5\x2f\xfd': 'zstdcat'}
+
+MISTAKES = {'at': 'not times', 'of': 'not whole lines with A, B or W (for STATE ask `at` its time)'}
+
+
 def time(word):
     """The microseconds since 1970."""
     if number := re.fullmatch(r'(\d+)(?:\.(\d{1,6}))?', word):
@@ -36,7 +44,17 @@ def time(word):
 
 
 def time_of(line):
-    return time(line.split('|')[1])
+    """The time of a line. It is an error if it isn't a whole one of A, B or W."""
+    _, moment, kind, _, _, _, *rest = line.split('|')
+    if kind not in ('A', 'B', 'W') or kind != 'W' and not rest:
+        raise ValueError
+    return time(moment)
+
+
+def unpacker(file):
+    """The program that unpacks a file, if it is compressed."""
+    first = file.peek(10)
+    return next((program for form, program in UNPACKERS.items() if re.match(form, first)), None)
 
 
 def records(file, copy):
@@ -51,21 +69,22 @@ def records(file, copy):
 
 
 def step_times(file):
-    """The time of each step, in microseconds since 1970."""
+    """The time of each step, in microseconds since 1970, and the report after which nothing is read."""
     with tempfile.TemporaryFile('w+') as reports:
         with subprocess.Popen(['bgpdump', '-m', '-'], stdin=subprocess.PIPE, stdout=subprocess.DEVNULL,
                               stderr=reports) as program:
             times = array('q', records(file, program.stdin))
         reports.seek(0)
-        faulty, others = set(), []
+        faulty, last, others = set(), '', ''
         for report in reports:
             if number := re.match(r'bgpdump: record (\d+), ', report):
                 faulty.add(int(number[1]))
+                last = report if report.endswith((' cut record\n', ' too long\n')) else ''
             else:
-                others.append(report)
-    if others:  # the input is compressed, or the run ended before its end
-        sys.exit(''.join(others).rstrip('\n'))
-    return [time for number, time in enumerate(times, 1) if number not in faulty]
+                others += report
+    if others:  # the run ended before the end of the input
+        sys.exit(others.rstrip('\n'))
+    return [time for number, time in enumerate(times, 1) if number not in faulty], last
 
 
 def step_at(times, moment, word):
@@ -106,17 +125,23 @@ def main():
     wanted = program.parse_args()
     try:
         moments = [time(word) if wanted.question == 'at' else time_of(word) for word in wanted.words]
-    except (IndexError, ValueError):
-        program.error('these are not times, or not lines: %s' % ' '.join(wanted.words))
+    except ValueError:
+        program.error('%s: %s' % (MISTAKES[wanted.question], ' '.join(wanted.words)))
     if wanted.question == 'of' and wanted.input == '-':
         program.error('of asks for a file')
     try:
         with open(0 if wanted.input == '-' else wanted.input, 'rb') as file:
-            times = step_times(file)
+            if program := unpacker(file):
+                sys.exit('%s: compressed; %s unpacks it' % (wanted.input, program))
+            times, last = step_times(file)
     except OSError as fault:
         sys.exit('%s: %s' % (fault.filename or 'bgpdump', fault.strerror))
+    sys.stderr.write(last)
+    if not times and last:
+        sys.exit(1)
     for word, moment in zip(wanted.words, moments):
         print(step_at(times, moment, word) if wanted.question == 'at' else step_of(wanted.input, times, moment, word))
+    sys.exit(1 if last else 0)
 
 
 main()

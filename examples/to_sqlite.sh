@@ -1,6 +1,7 @@
 #!/bin/sh
 # Loads lines of `bgpdump -m` into a database of SQLite.
 set -eu
+export LC_ALL=C
 
 help() {
     cat <<'TEXT'
@@ -9,6 +10,7 @@ Loads lines of `bgpdump -m` into a database of SQLite (package sqlite3), made if
     examples/to_sqlite.sh DATABASE COLLECTOR [LINES ..]
 
 LINES are files in order of time, or - for standard input, which is read where no file is named.
+Where times go back between files, or in one by more than a minute, a note tells.
 After a fault none of their lines are there; those that are loaded twice are there twice. There are
 two tables and a view:
 
@@ -32,6 +34,7 @@ if [ $# -lt 2 ]; then
 fi
 database=$1 collector=$2
 shift 2
+[ $# -gt 0 ] || set -- -
 room=$(mktemp -d)
 trap 'rm -rf "$room"' EXIT
 
@@ -56,13 +59,18 @@ where held.type <> 'W';
 select max(line) from (select max(line) as line from routes union all select max(line) from states);
 SQL
 
-# awk keeps the lines where all have been read and are whole.
-{ cat -- "$@" && printf '\nend\n'; } | awk -F'|' -v OFS='|' -v collector="$collector" -v last="$(cat "$room/last")" \
-    -v states="$room/states" -v finish="$room/finish" '
+# awk keeps the lines where all have been read and are whole. It looks for the first whose time goes
+# back, except in tables: theirs may be those of the routes.
+{ for file; do cat -- "$file" && printf '\nend of file\n' || exit; done && echo end; } |
+    awk -F'|' -v OFS='|' -v collector="$collector" -v last="$(cat "$room/last")" \
+        -v states="$room/states" -v finish="$room/finish" '
 BEGIN { print "rollback;" >finish; close(finish); printf "" >states }
 $0 == "" { next }
+$0 == "end of file" { earliest = latest; next }
 $0 == "end" { print "commit;" >finish; next }
 { line = last + NR }
+$2 < earliest && $3 ~ /^(A|W|STATE)$/ && !noted { print "not in order of time: " $0 >"/dev/stderr"; noted = 1 }
+{ if ($2 > latest) latest = $2; earliest = latest - 60 }
 $3 == "STATE" && NF == 7 { print line, collector, $1, $2, $4, $5, $6, $7 >states; next }
 $3 == "W" && NF == 6 { print line, collector, $0 "|||||||||"; next }
 ($3 == "A" || $3 == "B") && NF == 15 {
@@ -70,7 +78,7 @@ $3 == "W" && NF == 6 { print line, collector, $0 "|||||||||"; next }
     print line, collector, $0 (path[count] ~ /^[0-9]+$/ ? path[count] : "")
     next
 }
-{ print "not a line of bgpdump -m: " $0 >"/dev/stderr"; exit 1 }
+{ gsub(/[^ -~]/, "?"); print "not a line of bgpdump -m: " substr($0, 1, 80) >"/dev/stderr"; exit 1 }
 END { close(states); close(finish) }' | sqlite3 -bail -list -separator '|' "$database" 'begin' \
     '.import /dev/stdin routes' ".import '$room/states' states" '
 create index if not exists routes_by_prefix on routes (prefix, collector, peer, peer_as, line);
