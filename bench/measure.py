@@ -91,15 +91,20 @@ def prefix(chance, size):
     return bytes([bits]) + front.to_bytes(size, 'big')[:(bits + 7) // 8]
 
 
+def write_index(out, chance):
+    """A peer index of 40 IPv4 and 20 IPv6 peers; the peers, and how many octets it has."""
+    peers = [(size, chance.choice(TRANSITS), address(chance, size)) for size in [4] * 40 + [16] * 20]
+    index = b''.join(struct.pack('>BI', 2 if size == 4 else 3, n) + addr + struct.pack('>I', asn)
+                     for n, (size, asn, addr) in enumerate(peers))
+    return peers, out.write(record(1700000000, 13, 1, struct.pack('>IHH', 1, 0, 60) + index))
+
+
 def write_table(out, chance):
     """An index of 40 IPv4 and 20 IPv6 peers, and prefixes with up to 40 entries each, every sixth of IPv6.
 
     Prefixes come in their order, those of IPv4 first, as collectors write them.
     """
-    peers = [(size, chance.choice(TRANSITS), address(chance, size)) for size in [4] * 40 + [16] * 20]
-    index = b''.join(struct.pack('>BI', 2 if size == 4 else 3, n) + addr + struct.pack('>I', asn)
-                     for n, (size, asn, addr) in enumerate(peers))
-    written = out.write(record(1700000000, 13, 1, struct.pack('>IHH', 1, 0, 60) + index))
+    peers, written = write_index(out, chance)
     tables = []
     while written < SIZE:
         size = 16 if len(tables) % 6 == 5 else 4
@@ -152,10 +157,7 @@ def as_routers_send(chance):
 
 def write_table_of_runs(out, chance, length, again):
     """As write_table() writes it, but with peers whose attributes stay the same for runs of prefixes."""
-    peers = [(size, chance.choice(TRANSITS), address(chance, size)) for size in [4] * 40 + [16] * 20]
-    index = b''.join(struct.pack('>BI', 2 if size == 4 else 3, n) + addr + struct.pack('>I', asn)
-                     for n, (size, asn, addr) in enumerate(peers))
-    out.write(record(1700000000, 13, 1, struct.pack('>IHH', 1, 0, 60) + index))
+    peers, _ = write_index(out, chance)
     runs = [Runs(chance, attribute(3, addr) if size == 4 else attribute(14, bytes([16]) + addr), length, again)
             for size, _, addr in peers]
     tables = sorted(((size, prefix(chance, size)) for size in [4] * 10_500 + [16] * 2_100),
