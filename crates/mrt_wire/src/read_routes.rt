@@ -263,13 +263,14 @@ impl ReadRoutes {
         ensures refused { IfErr result (RefusesSent sent.entry) }
         ensures places { vec_len self.new.places ≡ vec_len self.old.places }
     {
-        if let Some(read) = &mut self.places[place] {
-            return read.read(alloc, &mut self.spares, sent, time);
+        // One call of it, so that a compiler puts it here whole.
+        if self.places[place].is_none() {
+            self.places[place] = Some(ReadRoute::none(alloc)?);
         }
-        let mut read = ReadRoute::none(alloc)?;
-        let route = read.read(alloc, &mut self.spares, sent, time)?;
-        self.places[place] = Some(read);
-        Ok(route)
+        match &mut self.places[place] {
+            Some(read) => read.read(alloc, &mut self.spares, sent, time),
+            None => unreachable!(),
+        }
     }
 
     /// Returns a route of these attributes, whose time is `time`. `number` is that of its peer in the peer
