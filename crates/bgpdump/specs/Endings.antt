@@ -33,7 +33,7 @@ Leaves contents contents' Relates devices ended = OverWriters contents contents'
 -- what the outputs of a run hold, with what is still in their buffers
 abbrev pub buffered_outputs : {R O E : Type 0} → (O → Option (List ℕ)) → (E → Option (List ℕ)) → Streams R O E → Outputs
 buffered_outputs contents contents' streams =
-    outputs_of (λ out. writer_contents contents out.writer) (λ err. writer_contents contents' err.writer) streams.out streams.err
+    outputs_of (λ out. writer_contents contents out.output.writer) (λ err. writer_contents contents' err.output.writer) streams.out streams.err
 
 -- known octets stay in both outputs
 abbrev pub KeepsBoth : Outputs → Outputs → Type 0

@@ -8,7 +8,7 @@ ghost use Rattle.bgpdump_tool.specs.Run.{dump_texts, outputs_of};
 ghost use Rattle.bgpdump.specs.Endings.{lost_outcome, HasTaken, Leaves, LeavesSo, LeavesWhole, TookMost, KeepsBoth, OverWriters, buffered_outputs, has_failed};
 
 use crate::files::read_outcome;
-use bgpdump_tool::{LONGEST_SCRIPT, Outcome, Output, WriteOutput, run_dump, run_play};
+use bgpdump_tool::{BufferedOutput, LONGEST_SCRIPT, Outcome, Output, run_dump, run_play};
 use mrt_wire::{BufferedInput, Input, Route, Stamp};
 use rib_store::{LeftStore, RadixStore};
 use std::alloc::Global;
@@ -50,8 +50,8 @@ pub struct Ended<R, O, E> {
 #[derive(Drop)]
 struct Streams<R, O: Write + Drop, E: Write + Drop> {
     input: BufferedInput<R>,
-    out: WriteOutput<BufWriter<O>>,
-    err: WriteOutput<BufWriter<E>>,
+    out: BufferedOutput<O>,
+    err: BufferedOutput<E>,
 }
 
 /// Writes the lines of an MRT file to `devices.out`, and the reports to `devices.err`.
@@ -160,9 +160,9 @@ fn through_buffers<R: Read + Drop, O: Write + Drop, E: Write + Drop>(
     ensures input { IfOk result (λ streams.
         ⟦<BufferedInput<R> as Input>⟧.failed streams.input ≡ false) }
     ensures out { IfOk result (λ streams.
-        ⟦<WriteOutput<BufWriter<O>> as Output>⟧.failed streams.out ≡ false) }
+        ⟦<BufferedOutput<O> as Output>⟧.failed streams.out ≡ false) }
     ensures err { IfOk result (λ streams.
-        ⟦<WriteOutput<BufWriter<E>> as Output>⟧.failed streams.err ≡ false) }
+        ⟦<BufferedOutput<E> as Output>⟧.failed streams.err ≡ false) }
     ensures refused { IfErr result (λ outcome. outcome ≡ Outcome.Memory) }
 {
     let Devices { reader, out, err } = devices;
@@ -177,8 +177,8 @@ fn through_buffers<R: Read + Drop, O: Write + Drop, E: Write + Drop>(
     ))?;
     Ok(Streams {
         input: BufferedInput::new(reader),
-        out: WriteOutput::new(out),
-        err: WriteOutput::new(err),
+        out: BufferedOutput::new(out),
+        err: BufferedOutput::new(err),
     })
 }
 

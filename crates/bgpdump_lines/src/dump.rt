@@ -5,11 +5,12 @@ ghost use Rattle.std.specs.Io.KnownBytes.{Consumes};
 ghost use Rattle.mrt_wire.specs.Results.{start_place, Took};
 ghost use Rattle.mrt_wire.specs.Answered.{answer_findings, is_nothing};
 ghost use Rattle.bgpdump_lines.specs.Run.{dump_texts, outputs_of, EndsOnOctets, IsTaken, SawEnd, OverDevices, EndsOverAll, WritesWhole};
+ghost use Rattle.bgpdump_lines.specs.Flushing.{AreFlushed, LeavesFlushed};
 ghost use Rattle.bgpdump_lines.specs.Going.{is_read_fault, is_write_fault, Ends};
 
 use crate::kept_lines::KeptLines;
 use crate::outcome::Outcome;
-use crate::output::{Output, finish_outputs, pass_on_before_waiting};
+use crate::output::{Output, finish_outputs, flush_before_waiting};
 use crate::write::write_next;
 use ip_prefix::Text;
 use mrt_wire::{Input, Next, Source, Stamp};
@@ -20,8 +21,8 @@ pub const LIMIT: u64 = 1 << 40;
 
 /// Reads an input of MRT records (RFC 6396) to its end, or to a record whose header states a length
 /// above the limit. The lines of all events go to `out`, and the reports of all faulty records to `err`.
-/// The text of a record is written before the next one is read. If nothing fails, both outputs are
-/// flushed at the end, `out` first.
+/// The text of a record is written before the next one is read, and both outputs are flushed before a
+/// read that may wait. If nothing fails, both are flushed at the end, `out` first.
 pub fn run_dump<I: Input, O: Output, E: Output>(
     alloc: Global,
     input: &mut I,
@@ -48,6 +49,10 @@ pub fn run_dump<I: Input, O: Output, E: Output>(
     ensures whole_records { OverDevices I.left O.written E.written
         (WritesWhole stamp result dump_texts)
         (input.old, out.old, err.old) (input.new, out.new, err.new) }
+
+    // No line waits: of outputs that tell what they hold back, nothing is held back at the end, nor where
+    // a read failed, as any read may that asks the device.
+    ensures flushed { LeavesFlushed result (O.pending out.new) (E.pending err.new) }
 
     // At most 2^40 octets are taken: those of frames, and then what stands behind them, none of it
     // behind a header that states too much.
@@ -83,13 +88,15 @@ fn dump_all<I: Input, O: Output, E: Output>(
         (input.old, out.old, err.old) (input.new, out.new, err.new) }
     ensures read { I.failed input.new ≡ (I.failed input.old || is_read_fault result) }
     ensures wrote { (O.failed out.new || E.failed err.new) ≡ is_write_fault result }
+    ensures flushed { IsTrue (is_read_fault result) →
+        AreFlushed (O.pending out.new) (E.pending err.new) }
 {
     let mut source = Source::new(alloc, stamp, LIMIT);
     let mut text = Text::new(alloc);
     let mut kept = KeptLines::new(alloc);
     let mut reported = false;
     'steps: loop {
-        pass_on_before_waiting(input, out, err)?;
+        flush_before_waiting(input, out, err)?;
         let next = source.next(input)?;
         if let Next::End = next {
             return Ok(reported);

@@ -23,5 +23,7 @@ pub use fault::WriteFault;
 pub use fields::{put_number, put_peer};
 pub use laws::line_numbers;
 pub use outcome::Outcome;
-pub use output::{OutFault, Output, WriteOutput, finish_outputs, pass_on_before_waiting, put_all};
+pub use output::{
+    BufferedOutput, OutFault, Output, WriteOutput, finish_outputs, flush_before_waiting, put_all,
+};
 pub use write::{write_report, write_rib_line, write_rib_lines};

@@ -1,5 +1,6 @@
 pub use Rattle.bgpdump_lines.specs.Lines
 pub use Rattle.bgpdump_lines.specs.Run
+pub use Rattle.bgpdump_lines.specs.Flushing
 pub use Rattle.bgpdump_lines.specs.KnownOctets
 pub use Rattle.bgpdump_lines.specs.Going
 pub use Rattle.bgpdump_command_line.specs.CommandLine

@@ -5,8 +5,9 @@
 mod moves;
 mod questions;
 
-ghost use Rattle.std.specs.Prelude.{◌≡◌, ◌+◌, ◌||◌, ℕ};
+ghost use Rattle.std.specs.Prelude.{◌≡◌, ◌+◌, ◌||◌, ℕ, IsTrue};
 ghost use Rattle.bgpdump_tool.specs.declared.play.TheConstants.{LONGEST_SCRIPT};
+ghost use Rattle.bgpdump_lines.specs.Flushing.{AreFlushed};
 ghost use Rattle.bgpdump_lines.specs.Going.{is_read_fault, is_write_fault};
 ghost use Rattle.bgpdump_tool.specs.Carrying.{HasRoom, OverScenes, CarriesOut};
 
@@ -36,6 +37,8 @@ pub(crate) fn carry_out<S: PrefixStore<Rc<Route>>, I: Input, O: Output, E: Outpu
     ensures read { I.failed input.new ≡ (I.failed input.old || is_read_fault result) }
     ensures wrote { (O.failed out.new || E.failed err.new)
         ≡ (O.failed out.old || E.failed err.old || is_write_fault result) }
+    ensures flushed { IsTrue (is_read_fault result) →
+        AreFlushed (O.pending out.new) (E.pending err.new) }
 {
     let text = &mut session.text;
     let table = session.player.table();

@@ -13,7 +13,8 @@ mod words;
 
 pub use bgpdump_command_line::{Mode, STANDARD_INPUT, Settings, UsageFault, settings};
 pub use bgpdump_lines::{
-    OutFault, Outcome, Output, WriteOutput, line_numbers, put_all, put_lines, run_dump,
+    BufferedOutput, OutFault, Outcome, Output, WriteOutput, line_numbers, put_all, put_lines,
+    run_dump,
 };
 pub use command::{Command, read_command};
 pub use laws::{best_match, one_command, one_script, run_numbers};

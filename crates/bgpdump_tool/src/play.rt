@@ -6,6 +6,7 @@ ghost use Rattle.std.specs.Io.KnownBytes.{Consumes};
 ghost use Rattle.mrt_wire.specs.Results.{start_place, Took};
 ghost use Rattle.rib_player.specs.Timeline.{fresh};
 ghost use Rattle.bgpdump_lines.specs.declared.dump.TheConstants.{LIMIT};
+ghost use Rattle.bgpdump_lines.specs.Flushing.{AreFlushed, LeavesFlushed};
 ghost use Rattle.bgpdump_lines.specs.Going.{is_read_fault, is_write_fault};
 ghost use Rattle.bgpdump_lines.specs.Run.{IsTaken, OverDevices, outputs_of};
 ghost use Rattle.bgpdump_tool.specs.Course.{PlaysOnOctets, PlaysOverAll, BeganLines, WritesCut, TakesOnlyWanted};
@@ -27,8 +28,8 @@ pub const LONGEST_SCRIPT: usize = 1 << 20;
 
 /// Runs `script` over an input of MRT records (RFC 6396), on a new player with stores of type `S`.
 /// Replies go to `out`, reports of faulty records and bad lines to `err`, each before the next
-/// record or line is read. Records that no command wants aren't read. If the run ends without a
-/// fault, `out` and then `err` are finished. A script of more than 1,048,576 octets isn't run.
+/// record or line is read, and both are flushed before a read that may wait. Records that no
+/// command wants aren't read. If the run ends without a fault, `out` and then `err` are finished. A script of more than 1,048,576 octets isn't run.
 pub fn run_play<S: PrefixStore<Rc<Route>>, I: Input, O: Output, E: Output>(
     alloc: Global,
     input: &mut I,
@@ -72,6 +73,10 @@ pub fn run_play<S: PrefixStore<Rc<Route>>, I: Input, O: Output, E: Output>(
     // all that the octets give; where the input fails or is too long, a command wanted more.
     ensures wanted { TakesOnlyWanted stamp script.now result
         (I.left input.old) (I.left input.new) }
+
+    // No reply waits: of outputs that tell what they hold back, nothing is held back at the end,
+    // nor where a read failed, as any read may that asks the device.
+    ensures flushed { LeavesFlushed result (O.pending out.new) (E.pending err.new) }
 
     // At most 2^40 octets are taken: whole records, and then the octets after them, but none after
     // a header with a length that is too great.
@@ -126,6 +131,8 @@ fn play_lines<S: PrefixStore<Rc<Route>>, I: Input, O: Output, E: Output>(
     ensures read { I.failed input.new ≡ (I.failed input.old || is_read_fault result) }
     ensures wrote { (O.failed out.new || E.failed err.new)
         ≡ (O.failed out.old || E.failed err.old || is_write_fault result) }
+    ensures flushed { IsTrue (is_read_fault result) →
+        AreFlushed (O.pending out.new) (E.pending err.new) }
 {
     let mut rest = script;
     let mut number: u64 = 1;
@@ -156,6 +163,8 @@ fn carry_line<S: PrefixStore<Rc<Route>>, I: Input, O: Output, E: Output>(
     ensures read { I.failed input.new ≡ (I.failed input.old || is_read_fault result) }
     ensures wrote { (O.failed out.new || E.failed err.new)
         ≡ (O.failed out.old || E.failed err.old || is_write_fault result) }
+    ensures flushed { IsTrue (is_read_fault result) →
+        AreFlushed (O.pending out.new) (E.pending err.new) }
 {
     if line.is_empty() {
         return Ok(());

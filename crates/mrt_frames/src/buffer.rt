@@ -1,7 +1,8 @@
 //! Filling buffers from an input, within a limit of octets. `frames.rt` reads headers and bodies
 //! with it. Read [`fill_within`] first.
 
-ghost use Rattle.std.specs.Prelude.{◌≡◌, ◌≤◌, ◌<◌, ◌+◌, ◌-◌, ◌*◌, ◌||◌, IfOk, length, max, take, drop, vec_len};
+ghost use Rattle.std.specs.Prelude.{◌≡◌, ◌≤◌, ◌<◌, ◌+◌, ◌-◌, ◌*◌, ◌||◌, false, IfOk, length, max, take, drop, vec_len};
+ghost use Rattle.mrt_frames.specs.Buffered.{FillsBuffered};
 ghost use Rattle.mrt_frames.specs.Taken.{FillsWithin, is_read, answer_of_source};
 
 use crate::fault::{SourceFault, TakeFault};
@@ -28,6 +29,8 @@ pub(crate) fn fill_within<I: Input>(
         buffer.new (length buffer.new) limit (answer_of_source result) }
     ensures failed { I.failed input.new
         ≡ (I.failed input.old || is_read (answer_of_source result)) }
+    ensures buffered { FillsBuffered (I.buffered input.old) (I.buffered input.new)
+        buffer.new (length buffer.new) (answer_of_source result) }
 {
     // The input isn't asked for its end when the limit is met. It may have ended there, and
     // `PastLimit` is returned all the same.
@@ -83,6 +86,8 @@ pub(crate) fn fill_part<I: Input>(
         (drop part.start buffer.new.items) (part.end - part.start) limit (answer_of_source result) }
     ensures failed { I.failed input.new
         ≡ (I.failed input.old || is_read (answer_of_source result)) }
+    ensures buffered { FillsBuffered (I.buffered input.old) (I.buffered input.new)
+        (drop part.start buffer.new.items) (part.end - part.start) (answer_of_source result) }
 {
     fill_within(input, &mut buffer[part], taken, limit)
 }
@@ -107,6 +112,7 @@ pub(crate) fn fill_body<I: Input>(
     ensures growth { IfOk result (λ count.
         vec_len buffer.new ≤ max (vec_len buffer.old) (2 * count + FIRST_GROWTH)) }
     ensures failed { I.failed input.new ≡ (I.failed input.old || is_read result) }
+    ensures buffered { size ≤ length (I.buffered input.old) → is_read result ≡ false }
 {
     // It is out of line, since few bodies are longer than all before.
     let mut filled = 0;

@@ -1,7 +1,8 @@
 //! Reading records one after the other: headers, and the bodies of supported types. `mrt_wire`
 //! calls [`FrameReader::take_record`] for each record; read that first.
 
-ghost use Rattle.std.specs.Prelude.{◌≡◌, ◌+◌, ◌≤◌, ◌||◌, ℕ, Option, IfOk, IsTrue, take, length, vec_len};
+ghost use Rattle.std.specs.Prelude.{◌≡◌, ◌+◌, ◌≤◌, ◌||◌, ℕ, false, Option, IfOk, IsTrue, take, length, vec_len};
+ghost use Rattle.mrt_frames.specs.Buffered.{HoldsRecord, StartsBuffered};
 ghost use Rattle.mrt_frames.specs.Taken.{is_read, answer_of_source, TakesOctets, TakesHeader, TakesBody, PassesBody, TakesRecord};
 
 use crate::buffer::{fill_body, fill_part, fill_within};
@@ -104,6 +105,8 @@ impl FrameReader {
         ensures failed { I.failed input.new
             ≡ (I.failed input.old || is_read (answer_of_source result)) }
         ensures limit { self.new.limit ≡ self.old.limit }
+        ensures buffered { HEADER_SIZE ≤ length (I.buffered input.old) →
+            StartsBuffered (I.buffered input.old) (I.buffered input.new) (answer_of_source result) }
     {
         let mut octets = [0; HEADER_SIZE];
         let count = fill_within(input, &mut octets, &mut self.taken, self.limit)?;
@@ -123,6 +126,7 @@ impl FrameReader {
             (I.left input.old) (I.left input.new) self.old.taken self.new.taken }
         ensures failed { I.failed input.new ≡ (I.failed input.old || is_read result) }
         ensures limit { self.new.limit ≡ self.old.limit }
+        ensures buffered { size ≤ length (I.buffered input.old) → is_read result ≡ false }
     {
         // The buffer of a long body is freed before a short one is read.
         let size = size as usize;
@@ -145,6 +149,8 @@ impl FrameReader {
         ensures failed { I.failed input.new
             ≡ (I.failed input.old || is_read (answer_of_source result)) }
         ensures limit { self.new.limit ≡ self.old.limit }
+        ensures buffered { size ≤ length (I.buffered input.old) →
+            is_read (answer_of_source result) ≡ false }
     {
         let mut piece = [0; PIECE];
         let mut ahead = size as usize;
@@ -161,7 +167,7 @@ impl FrameReader {
 
     /// Reads the next record from `input`, or returns [`Front::Rest`] if there is no whole one.
     /// Bodies of types that `profile` doesn't support are skipped. On error, a part of the record
-    /// may have been read.
+    /// may have been read. No read fails if the record is buffered as a whole.
     #[inline(always)]
     pub fn take_record<P: Profile, I: Input>(
         &mut self,
@@ -173,6 +179,7 @@ impl FrameReader {
             (I.left input.old) (I.left input.new) self.old.taken self.new.taken }
         ensures failed { I.failed input.new ≡ (I.failed input.old || is_read result) }
         ensures limit { self.new.limit ≡ self.old.limit }
+        ensures buffered { HoldsRecord (I.buffered input.old) → is_read result ≡ false }
     {
         let header = match self.take_header(input)? {
             Start::Header(header) => header,

@@ -1,8 +1,9 @@
 //! The header of an MRT record (RFC 6396, section 2). `frames.rt` parses it with [`read_header`];
 //! read that first.
 
-ghost use Rattle.std.specs.Prelude.{◌≡◌, ◌+◌, ◌≤◌, length, take, drop};
+ghost use Rattle.std.specs.Prelude.{◌≡◌, ◌↔◌, ◌+◌, ◌≤◌, IsTrue, length, take, drop};
 ghost use Rattle.std.specs.Int.{to_be_bytes, w16, w32};
+ghost use Rattle.mrt_frames.specs.Buffered.{HoldsRecord};
 ghost use Rattle.mrt_frames.specs.Record.{IsHeader, header_octets};
 
 use byteorder::{BigEndian, ByteOrder};
@@ -57,9 +58,14 @@ pub(crate) fn read_header(octets: &[u8; HEADER_SIZE]) -> Header
     }
 }
 
-/// Returns `true` if `octets` begins with a whole record, by the length that its header states.
+/// Returns `true` if `octets` begins with a header and at least as many octets after it as it
+/// states.
 #[inline]
-pub(crate) fn begins_with_record(octets: &[u8]) -> bool {
-    octets.split_first_chunk::<HEADER_SIZE>().is_some_and(|(header, body)| body.len()
-        >= read_header(header).size as usize)
+pub(crate) fn begins_with_record(octets: &[u8]) -> bool
+    ensures { IsTrue result ↔ HoldsRecord octets.now }
+{
+    let Some((header, body)) = octets.split_first_chunk::<HEADER_SIZE>() else {
+        return false;
+    };
+    body.len() >= read_header(header).size as usize
 }

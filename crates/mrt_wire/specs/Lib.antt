@@ -1,5 +1,6 @@
 pub use Rattle.mrt_frames.specs.Taken
 pub use Rattle.mrt_frames.specs.Record
+pub use Rattle.mrt_frames.specs.Buffered
 pub mod Fields
 pub mod Rib
 pub mod Session

@@ -2,8 +2,9 @@
 //! [`Source::next`] until it returns the end or an error; read that first. `judging.rt` parses each
 //! record.
 
-ghost use Rattle.std.specs.Prelude.{◌≡◌, ◌≤◌, ◌+◌, ◌||◌, ◌↔◌, Ok, Err, IsTrue};
+ghost use Rattle.std.specs.Prelude.{◌≡◌, ◌≤◌, ◌+◌, ◌||◌, ◌↔◌, false, Ok, Err, IsTrue};
 ghost use Rattle.mrt_wire.specs.declared.next.Next.{Next};
+ghost use Rattle.mrt_frames.specs.Buffered.{HoldsRecord};
 ghost use Rattle.mrt_frames.specs.Taken.{is_read};
 ghost use Rattle.mrt_wire.specs.Results.{start_place};
 ghost use Rattle.mrt_wire.specs.Judging.{judged_answer, fault_answer};
@@ -126,6 +127,10 @@ impl Source {
             (result ≡ Err SourceFault.Spent) × (self.new ≡ self.old) × (input.new ≡ input.old) }
 
         ensures failed { I.failed input.new ≡ (I.failed input.old || is_read result) }
+
+        // No read fails if the next record is buffered as a whole.
+        ensures buffered { HoldsRecord (I.buffered input.old) → is_read result ≡ false }
+
         ensures within { self.new.offset ≤ self.new.limit }
     {
         match self.phase {
@@ -148,6 +153,7 @@ impl Source {
         ensures next { IsStep self.old (spent_place self.new result)
             (I.left input.old) (I.left input.new) result }
         ensures failed { I.failed input.new ≡ (I.failed input.old || is_read result) }
+        ensures buffered { HoldsRecord (I.buffered input.old) → is_read result ≡ false }
     {
         let offset = self.frames.taken();
         match self.frames.take_record(&Forms, input)? {

@@ -1,9 +1,10 @@
 //! The commands that move the player: `next`, `back` and `goto`, and `lose`, which plays an event
 //! of its own. `carry_out` calls these functions. Read [`next`] first.
 
-ghost use Rattle.std.specs.Prelude.{◌≡◌, ◌-◌, ◌<◌, ◌||◌, ℕ, min, false, IfOk, OnErr, Ok, Err};
+ghost use Rattle.std.specs.Prelude.{◌≡◌, ◌-◌, ◌<◌, ◌||◌, ℕ, min, false, IfOk, OnErr, Ok, Err, IsTrue};
 ghost use Rattle.prefix_store.specs.declared.store.TheConstants.{GREATEST_COUNT};
 ghost use Rattle.rib_player.specs.Timeline.{after_play, ahead_of, behind};
+ghost use Rattle.bgpdump_lines.specs.Flushing.{AreFlushed};
 ghost use Rattle.bgpdump_lines.specs.Going.{is_read_fault, is_write_fault, Puts, is_write};
 ghost use Rattle.bgpdump_tool.specs.declared.command.Command.TheVariants.{Goto, Next};
 ghost use Rattle.bgpdump_tool.specs.declared.play.TheConstants.{LONGEST_SCRIPT};
@@ -43,6 +44,8 @@ pub(crate) fn next<S: PrefixStore<Rc<Route>>, I: Input, O: Output, E: Output>(
     ensures read { I.failed input.new ≡ (I.failed input.old || is_read_fault result) }
     ensures wrote { (O.failed out.new || E.failed err.new)
         ≡ (O.failed out.old || E.failed err.old || is_write_fault result) }
+    ensures flushed { IsTrue (is_read_fault result) →
+        AreFlushed (O.pending out.new) (E.pending err.new) }
 {
     'steps: for _ in 0..count {
         let ended = session.step(input, out, err)?;
@@ -72,6 +75,8 @@ pub(crate) fn goto<S: PrefixStore<Rc<Route>>, I: Input, O: Output, E: Output>(
     ensures read { I.failed input.new ≡ (I.failed input.old || is_read_fault result) }
     ensures wrote { (O.failed out.new || E.failed err.new)
         ≡ (O.failed out.old || E.failed err.old || is_write_fault result) }
+    ensures flushed { IsTrue (is_read_fault result) →
+        AreFlushed (O.pending out.new) (E.pending err.new) }
 {
     let at = session.player.at();
     if u64::from(position) < at {

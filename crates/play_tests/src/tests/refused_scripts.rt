@@ -216,6 +216,10 @@ impl Output for Room {
         Ok(octets.len())
     }
 
+    fn flush(&mut self) -> Result<(), OutFault> {
+        Ok(())
+    }
+
     fn finish(&mut self) -> Result<(), OutFault> {
         Ok(())
     }

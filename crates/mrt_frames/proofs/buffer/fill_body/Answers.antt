@@ -1,6 +1,7 @@
-use Rattle.std.proofs.Common.{rules, ◌∙◌, ◌≤◌, length, take, drop, arith, length-take-le}
+use Rattle.std.proofs.Common.{rules, ◌∙◌, ◌≤◌, length, take, drop, arith, length-take-le, length-drop, ◌-◌, ◌≡◌}
 use Rattle.std.proofs.lemmas.Result.{err_from_is_err_and}
 use Rattle.mrt_frames.proofs.Buffers.{Takes-parts, FillsWithin-stopped_place, take-resized}
+use Rattle.mrt_frames.proofs.BufferedLaws.{length_read}
 use Rattle.mrt_frames.proofs.buffer.fill_body.Goals as goal
 
 pub returns-in_err-filled-clause-octets : goal.returns-in_err-filled-clause-octets
@@ -23,7 +24,18 @@ loop-filled-preserved g c =
       growth = omega (arith, now.0, c.in_ok-resize.ensures.len, c.fill_part.ensures.size);
       octets = Takes-parts _ _ _ _ _ _ at _ _ _ kept c.loop-filled.invariant.octets now.2;
       failed = search rules;
+      buffered = λ enough.
+          let before = c.loop-filled.invariant.buffered enough in
+          let read = (c.in_ok-filled.ensures.buffered (omega (arith, before, enough))).1 in
+          let part : c.next_end-end.result - at ≤ length (drop at c.fill_part.new.buffer.items) = omega (arith, length-drop at c.fill_part.new.buffer.items, c.in_ok-resize.ensures.len, c.fill_part.ensures.size, c.fill_part.new.buffer.ok.0) in
+          omega (arith, before, read.0, length_read _ _ _ _ part read.1);
     }
+
+pub returns-in_err-filled-clause-buffered : goal.returns-in_err-filled-clause-buffered
+returns-in_err-filled-clause-buffered g c = λ enough.
+    let p = err_from_is_err_and c.from_residual-in_err-filled.result c.from_residual-in_err-filled.ensures.1 in
+    let before = c.loop-filled.invariant.buffered enough in
+    rw (p.1, p.2) (c.in_err-filled.ensures.buffered (omega (arith, before, enough))).0
 
 pub returns-then-filled-end-clause-octets : goal.returns-then-filled-end-clause-octets
 returns-then-filled-end-clause-octets g c =

@@ -1,6 +1,7 @@
-use Rattle.std.proofs.Common.{rules, ◌≡◌, refl, ◌++◌, ◌+◌, ◌-◌, length, take, arith, length-append, length-take-le}
+use Rattle.std.proofs.Common.{rules, ◌≡◌, refl, ◌++◌, ◌+◌, ◌-◌, ◌≤◌, length, take, arith, length-append, length-take-le}
 use Rattle.std.proofs.lemmas.Result.{err_from_is_err_and}
 use Rattle.mrt_frames.proofs.Buffers.{Takes-trans, Passed-more}
+use Rattle.mrt_frames.proofs.BufferedLaws.{length_read}
 use Rattle.mrt_frames.proofs.frames.FrameReader.pass_body.Goals as goal
 
 pub returns-in_err-count-clause-octets : goal.returns-in_err-count-clause-octets
@@ -27,4 +28,16 @@ loop-ahead-preserved g c = record {
       Passed-more _ _ _ _ _ _ _ _ _ _ c.loop-ahead.invariant.octets now.0 now.2 (omega (arith, part, now.0));
   within = omega arith;
   failed = search rules;
+  buffered = λ enough.
+      let part : length (take c.min-wanted.result c.loop-ahead.piece) ≡ c.min-wanted.result = length-take-le c.min-wanted.result c.loop-ahead.piece (search rules) in
+      let before = c.loop-ahead.invariant.buffered enough in
+      let read = (c.in_ok-count.ensures.buffered (omega (arith, part, before, enough))).1 in
+      omega (arith, part, before, read.0, length_read _ _ c.fill_within.new.buffer (length c.fill_within.new.buffer) (omega arith) read.1);
 }
+
+pub returns-in_err-count-clause-buffered : goal.returns-in_err-count-clause-buffered
+returns-in_err-count-clause-buffered g c = λ enough.
+    let p = err_from_is_err_and c.from_residual.result c.from_residual.ensures.1 in
+    let part : length (take c.min-wanted.result c.loop-ahead.piece) ≡ c.min-wanted.result = length-take-le c.min-wanted.result c.loop-ahead.piece (search rules) in
+    let before = c.loop-ahead.invariant.buffered enough in
+    rw (p.1, p.2) (c.in_err-count.ensures.buffered (omega (arith, part, before, enough))).0
