@@ -96,8 +96,9 @@ fn push_numbers(width: AsWidth, octets: &[u8], numbers: &mut Vec<u32>)
 }
 
 /// Parses `octets` as big-endian numbers of `width`, and replaces `numbers` with them. The memory
-/// of `numbers` is reused if its capacity is enough, and at most `spare` more. Returns `Malformed`
-/// if `octets` ends inside a number. On error, `numbers` is unspecified.
+/// of `numbers` is reused unless its capacity is too small, or more than `spare` above what is
+/// needed. Returns `Malformed` if `octets` ends inside a number. On error, `numbers` is
+/// unspecified.
 #[inline(always)]
 pub fn fill_numbers(
     numbers: &mut Vec<u32>,

@@ -27,7 +27,7 @@ impl Clone for ListOf<Segment> {
 /// An AS path: the ASes that a route has passed through (RFC 4271, section 5.1.2).
 #[derive(Clone, Debug, Drop)]
 pub struct AsPath {
-    /// The segments. The AS that sent the route is in the first.
+    /// The segments as they are sent, those of the latest ASes first.
     pub segments: Segments,
 }
 
@@ -42,7 +42,7 @@ impl AsPath {
         }
     }
 
-    /// Removes all segments. Their memory is freed if there were more than four.
+    /// Removes all segments. Capacity for more than four segments is freed.
     #[inline]
     pub fn clear(&mut self)
         ensures { self.new ≡ no_path }
