@@ -45,9 +45,9 @@ pub(crate) fn join_passed(
 
 /// Merges the AS4_PATH and the AS4_AGGREGATOR of `later` into the path and the aggregator of
 /// `attrs`, whose AS numbers have two octets (RFC 6793, section 4.2.3). One that is absent or
-/// malformed is ignored, and both are if AGGREGATOR and AS4_AGGREGATOR are present and the AS
-/// number of the first isn't AS_TRANS. The next hop is unchanged. On error, which is always
-/// `Memory`, the rest of `attrs` is unspecified.
+/// malformed is ignored, and so is AS4_AGGREGATOR without AGGREGATOR. If both aggregators are
+/// present and the AS number of AGGREGATOR isn't AS_TRANS, AS4_PATH is ignored too. The next hop is
+/// unchanged. On error, which is always `Memory`, the rest of `attrs` is unspecified.
 #[inline(never)]
 fn join_as4(alloc: Global, attrs: &mut Attrs, later: &LaterValues) -> Result<(), WireFault>
     ensures said { OnOk result ((list : List Attribute) →
