@@ -1,5 +1,5 @@
 -- Private.
--- What decoders answer, framed segments, and the words that are printed.
+-- What parsers return, segments whose AS numbers aren't parsed, and texts of words.
 use Rattle.std.specs.Prelude.{ℕ, List, Option, Some, None, Result, Ok, Err, ◌≡◌, ◌*◌, ◌<◌, [], ◌∷◌, ◌++◌, length}
 use Rattle.ip_prefix.specs.Fronts.{BeginsWithNone}
 use Rattle.bgp_paths.specs.declared.fault.WireFault.{WireFault}
@@ -14,57 +14,61 @@ use Rattle.std.specs.List.{join_with_byte}
 use Rattle.ip_prefix.specs.Written.{ended_words}
 use Rattle.bgp_paths.specs.declared.text.Marks.{Marks}
 
--- ---- what functions that read octets answer
+-- ---- what parsers return
 
--- the answer is a value that the octets spell, exactly where they spell one
+-- what a parser returns for the octets: a value that they spell, or `None` if they spell none
 abbrev pub Finds : {A B : Type 0} → (A → B → Type 0) → B → Option A → Type 0
 Finds Spells octets (Some value) = Spells value octets
 Finds Spells octets None = IsNoSpelling Spells octets
 
--- malformed is what no value is spelled by
+-- an error that a parser may return for the octets: `Malformed` only if they spell no value, `Memory` always
 abbrev pub Refuses : {A B : Type 0} → (A → B → Type 0) → B → WireFault → Type 0
 Refuses Spells octets Malformed = IsNoSpelling Spells octets
 Refuses Spells octets Memory = Unit {0}
 
--- the answer is a value that the octets spell, or a fault where it is due
+-- what a parser returns for the octets: a value that they spell, or an error; `Malformed` only if they spell
+-- no value
 abbrev pub Reads : {A B : Type 0} → (A → B → Type 0) → B → Result A WireFault → Type 0
 Reads Spells octets (Ok value) = Spells value octets
 Reads Spells octets (Err fault) = Refuses Spells octets fault
 
--- malformed is what begins with no value
+-- an error that a parser of a value at the start of the octets may return: `Malformed` only if they begin
+-- with a spelling of none, `Memory` always
 abbrev pub RefusesFront : {A : Type 0} → (A → List ℕ → Type 0) → List ℕ → WireFault → Type 0
 RefusesFront Spells octets Malformed = BeginsWithNone Spells octets
 RefusesFront Spells octets Memory = Unit {0}
 
--- ---- a path without segments, one segment as it is joined, and its front in octets
+-- ---- an empty path, a segment that may be empty, and a segment at the start of octets
 
--- a path without segments
+-- the path without segments
 abbrev pub no_path : AsPath
 no_path = record { segments = [] }
 
--- a segment of these numbers, but no sequence of none
+-- the list of one segment of this kind and these AS numbers, but no segment for a sequence of none
 abbrev pub piece : SegmentKind → List ℕ → List Segment
 piece AsSequence [] = []
 piece kind ns = record { numbers = ns; kind = kind } ∷ []
 
--- the octets begin with the kind of a segment, its count, which isn't 0, and as many octets as its numbers have
+-- the octets are the type of a segment of this kind, its count of AS numbers, from 1 to 255, as many octets
+-- `body` as these numbers take, and then `rest`
 pub record IsFramed (width : AsWidth) (kind : SegmentKind) (count : ℕ) (body rest octets : List ℕ) : Type 0 where
   pub some : 0 < count
   pub fits : count < 256
   pub size : length body ≡ octets_at width * count
   pub whole : octets ≡ kind_code kind ∷ count ∷ (body ++ rest)
 
--- ---- what printing does to a text, and the marks in the order in which it prints them
+-- ---- texts
 
--- the marks in the order in which they are printed
+-- the octets of the marks in the order in which they are printed
 abbrev pub all_marks : Marks → List ℕ
 all_marks marks = marks.open ∷ marks.separator ∷ marks.close ∷ []
 
--- the old text still stands in front of the new one
+-- the new text begins with the old one
 abbrev pub StillBegins : List ℕ → List ℕ → Type 0
 StillBegins old new = (more : List ℕ) × (new ≡ old ++ more)
 
--- words behind a text of this length, each ended by a separator, are joined by it now
+-- `new` is `old` without the separator after its last word: wherever `old` is a text of `before` octets and
+-- then words with a separator after each, `new` is this text and the words joined by the separator
 abbrev pub WordsJoined : ℕ → List ℕ → List ℕ → Type 0
 WordsJoined before old new =
     (text : List ℕ) (separator : ℕ) (words : List (List ℕ)) → length text ≡ before

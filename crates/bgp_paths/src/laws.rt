@@ -1,6 +1,6 @@
 //! Theorems about the definitions that the contracts of this crate cite. The functions have no code
-//! and nothing calls them: what they state is proved as the crate is checked. `docs/proved.md`
-//! names them.
+//! and nothing calls them: their `ensures` clauses are proved as the crate is checked.
+//! `docs/proved.md` names them.
 
 ghost use Rattle.std.specs.Prelude.{◌≡◌, ℕ, List, [], ◌∷◌, codes};
 ghost use Rattle.ip_prefix.specs.declared.text.TheConstants.{COLON};
@@ -13,27 +13,28 @@ ghost use Rattle.bgp_paths.specs.Merge.{IsMerge, path_weight};
 ghost use Rattle.bgp_paths.specs.Path.{SpellsPath};
 ghost use Rattle.bgp_paths.specs.Readers.{all_marks};
 
-/// Proves that octets spell at most one path with AS numbers of one width.
+/// States that octets encode at most one AS path with AS numbers of a given width.
 pub fn one_path()
     ensures { (width : AsWidth) (octets : List ℕ) (path other : AsPath) →
         SpellsPath width path octets → SpellsPath width other octets → path ≡ other }
 {}
 
-/// Proves that a merged path counts as many ASes as the first of the two paths (RFC 6793, section
+/// States that the merge of two paths counts as many ASes as the first of them (RFC 6793, section
 /// 4.2.3).
 pub fn merge_keeps_the_weight()
     ensures { (first second path : AsPath) → IsMerge first second path →
         path_weight path ≡ path_weight first }
 {}
 
-/// Proves that any two paths have a merged path, and only one.
+/// States that any two paths have exactly one merge.
 pub fn one_merge()
     ensures some { (first second : AsPath) → (path : AsPath) × IsMerge first second path }
     ensures one { (first second path other : AsPath) →
         IsMerge first second path → IsMerge first second other → path ≡ other }
 {}
 
-/// Proves which characters the marks of the printed texts are.
+/// States which characters the constants are that printed paths and communities are joined and
+/// bracketed with.
 pub fn text_marks()
     ensures between { SPACE ∷ COLON ∷ [] ≡ codes " :" }
     ensures sets { all_marks AS_SET_MARKS ≡ codes "{,}" }
@@ -41,7 +42,7 @@ pub fn text_marks()
     ensures confederation_sets { all_marks CONFED_SET_MARKS ≡ codes "[,]" }
 {}
 
-/// Proves the values of the numbers that the definitions name: the types of segments (RFC 4271,
+/// States the values of the constants that the definitions name: the types of segments (RFC 4271,
 /// section 4.3; RFC 5065, section 3) and the well-known communities (RFC 1997).
 pub fn path_numbers()
     ensures segments { (AS_SET ≡ 1) × (AS_SEQUENCE ≡ 2) × (AS_CONFED_SEQUENCE ≡ 3)

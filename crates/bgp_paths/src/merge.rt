@@ -11,9 +11,10 @@ use crate::path_reader::fit;
 use crate::segment::{AsNumbers, Segment, SegmentKind};
 use std::alloc::{AllocError, Global};
 
-/// Returns the AS_PATH `first` merged with the AS4_PATH `second` (RFC 6793, section 4.2.3): the
-/// beginning of `first` that counts as many ASes as `second` lacks, then `second` without its
-/// confederation segments. If `first` counts fewer ASes than `second`, returns a copy of `first`.
+/// Merges the AS_PATH `first` with the AS4_PATH `second` (RFC 6793, section 4.2.3). Returns the
+/// longest beginning of `first` that counts as many ASes as `second` lacks, followed by `second`
+/// without its confederation segments. If `first` counts fewer ASes than `second`, returns a copy
+/// of `first`.
 pub fn merge_paths(alloc: Global, first: &AsPath, second: &AsPath) -> Result<AsPath, AllocError>
     ensures { IfOk result (IsMerge first.now second.now) }
 {
@@ -38,7 +39,8 @@ pub fn merge_paths(alloc: Global, first: &AsPath, second: &AsPath) -> Result<AsP
     })
 }
 
-/// Returns the number of ASes that a path counts (RFC 6793, section 4.2.3).
+/// Returns the number of ASes that `path` counts, as [`weigh_segment`] counts them (RFC 6793,
+/// section 4.2.3).
 fn weigh(path: &AsPath) -> u128
     ensures { result ≡ path_weight path.now }
 {
@@ -49,8 +51,8 @@ fn weigh(path: &AsPath) -> u128
     total
 }
 
-/// Returns the number of ASes that a segment counts: all of a sequence, one for a set, and none for
-/// a confederation segment (RFC 5065, section 5.3).
+/// Returns the number of ASes that `segment` counts: each of a sequence, one for a set, and none
+/// for a confederation segment (RFC 4271, section 9.1.2.2; RFC 5065, section 5.3).
 fn weigh_segment(segment: &Segment) -> usize
     ensures { result ≡ segment_weight segment.now }
 {
@@ -61,8 +63,8 @@ fn weigh_segment(segment: &Segment) -> usize
     }
 }
 
-/// Appends to `path` the longest beginning of `segments` that counts `weight` ASes. A sequence may
-/// be cut. On error, `path` is unspecified.
+/// Appends to `path` the longest beginning of `segments` that counts `weight` ASes, which
+/// `segments` must count at least. A sequence may be cut. On error, `path` is unspecified.
 fn push_front(
     alloc: Global,
     segments: &[Segment],
@@ -92,8 +94,8 @@ fn push_front(
     Ok(())
 }
 
-/// Appends to `path` a segment of these AS numbers, or nothing if it is a sequence without numbers.
-/// On error, `path` is unspecified.
+/// Appends a segment of `kind` and `numbers` to `path`, or nothing if it would be a sequence
+/// without AS numbers. On error, `path` is unspecified.
 fn push_segment(
     alloc: Global,
     kind: SegmentKind,

@@ -1,6 +1,6 @@
-//! Parsing lists of AS numbers and of communities, which are sent in network byte order.
-//! `path_reader.rt` parses segments with it, and `bgp_wire` communities. Read [`fill_numbers`]
-//! first.
+//! Parsers of lists of AS numbers and of communities, which are sent in network byte order.
+//! `path_reader.rt` parses segments with [`fill_numbers`], and `bgp_wire` communities; read that
+//! function first.
 
 ghost use Rattle.std.specs.Prelude.{◌≡◌, ◌≤◌, ◌<◌, ◌+◌, ◌/◌, ◌%◌, ◌^◌, [], length, OnOk, IfErr, vec_capacity};
 ghost use Rattle.std.specs.Int.{to_be_bytes, w16};
@@ -12,7 +12,7 @@ use crate::fault::WireFault;
 use byteorder::{BigEndian, ByteOrder};
 use std::alloc::AllocError;
 
-/// The size of an AS number in octets.
+/// The size of AS numbers.
 #[derive(Clone, Copy, Debug, PartialEq, Eq)]
 pub enum AsWidth {
     /// Two octets, as before RFC 6793.
@@ -22,7 +22,7 @@ pub enum AsWidth {
 }
 
 impl AsWidth {
-    /// Returns the size of an AS number, in octets.
+    /// Returns the size of an AS number, in octets: 2 or 4.
     #[inline]
     pub fn octets(self) -> usize
         ensures { result ≡ octets_at self }
@@ -33,8 +33,7 @@ impl AsWidth {
         }
     }
 
-    /// Returns the big-endian AS number that `octets` spell. There must be [`AsWidth::octets`] of
-    /// them.
+    /// Parses `octets` as a big-endian AS number. There must be [`AsWidth::octets`] of them.
     #[inline]
     pub fn number(self, octets: &[u8]) -> u32
         requires { length octets.now ≡ octets_at self }
@@ -47,8 +46,7 @@ impl AsWidth {
     }
 }
 
-/// Replaces `numbers` with an empty list whose capacity is exactly `count`. On error, `numbers` is
-/// unspecified.
+/// Replaces `numbers` with an empty vector of capacity `count`. On error, `numbers` is unspecified.
 #[inline(never)]
 fn replace_room(numbers: &mut Vec<u32>, count: usize) -> Result<(), AllocError>
     ensures none { OnOk result (numbers.new.items ≡ []) }
@@ -59,8 +57,8 @@ fn replace_room(numbers: &mut Vec<u32>, count: usize) -> Result<(), AllocError>
     Ok(())
 }
 
-/// Clears `numbers`, and makes its capacity at least `count` and at most `count + spare`. On error,
-/// `numbers` is unspecified.
+/// Clears `numbers`, and reallocates it if its capacity isn't from `count` to `count + spare`. On
+/// error, `numbers` is unspecified.
 #[inline(always)]
 pub(crate) fn make_room(numbers: &mut Vec<u32>, count: usize, spare: u8) -> Result<(), AllocError>
     requires small { count < 2 ^ 62 }
@@ -77,8 +75,8 @@ pub(crate) fn make_room(numbers: &mut Vec<u32>, count: usize, spare: u8) -> Resu
     Ok(())
 }
 
-/// Appends the big-endian numbers of `width` of which `octets` consist to `numbers`, which must be
-/// empty and have capacity for them.
+/// Parses `octets` as big-endian numbers of `width`, and appends them to `numbers`, which must be
+/// empty and have capacity for them. `octets` must not end inside a number.
 #[inline(always)]
 fn push_numbers(width: AsWidth, octets: &[u8], numbers: &mut Vec<u32>)
     requires whole { length octets.now % octets_at width ≡ 0 }
@@ -97,9 +95,10 @@ fn push_numbers(width: AsWidth, octets: &[u8], numbers: &mut Vec<u32>)
     }
 }
 
-/// Replaces `numbers` with the big-endian numbers of `width` of which `octets` consist. The
-/// capacity is at most `spare` above their count. Returns `Malformed` if `octets` ends inside a
-/// number. On error, `numbers` is unspecified.
+/// Parses `octets` as big-endian numbers of `width`, and replaces `numbers` with them. The memory
+/// of `numbers` is reused unless its capacity is too small, or more than `spare` above what is
+/// needed. Returns `Malformed` if `octets` ends inside a number. On error, `numbers` is
+/// unspecified.
 #[inline(always)]
 pub fn fill_numbers(
     numbers: &mut Vec<u32>,

@@ -24,10 +24,10 @@ impl Clone for ListOf<Segment> {
     }
 }
 
-/// An AS path: the ASes that a route has passed through (RFC 4271, section 4.3).
+/// An AS path: the ASes that a route has passed through (RFC 4271, section 5.1.2).
 #[derive(Clone, Debug, Drop)]
 pub struct AsPath {
-    /// The segments, the latest first.
+    /// The segments as they are sent, those of the latest ASes first.
     pub segments: Segments,
 }
 
@@ -42,7 +42,7 @@ impl AsPath {
         }
     }
 
-    /// Removes all segments from the path.
+    /// Removes all segments. Capacity for more than four segments is freed.
     #[inline]
     pub fn clear(&mut self)
         ensures { self.new ≡ no_path }
@@ -52,8 +52,9 @@ impl AsPath {
         fit(segments);
     }
 
-    /// Replaces the path with the one that `octets` spell with AS numbers of `width`, reusing its
-    /// memory. Returns `Malformed` if `octets` spell no path. On error, the path is unspecified.
+    /// Parses `octets` as an AS path with AS numbers of `width` (RFC 4271, section 4.3), and
+    /// replaces the path with it, reusing its memory. Returns `Malformed` if `octets` has another
+    /// form. On error, the path is unspecified.
     #[inline]
     pub fn fill(&mut self, alloc: Global, width: AsWidth, octets: &[u8]) -> Result<(), WireFault>
         ensures filled { OnOk result (SpellsPath width self.new octets.now) }

@@ -1,5 +1,5 @@
-//! Parsing AS paths (RFC 4271, section 4.3; RFC 5065, section 3). `AsPath::fill` calls
-//! [`fill_segments`]; read that first.
+//! A parser of AS paths (RFC 4271, section 4.3; RFC 5065, section 3). `AsPath::fill` calls
+//! [`fill_segments`]; read that function first.
 
 ghost use Rattle.std.specs.Prelude.{◌≡◌, ℕ, [], ◌∷◌, ◌++◌, OnOk, IfErr, IfSome, IfNone};
 ghost use Rattle.ip_prefix.specs.Sequences.{SpellsAll};
@@ -25,7 +25,7 @@ const AS_CONFED_SET: u8 = 4;
 /// one more, the capacity is shrunk to their number.
 const MOST_SPARE: usize = 4;
 
-/// The segment at the start of octets: its kind (RFC 4271, section 4.3; RFC 5065, section 3), the
+/// A segment at the start of a slice: its kind (RFC 4271, section 4.3; RFC 5065, section 3), the
 /// octets of its AS numbers, and the octets after it.
 #[derive(Clone, Copy)]
 struct FramedSegment<'a> {
@@ -34,8 +34,9 @@ struct FramedSegment<'a> {
     rest: &'a [u8],
 }
 
-/// Finds the segment with AS numbers of `width` at the start of `octets`. Returns `None` if its
-/// type is unknown, its count of AS numbers is 0, or `octets` ends inside it.
+/// Splits a segment with AS numbers of `width` off the start of `octets`. Its AS numbers aren't
+/// parsed. Returns `None` if its type is unknown, its count of AS numbers is 0, or `octets` ends
+/// inside it.
 #[inline(always)]
 fn frame_segment(width: AsWidth, octets: &[u8]) -> Option<FramedSegment<'_>>
     ensures some { IfSome result (λ f. (count : ℕ)
@@ -59,8 +60,8 @@ fn frame_segment(width: AsWidth, octets: &[u8]) -> Option<FramedSegment<'_>>
     Some(FramedSegment { kind, body, rest })
 }
 
-/// Shrinks the capacity of `segments` to their number. If memory allocation fails, the capacity
-/// stays.
+/// Shrinks the capacity of `segments` to their number. If memory allocation fails, the capacity is
+/// unchanged.
 #[inline(never)]
 fn shrink(segments: &mut Vec<Segment>)
     ensures { segments.new.items ≡ segments.old.items }
@@ -69,8 +70,8 @@ fn shrink(segments: &mut Vec<Segment>)
     segments.shrink_to_fit();
 }
 
-/// Shrinks the capacity of `segments` to their number if it exceeds that by more than
-/// [`MOST_SPARE`]. If memory allocation fails, the capacity stays.
+/// Shrinks the capacity of `segments` to their number if it is more than [`MOST_SPARE`] above it.
+/// If memory allocation fails, the capacity is unchanged.
 #[inline(always)]
 pub(crate) fn fit(segments: &mut Vec<Segment>)
     ensures { segments.new.items ≡ segments.old.items }
@@ -95,8 +96,9 @@ pub(crate) fn push_empty(alloc: Global, segments: &mut Vec<Segment>) -> Result<(
     Ok(())
 }
 
-/// Replaces `segments` with those that `octets` spell with AS numbers of `width`, reusing their
-/// memory. Returns `Malformed` if `octets` spell no path. On error, `segments` is unspecified.
+/// Parses `octets` as segments with AS numbers of `width`, and replaces `segments` with them,
+/// reusing their memory. Returns `Malformed` if `octets` has another form. On error, `segments` is
+/// unspecified.
 #[inline(always)]
 pub(crate) fn fill_segments(
     alloc: Global,

@@ -1,5 +1,5 @@
-//! Copies of paths and numbers that reuse the memory of others. `bgp_wire` calls [`copy_path`] and
-//! [`copy_numbers`] to copy the attributes of a route over those of another.
+//! Copies of AS paths and of numbers that reuse the memory of others. `bgp_wire` calls
+//! [`copy_path`] and [`copy_numbers`] to copy the attributes of a route over those of another.
 
 ghost use Rattle.std.specs.Prelude.{◌≡◌, IfOk};
 
@@ -10,8 +10,8 @@ use crate::segment::MOST_SPARE;
 use std::alloc::{AllocError, Global};
 use std::mem;
 
-/// Returns a copy of `numbers` that reuses the memory of `old`. Memory is allocated if the capacity
-/// of `old` is too small, or more than `spare` above the number of `numbers`.
+/// Returns a copy of `numbers` in the memory of `old`. Memory is allocated only if the capacity of
+/// `old` is too small, or more than `spare` above the length of `numbers`.
 pub fn copy_numbers(old: Vec<u32>, numbers: &[u32], spare: u8) -> Result<Vec<u32>, AllocError>
     ensures { IfOk result (λ copy. copy.items ≡ numbers.now) }
 {
@@ -21,7 +21,8 @@ pub fn copy_numbers(old: Vec<u32>, numbers: &[u32], spare: u8) -> Result<Vec<u32
     Ok(copy)
 }
 
-/// Returns a copy of `path` that reuses the memory of `old`.
+/// Returns a copy of `path` in the memory of `old`. More memory is allocated where that of `old` is
+/// too small.
 pub fn copy_path(alloc: Global, old: AsPath, path: &AsPath) -> Result<AsPath, AllocError>
     ensures { IfOk result (λ copy. copy ≡ path.now) }
 {

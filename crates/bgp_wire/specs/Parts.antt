@@ -1,5 +1,6 @@
 -- Private.
--- An UPDATE in parts, absent attributes, and the front of MP_REACH_NLRI.
+-- An UPDATE in parts, whose memory parsers reuse, attributes that are absent, and the AFI and SAFI at the
+-- start of MP_REACH_NLRI and MP_UNREACH_NLRI.
 use Rattle.std.specs.Prelude.{false, [], None, ◌≡◌, ℕ, List, Option, ◌<◌, ◌++◌, length, Some}
 use Rattle.bgp_wire.specs.declared.attrs.Attrs.{Attrs}
 use Rattle.bgp_paths.specs.Readers.{no_path}
@@ -18,9 +19,9 @@ use Rattle.bgp_wire.specs.declared.reach.Scope.TheVariants.{Unicast, Another}
 use Rattle.bgp_wire.specs.declared.message.Message.TheVariants as messages
 use Rattle.bgp_wire.specs.declared.parts.MessageKind.TheVariants as kinds
 
--- ---- attributes that aren't there
+-- ---- absent attributes
 
--- attributes of which none is there
+-- attributes that are all absent
 abbrev pub no_attrs : Attrs
 no_attrs = record {
   next_hop = None;
@@ -33,13 +34,13 @@ no_attrs = record {
   atomic = false;
 }
 
--- the same attributes without path and communities
+-- the attributes with an empty path and no communities
 abbrev pub without_lists : Attrs → Attrs
 without_lists attrs = record attrs { path = no_path; communities = [] }
 
 -- ---- an UPDATE in parts
 
--- those of an UPDATE that says nothing
+-- the parts of an UPDATE without prefixes and attributes
 abbrev pub no_parts : UpdateParts
 no_parts = record {
   withdrawn = [];
@@ -50,7 +51,7 @@ no_parts = record {
   mp_announced = [];
 }
 
--- the UPDATE of these parts
+-- the UPDATE of these parts: the attributes of the prefixes of MP_REACH_NLRI are the others with its next hop
 abbrev pub update_in : UpdateParts → Update
 update_in parts = record {
   withdrawn = parts.withdrawn;
@@ -61,27 +62,30 @@ update_in parts = record {
   mp_announced = parts.mp_announced;
 }
 
--- the message of this kind, whose parts these are if it is an UPDATE
+-- the message of this kind: the UPDATE of the parts, or a message of another type, which has none
 abbrev pub message_in : MessageKind → UpdateParts → Message
 message_in kinds.Update parts = messages.Update (update_in parts)
 message_in (kinds.Other kind) parts = messages.Other kind
 
--- what attributes say of these parts
+-- the attributes of the parts, and the prefixes and the next hop of their MP_REACH_NLRI and MP_UNREACH_NLRI,
+-- are those of `list`. The other prefixes may be any
 pub record SaysParts (width : AsWidth) (parts : UpdateParts) (list : List Attribute) : Type 0 where
   pub reach : Option Reach
   pub together : SaysTogether width parts.attrs reach parts.mp_withdrawn list
   pub hop : parts.mp_hop ≡ reach_hop reach
   pub announced : parts.mp_announced ≡ reach_prefixes reach
 
--- the octets of attributes that say this
+-- the octets are a list of path attributes, and these parts are its content but for the prefixes outside of
+-- it
 pub record SpellsParts (width : AsWidth) (parts : UpdateParts) (octets : List ℕ) : Type 0 where
   pub list : List Attribute
   pub spelled : SpellsAll SpellsAttribute list octets
   pub said : SaysParts width parts list
 
--- ---- how octets begin with an address family and its use, and attributes with a next hop of their own
+-- ---- the AFI and the SAFI at the start of octets
 
--- how the octets begin, as far as that is told by a family and its use; too few begin with neither
+-- what a parser of an AFI and a SAFI finds at the start of the octets: `None` if there are fewer than three
+-- octets, the family and the octets after them if they are of IPv4 or IPv6 unicast, or else `Another`
 abbrev pub BeginsIn : List ℕ → Option Scope → Type 0
 BeginsIn octets None = length octets < FAMILY_SIZE
 BeginsIn octets (Some Another) = IsOfAnother octets

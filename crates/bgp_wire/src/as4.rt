@@ -1,4 +1,4 @@
-//! Merging of AS4_PATH and AS4_AGGREGATOR into attributes whose AS numbers have two octets (RFC
+//! The merge of AS4_PATH and AS4_AGGREGATOR into attributes with AS numbers of two octets (RFC
 //! 6793, section 4.2.3). The parsers of UPDATEs and of RIB entries call [`join_passed`] after they
 //! have parsed a list of attributes (`attribute_list.rt`).
 
@@ -15,13 +15,13 @@ use crate::values::read_as4_aggregator;
 use bgp_paths::{AsPath, AsWidth, WireFault, merge_paths};
 use std::alloc::Global;
 
-/// The AS number that replaces one of four octets where only two are sent (RFC 6793, section 9).
+/// The AS number that stands for one of four octets where only two are sent (RFC 6793, section 9).
 const AS_TRANS: u32 = 23456;
 
-/// Merges AS4_PATH and AS4_AGGREGATOR into the path and the aggregator of `attrs`, if the AS
-/// numbers of these have two octets as `width` says (RFC 6793, section 4.2.3). The next hop is left
-/// as it was. On error, which means that memory allocation fails, the rest of `attrs` is
-/// unspecified.
+/// Merges the AS4_PATH and the AS4_AGGREGATOR of `later` into the path and the aggregator of
+/// `attrs`, if their AS numbers have two octets, as `width` says (RFC 6793, section 4.2.3). With
+/// four octets, both are ignored. The next hop is unchanged. On error, which is always `Memory`,
+/// the rest of `attrs` is unspecified.
 #[inline(always)]
 pub(crate) fn join_passed(
     alloc: Global,
@@ -43,9 +43,11 @@ pub(crate) fn join_passed(
     }
 }
 
-/// Merges AS4_PATH and AS4_AGGREGATOR into the path and the aggregator of `attrs`, whose AS numbers
-/// have two octets (RFC 6793, section 4.2.3). The next hop is left as it was. On error, which means
-/// that memory allocation fails, the rest of `attrs` is unspecified.
+/// Merges the AS4_PATH and the AS4_AGGREGATOR of `later` into the path and the aggregator of
+/// `attrs`, whose AS numbers have two octets (RFC 6793, section 4.2.3). One that is absent or
+/// malformed is ignored, and so is AS4_AGGREGATOR without AGGREGATOR. If both aggregators are
+/// present and the AS number of AGGREGATOR isn't AS_TRANS, AS4_PATH is ignored too. The next hop is
+/// unchanged. On error, which is always `Memory`, the rest of `attrs` is unspecified.
 #[inline(never)]
 fn join_as4(alloc: Global, attrs: &mut Attrs, later: &LaterValues) -> Result<(), WireFault>
     ensures said { OnOk result ((list : List Attribute) →

@@ -1,6 +1,5 @@
-//! A parser of a list of path attributes (RFC 4271, section 4.3), which takes the first attribute
-//! of each type. The parsers of UPDATEs and of RIB entries call [`read_list`]; read that function
-//! first.
+//! A parser of lists of path attributes (RFC 4271, section 4.3). Of each type, the first attribute
+//! counts. The parsers of UPDATEs and of RIB entries call [`read_list`]; read that function first.
 
 ghost use Rattle.std.specs.Prelude.{◌≡◌, ◌<◌, [], Some, OnOk, OnErr, IfErr};
 ghost use Rattle.bgp_wire.specs.declared.framing.TheConstants.{KINDS};
@@ -18,16 +17,16 @@ use crate::values::{fill_presence, put_found, read_aggregator, read_ipv4, read_o
 use bgp_paths::{AsWidth, WireFault, fill_numbers};
 use std::alloc::Global;
 
-/// The octets of a list of path attributes, and the width of the AS numbers in its AS_PATH.
+/// The octets of a list of path attributes, and the size of the AS numbers in its AS_PATH.
 #[derive(Clone, Copy)]
 pub(crate) struct SentList<'a> {
     pub(crate) octets: &'a [u8],
     pub(crate) width: AsWidth,
 }
 
-/// The values of the attributes that are parsed after the list, because they depend on other
-/// attributes or on the message that has the list. Each is of the first attribute of its type, or
-/// `None` if the list has none.
+/// The values that are parsed after the list, because they depend on other attributes or on the
+/// message: of MP_REACH_NLRI, MP_UNREACH_NLRI, AS4_PATH and AS4_AGGREGATOR. Each is of the first
+/// attribute of its type, or `None` if the list has none.
 #[derive(Clone, Copy, Default)]
 pub(crate) struct LaterValues<'a> {
     pub(crate) reach: Option<&'a [u8]>,
@@ -36,9 +35,10 @@ pub(crate) struct LaterValues<'a> {
     pub(crate) as4_aggregator: Option<&'a [u8]>,
 }
 
-/// Parses the value of `framed`, the first attribute of its type, into `attrs`, or stores its
-/// octets in `later`. Other types are ignored. Fails with `Malformed` if the value has another
-/// form, or with `Memory` if memory allocation fails; `attrs` is unspecified then.
+/// Parses the value of `framed`, which must be the first attribute of its type, into `attrs`, or
+/// stores its octets in `later`. Values of other types are ignored. Fails with `Malformed` if the
+/// value doesn't have the form of its type, and with `Memory` if memory allocation fails. On error,
+/// `attrs` is unspecified.
 #[inline(always)]
 fn read_first<'a>(
     alloc: Global,
@@ -78,8 +78,8 @@ fn read_first<'a>(
     Ok(())
 }
 
-/// Clears the path or the communities of `attrs` if the list whose types are `types` doesn't have
-/// them. Frees the memory of the cleared communities if it has capacity for more than
+/// Clears the path of `attrs` if `types` lacks AS_PATH, and the communities if it lacks
+/// COMMUNITIES. The memory of cleared communities is freed if it has capacity for more than
 /// [`MOST_SPARE`].
 #[inline]
 fn clear_unseen(attrs: &mut Attrs, types: &SeenTypes)
@@ -107,8 +107,9 @@ fn let_go(communities: &mut Communities)
 
 /// Parses the list `sent` into `attrs`, whose memory is reused, and into `later` and `types`, which
 /// must be empty before. Attributes that the list doesn't have become `None`, false or empty. Fails
-/// with `Malformed` if the list has another form, or with `Memory` if memory allocation fails;
-/// `attrs`, `later` and `types` are unspecified then.
+/// with `Malformed` if `sent` isn't a list of attributes or if a value doesn't have the form of its
+/// type, and with `Memory` if memory allocation fails. On error, `attrs`, `later` and `types` are
+/// unspecified.
 #[inline(always)]
 pub(crate) fn read_list<'a>(
     alloc: Global,

@@ -1,4 +1,4 @@
-//! A parser of BGP messages (RFC 4271, section 4) and of the path attributes of RIB entries (RFC
+//! Parsers of BGP messages (RFC 4271, section 4) and of the path attributes of RIB entries (RFC
 //! 6396, section 4.3.4). Parsers of MRT records call [`replace_message`] and [`replace_rib_attrs`].
 //! Read `attrs.rt` and `parts.rt` first, for what is parsed, then `attribute_list.rt`, which parses
 //! a list of attributes, then `update.rt` and `rib_entry.rt`.

@@ -32,7 +32,7 @@ const HEADER_SIZE: usize = 19;
 /// The size of the marker, in octets (RFC 4271, section 4.1).
 const MARKER_SIZE: usize = 16;
 
-/// The type and the body of a message.
+/// A message split into its type and its body, which isn't parsed.
 #[derive(Clone, Copy)]
 struct FramedMessage<'a> {
     kind: u8,
@@ -59,8 +59,9 @@ fn frame_message(octets: &[u8]) -> Option<FramedMessage<'_>>
     Some(FramedMessage { kind, body })
 }
 
-/// Parses the message `octets`, whose AS_PATH has AS numbers of `width`. Fails with `Malformed` if
-/// the octets have another form, or with `Memory` if memory allocation fails.
+/// Parses `octets` as a message, with AS numbers of `width` in AS_PATH. Fails with `Malformed` if
+/// `octets` isn't one message, with a well-formed body if it is an UPDATE, and with `Memory` if
+/// memory allocation fails.
 pub fn read_message(alloc: Global, width: AsWidth, octets: &[u8]) -> Result<Message, WireFault>
     ensures { Reads (SpellsMessage width) octets.now result }
 {
@@ -71,9 +72,9 @@ pub fn read_message(alloc: Global, width: AsWidth, octets: &[u8]) -> Result<Mess
     }
 }
 
-/// Parses the message `octets`, whose AS_PATH has AS numbers of `width`, into `parts` if it is an
-/// UPDATE; a message of another type leaves them unchanged. Fails with `Malformed` if the octets
-/// have another form, or with `Memory` if memory allocation fails; `parts` is unspecified then.
+/// Parses `octets` as a message, with AS numbers of `width` in AS_PATH, and returns its kind. Sets
+/// `parts` to an UPDATE; a message of another type leaves them unchanged. Fails as [`read_message`]
+/// does. On error, `parts` is unspecified.
 #[inline]
 fn fill_message(
     alloc: Global,
@@ -96,10 +97,9 @@ fn fill_message(
     Ok(MessageKind::Update)
 }
 
-/// Parses the message `octets`, whose AS_PATH has AS numbers of `width`, into `parts` if it is an
-/// UPDATE, and reuses their memory. A message of another type leaves them unchanged. Fails with
-/// `Malformed` if the octets have another form, or with `Memory` if memory allocation fails;
-/// `parts` is empty then.
+/// Parses `octets` as a message, with AS numbers of `width` in AS_PATH, and returns its kind. Sets
+/// `parts` to an UPDATE, reusing their memory; a message of another type leaves them unchanged.
+/// Fails as [`read_message`] does. On error, `parts` is empty.
 pub fn replace_message(
     alloc: Global,
     parts: &mut UpdateParts,

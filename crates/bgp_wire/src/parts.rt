@@ -1,5 +1,5 @@
 //! A parsed UPDATE (RFC 4271, section 4.3), in two forms. Messages are parsed into [`UpdateParts`],
-//! whose memory is reused for the next; [`Update`] is for a caller that keeps it.
+//! whose memory is reused for the next message; [`Update`] is for a caller that keeps it.
 
 ghost use Rattle.std.specs.Prelude.{◌≡◌, IfOk};
 ghost use Rattle.bgp_wire.specs.Reach.{attrs_with};
@@ -59,7 +59,7 @@ pub enum MessageKind {
 }
 
 impl UpdateParts {
-    /// Returns the parts of an UPDATE without prefixes and attributes, without allocating memory.
+    /// Returns an UPDATE without prefixes and attributes, without allocating memory.
     pub fn none(alloc: Global) -> UpdateParts
         ensures { result ≡ no_parts }
     {
@@ -73,8 +73,8 @@ impl UpdateParts {
         }
     }
 
-    /// Converts the parts into an [`Update`]. The attributes are copied if `mp_announced` has
-    /// prefixes; fails if memory allocation for the copy fails.
+    /// Converts the parts into an [`Update`]. If `mp_announced` has prefixes, the attributes are
+    /// copied for them, which fails if memory allocation fails.
     pub fn into_update(self) -> Result<Update, AllocError>
         ensures { IfOk result (λ update. update ≡ update_in self) }
     {

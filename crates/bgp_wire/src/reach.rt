@@ -13,25 +13,25 @@ use crate::prefixes::{Prefixes, fill_prefixes};
 use bgp_paths::WireFault;
 use ip_prefix::{Addr, Family};
 
-/// The address family of IPv4, which is sent in two octets (RFC 4760, section 3).
+/// The AFI of IPv4, which is sent in two octets (RFC 4760, section 3).
 const AFI_IPV4: u8 = 1;
-/// The address family of IPv6, which is sent in two octets (RFC 4760, section 3).
+/// The AFI of IPv6, which is sent in two octets (RFC 4760, section 3).
 const AFI_IPV6: u8 = 2;
-/// The subsequent address family of unicast (RFC 4760, section 6).
+/// The SAFI of unicast (RFC 4760, section 6).
 const SAFI_UNICAST: u8 = 1;
 
-/// The address families at the start of the value of MP_REACH_NLRI or MP_UNREACH_NLRI.
+/// The AFI and the SAFI at the start of the value of MP_REACH_NLRI or MP_UNREACH_NLRI (RFC 4760,
+/// sections 3 and 4).
 #[derive(Clone, Copy)]
 enum Scope<'a> {
-    /// Unicast of a family, and the octets after the address families.
+    /// Unicast of IPv4 or IPv6, and the octets after the SAFI.
     Unicast(Family, &'a [u8]),
-    /// Another address family, or another subsequent address family.
+    /// Another AFI, or another SAFI.
     Another,
 }
 
-/// Parses the address family, of two octets, and the subsequent address family, of one, at the
-/// start of `octets` (RFC 4760, sections 3 and 4). Returns `None` if `octets` has fewer than three
-/// octets.
+/// Parses the AFI, of two octets, and the SAFI, of one, at the start of `octets` (RFC 4760,
+/// sections 3 and 4). Returns `None` if `octets` has fewer than three octets.
 fn read_scope(octets: &[u8]) -> Option<Scope<'_>>
     ensures { BeginsIn octets.now result }
 {
@@ -43,16 +43,16 @@ fn read_scope(octets: &[u8]) -> Option<Scope<'_>>
     }
 }
 
-/// A next hop at the start of a slice, and the octets after it and after its reserved octet.
+/// A next hop at the start of a slice, and the octets after the reserved octet that follows it.
 #[derive(Clone, Copy)]
 struct FramedHop<'a> {
     hop: Addr,
     rest: &'a [u8],
 }
 
-/// Parses the next hop at the start of `octets`, between its length, of one octet, and a reserved
-/// octet (RFC 4760, section 3). Returns `None` if `octets` is shorter, or if no next hop has that
-/// length.
+/// Splits a next hop off the start of `octets`: its length, of one octet, its address, and a
+/// reserved octet, which is ignored (RFC 4760, section 3). Returns `None` if `octets` ends before
+/// the reserved octet, or if no next hop has that length.
 fn split_next_hop(octets: &[u8]) -> Option<FramedHop<'_>>
     ensures some { IfSome result (λ f. HopStands f.hop f.rest.now octets.now) }
     ensures none { IfNone result ((hop : Address) (rest : List ℕ) →
@@ -69,10 +69,10 @@ fn split_next_hop(octets: &[u8]) -> Option<FramedHop<'_>>
     Some(FramedHop { hop, rest })
 }
 
-/// Parses the value of MP_REACH_NLRI into `next_hop` and `prefixes` (RFC 4760, section 3). If it is
-/// absent or isn't of IPv4 or IPv6 unicast, they become `None` and empty. Fails with `Malformed` if
-/// the value has another form, or with `Memory` if memory allocation fails; both are unspecified
-/// then.
+/// Parses `value`, the value of MP_REACH_NLRI, into `next_hop` and `prefixes` (RFC 4760, section
+/// 3). If it is absent or isn't of IPv4 or IPv6 unicast, they become `None` and empty. Fails with
+/// `Malformed` if the value has another form, and with `Memory` if memory allocation fails. On
+/// error, both are unspecified.
 pub(crate) fn fill_reach(
     next_hop: &mut Option<Addr>,
     prefixes: &mut Prefixes,
@@ -100,9 +100,10 @@ pub(crate) fn fill_reach(
     }
 }
 
-/// Parses the value of MP_UNREACH_NLRI into `prefixes` (RFC 4760, section 4). If it is absent or
-/// isn't of IPv4 or IPv6 unicast, they become empty. Fails with `Malformed` if the value has
-/// another form, or with `Memory` if memory allocation fails; `prefixes` is unspecified then.
+/// Parses `value`, the value of MP_UNREACH_NLRI, into `prefixes` (RFC 4760, section 4). If it is
+/// absent or isn't of IPv4 or IPv6 unicast, they become empty. Fails with `Malformed` if the value
+/// has another form, and with `Memory` if memory allocation fails. On error, `prefixes` is
+/// unspecified.
 pub(crate) fn fill_unreach(prefixes: &mut Prefixes, value: Option<&[u8]>) -> Result<(), WireFault>
     ensures filled { OnOk result (SaysUnreach prefixes.new (octets_of value.entry)) }
     ensures refused { IfErr result (Refuses SaysUnreach (octets_of value.entry)) }

@@ -1,4 +1,4 @@
-//! A parser of the path attributes of RIB entries (RFC 6396, section 4.3.4). The parser of RIB
+//! Parsers of the path attributes of RIB entries (RFC 6396, section 4.3.4). The parser of RIB
 //! records calls [`replace_rib_attrs`]; read [`fill_rib_attrs`] first.
 
 ghost use Rattle.std.specs.Prelude.{◌≡◌, OnOk, OnErr, IfErr};
@@ -16,9 +16,9 @@ use bgp_paths::{AsWidth, WireFault};
 use ip_prefix::Family;
 use std::alloc::Global;
 
-/// Parses the path attributes `octets` of a RIB entry for a prefix of `family` into `attrs`, with
-/// AS numbers of `width` in AS_PATH (RFC 6396, section 4.3.4). Fails with `Malformed` if the octets
-/// have another form, or with `Memory` if memory allocation fails; `attrs` is unspecified then.
+/// Parses `octets` as the path attributes of a RIB entry for a prefix of `family` into `attrs`,
+/// with AS numbers of `width` in AS_PATH (RFC 6396, section 4.3.4). The memory of `attrs` is
+/// reused. Fails as [`read_rib_attrs`] does. On error, `attrs` is unspecified.
 #[inline]
 fn fill_rib_attrs(
     alloc: Global,
@@ -42,9 +42,10 @@ fn fill_rib_attrs(
     Ok(())
 }
 
-/// Parses the path attributes `octets` of a RIB entry for a prefix of `family`, with AS numbers of
-/// `width` in AS_PATH (RFC 6396, section 4.3.4). Fails with `Malformed` if the octets have another
-/// form, or with `Memory` if memory allocation fails.
+/// Parses `octets` as the path attributes of a RIB entry for a prefix of `family`, with AS numbers
+/// of `width` in AS_PATH (RFC 6396, section 4.3.4). Fails with `Malformed` if `octets` isn't a list
+/// of well-formed attributes, or has MP_REACH_NLRI twice, and with `Memory` if memory allocation
+/// fails.
 pub fn read_rib_attrs(
     alloc: Global,
     family: Family,
@@ -58,9 +59,9 @@ pub fn read_rib_attrs(
     Ok(attrs)
 }
 
-/// Parses the path attributes `octets` of a RIB entry, as [`read_rib_attrs`] does, into `attrs`,
-/// whose memory is reused. Fails with `Malformed` if the octets have another form, or with `Memory`
-/// if memory allocation fails; all attributes are absent then.
+/// Parses `octets` as the path attributes of a RIB entry for a prefix of `family` into `attrs`,
+/// with AS numbers of `width` in AS_PATH (RFC 6396, section 4.3.4). The memory of `attrs` is
+/// reused. Fails as [`read_rib_attrs`] does. On error, all attributes are absent.
 pub fn replace_rib_attrs(
     alloc: Global,
     attrs: &mut Attrs,

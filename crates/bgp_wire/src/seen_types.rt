@@ -1,4 +1,4 @@
-//! A set of the types of attributes that a list has. The parser of lists (`attribute_list.rt`)
+//! The set of the types of attributes that a list has. The parser of lists (`attribute_list.rt`)
 //! fills it, and the parsers of UPDATEs and of RIB entries ask it for types that are there twice.
 
 ghost use Rattle.std.specs.Prelude.{◌≡◌, ◌<◌, List, [], ◌∷◌, ◌++◌, true, false, None, is_some};
@@ -8,8 +8,8 @@ ghost use Rattle.bgp_wire.specs.PlainValues.{Tells};
 use crate::framing::KINDS;
 use std::marker::Model;
 
-/// The types of attributes seen in a list, and those seen more than once. The types are below
-/// [`KINDS`].
+/// The types of attributes that were seen in a list, and those that were seen more than once. Only
+/// types below [`KINDS`] are kept.
 #[derive(Drop)]
 pub(crate) struct SeenTypes {
     seen: [bool; KINDS],
@@ -40,9 +40,9 @@ impl SeenTypes {
         }
     }
 
-    /// Adds the type `kind` of the next attribute of the list, and returns `true` if the list had
-    /// an attribute of this type before. A type that isn't below [`KINDS`] isn't added, and `false`
-    /// is returned for it.
+    /// Adds `kind`, the type of the next attribute of the list. Returns `true` if an attribute of
+    /// this type was seen before. A type that isn't below [`KINDS`] isn't added, and `false` is
+    /// returned.
     #[inline]
     pub(crate) fn note(&mut self, kind: u8) -> bool
         ensures noted { (list : List Attribute) (a : Attribute) → a.kind ≡ kind →

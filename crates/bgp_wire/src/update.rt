@@ -1,5 +1,5 @@
-//! A parser of UPDATE messages (RFC 4271, section 4.3). The parser of messages calls
-//! [`fill_update`]; read that function first.
+//! A parser of the bodies of UPDATE messages (RFC 4271, section 4.3). The parser of messages
+//! (`message.rt`) calls [`fill_update`]; read that function first.
 
 ghost use Rattle.std.specs.Prelude.{◌≡◌, ℕ, ◌<◌, ◌^◌, ◌++◌, List, length, IfSome, IfNone, IfErr, OnOk};
 ghost use Rattle.bgp_wire.specs.Parts.{update_in, SpellsParts};
@@ -18,9 +18,9 @@ use bgp_paths::{AsWidth, WireFault};
 use ip_prefix::Family;
 use std::alloc::Global;
 
-/// Splits a field off that begins with its length, a big-endian 16-bit number of octets. Returns
-/// the field's octets without the length, and the octets after the field. Returns `None` if
-/// `octets` is shorter than the field.
+/// Splits a field off the start of `octets` that begins with its length, of two octets, big-endian.
+/// Returns the octets of the field after its length, and the octets after the field. Returns `None`
+/// if `octets` ends inside the field.
 fn split_sized(octets: &[u8]) -> Option<(&[u8], &[u8])>
     ensures some { IfSome result (λ found. (length found.0.now < 2 ^ 16)
         × (octets.now ≡ sized_octets found.0.now ++ found.1.now)) }
@@ -34,10 +34,11 @@ fn split_sized(octets: &[u8]) -> Option<(&[u8], &[u8])>
     rest.split_at_checked(read_length(len))
 }
 
-/// Parses the path attributes `octets` of an UPDATE into `parts`: its attributes, with AS numbers
-/// of `width` in AS_PATH, and what MP_REACH_NLRI and MP_UNREACH_NLRI announce and withdraw. Fails
-/// with `Malformed` if the octets have another form, or with `Memory` if memory allocation fails;
-/// `parts` is unspecified then.
+/// Parses `octets` as the path attributes of an UPDATE into `parts`: its attributes, with AS
+/// numbers of `width` in AS_PATH, and the prefixes of MP_REACH_NLRI and MP_UNREACH_NLRI. The two
+/// lists of IPv4 prefixes are unchanged. Fails with `Malformed` if `octets` isn't a list of
+/// well-formed attributes, or has one of these two twice, and with `Memory` if memory allocation
+/// fails. On error, `parts` is unspecified.
 #[inline]
 fn fill_said(
     alloc: Global,
@@ -61,9 +62,9 @@ fn fill_said(
     Ok(())
 }
 
-/// Parses the body of an UPDATE into `parts`, with AS numbers of `width` in AS_PATH (RFC 4271,
-/// section 4.3). Fails with `Malformed` if the body has another form, or with `Memory` if memory
-/// allocation fails; `parts` is unspecified then.
+/// Parses `body` as the body of an UPDATE into `parts`, with AS numbers of `width` in AS_PATH (RFC
+/// 4271, section 4.3). Fails with `Malformed` if it has another form, and with `Memory` if memory
+/// allocation fails. On error, `parts` is unspecified.
 #[inline]
 pub(crate) fn fill_update(
     alloc: Global,

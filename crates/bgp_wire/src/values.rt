@@ -35,8 +35,8 @@ const AGGREGATOR_SIZE: usize = 6;
 /// 6793, section 3).
 const AS4_AGGREGATOR_SIZE: usize = 8;
 
-/// Parses the value of ORIGIN (RFC 4271, section 4.3), or returns `None` if it isn't one octet of
-/// 0, 1 or 2.
+/// Parses `value`, the value of ORIGIN (RFC 4271, section 4.3). Returns `None` if it isn't one
+/// octet of 0, 1 or 2.
 #[inline]
 pub(crate) fn read_origin(value: &[u8]) -> Option<Origin>
     ensures { Finds SpellsOrigin value.now result }
@@ -49,8 +49,8 @@ pub(crate) fn read_origin(value: &[u8]) -> Option<Origin>
     }
 }
 
-/// Parses the value of MULTI_EXIT_DISC or of LOCAL_PREF, a big-endian 32-bit number (RFC 4271,
-/// section 4.3), or returns `None` if it doesn't have four octets.
+/// Parses `value`, the value of MULTI_EXIT_DISC or LOCAL_PREF: a big-endian 32-bit number (RFC
+/// 4271, section 4.3). Returns `None` if it doesn't have four octets.
 #[inline]
 pub(crate) fn read_word(value: &[u8]) -> Option<u32>
     ensures { Finds SpellsWord value.now result }
@@ -61,8 +61,8 @@ pub(crate) fn read_word(value: &[u8]) -> Option<u32>
     Some(AsWidth::Four.number(value))
 }
 
-/// Parses the value of NEXT_HOP, an IPv4 address (RFC 4271, section 4.3), or returns `None` if it
-/// doesn't have four octets.
+/// Parses `value`, the value of NEXT_HOP: an IPv4 address (RFC 4271, section 4.3). Returns `None`
+/// if it doesn't have four octets.
 #[inline]
 pub(crate) fn read_ipv4(value: &[u8]) -> Option<Addr>
     ensures { Finds SpellsIPv4 value.now result }
@@ -73,8 +73,8 @@ pub(crate) fn read_ipv4(value: &[u8]) -> Option<Addr>
     Some(ipv4(value))
 }
 
-/// Parses the value of AGGREGATOR (RFC 4271, section 4.3; RFC 6793, section 3). Its length, of 6 or
-/// 8 octets, gives the width of the AS number. Returns `None` for another length.
+/// Parses `value`, the value of AGGREGATOR: an AS number of two or four octets, and an IPv4 address
+/// (RFC 4271, section 4.3; RFC 6793, section 3). Returns `None` if it has neither 6 nor 8 octets.
 pub(crate) fn read_aggregator(value: &[u8]) -> Option<Aggregator>
     ensures { Finds SpellsAggregator value.now result }
 {
@@ -85,8 +85,7 @@ pub(crate) fn read_aggregator(value: &[u8]) -> Option<Aggregator>
     }
 }
 
-/// Sets `place` to `found` if that is some value. Fails if `found` is `None`, and leaves `place` as
-/// it was.
+/// Sets `place` to `found`. Fails if `found` is `None`, and then leaves `place` unchanged.
 #[inline(always)]
 pub(crate) fn put_found<T: Copy>(place: &mut Option<T>, found: Option<T>) -> Result<(), IllFormed>
     ensures put { OnOk result (IsSome found × (place.new ≡ found)) }
@@ -99,8 +98,8 @@ pub(crate) fn put_found<T: Copy>(place: &mut Option<T>, found: Option<T>) -> Res
     Ok(())
 }
 
-/// Sets `atomic` if `value`, the value of ATOMIC_AGGREGATE, is empty (RFC 4271, section 4.3). Fails
-/// if it isn't, and leaves `atomic` as it was.
+/// Sets `atomic` to true if `value`, the value of ATOMIC_AGGREGATE, is empty (RFC 4271, section
+/// 4.3). Fails if it isn't, and then leaves `atomic` unchanged.
 #[inline]
 pub(crate) fn fill_presence(atomic: &mut bool, value: &[u8]) -> Result<(), IllFormed>
     ensures filled { OnOk result (SpellsPresence atomic.new (Some value.now)) }
@@ -113,8 +112,8 @@ pub(crate) fn fill_presence(atomic: &mut bool, value: &[u8]) -> Result<(), IllFo
     Ok(())
 }
 
-/// Parses the value of AS4_AGGREGATOR (RFC 6793, section 3), or returns `None` if it is absent or
-/// doesn't have eight octets.
+/// Parses `value`, the value of AS4_AGGREGATOR: an AS number of four octets, and an IPv4 address
+/// (RFC 6793, section 3). Returns `None` if it is absent or doesn't have eight octets.
 pub(crate) fn read_as4_aggregator(value: Option<&[u8]>) -> Option<Aggregator>
     ensures { SpellsWhereFormed (SpellsAggregatorAt AsWidth.Four) result (octets_of value.entry) }
 {
@@ -126,7 +125,7 @@ pub(crate) fn read_as4_aggregator(value: Option<&[u8]>) -> Option<Aggregator>
     }
 }
 
-/// Parses `octets`, a big-endian AS number of `width` and an IPv4 address, as an aggregator (RFC
+/// Parses `octets` as an aggregator: a big-endian AS number of `width`, and an IPv4 address (RFC
 /// 4271, section 4.3). `octets` must have the length of both.
 fn aggregator(width: AsWidth, octets: &[u8]) -> Aggregator
     requires { length octets.now ≡ octets_at width + IPV4_SIZE }
@@ -137,7 +136,7 @@ fn aggregator(width: AsWidth, octets: &[u8]) -> Aggregator
     Aggregator { addr, asn }
 }
 
-/// Returns the IPv4 address of `octets`, which must be four.
+/// Parses `octets`, which must be four, as an IPv4 address.
 #[inline]
 pub(crate) fn ipv4(octets: &[u8]) -> Addr
     requires { length octets.now ≡ IPV4_SIZE }

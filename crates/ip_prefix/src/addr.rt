@@ -1,4 +1,4 @@
-//! Addresses of IPv4 and IPv6. Peers and next hops are addresses, and `prefix.rt` makes prefixes of
+//! IPv4 and IPv6 addresses. Peers and next hops are addresses, and `prefix.rt` makes prefixes of
 //! them. Read [`Addr`] first.
 
 ghost use Rattle.std.specs.Prelude.{◌≡◌, ◌*◌, ◌+◌, ◌<◌, ◌≤◌, Some, slice_get, refl};
@@ -35,7 +35,7 @@ pub(crate) const GROUP_BITS: usize = 16;
 /// The number of groups of an IPv6 address.
 pub(crate) const GROUP_COUNT: usize = 8;
 
-/// The family of an address or a prefix. IPv4 is ordered before IPv6.
+/// The family of an address or a prefix. `V4` is ordered before `V6`.
 #[derive(Clone, Copy, Debug, PartialEq, Eq, PartialOrd, Ord)]
 pub enum Family {
     /// IPv4, whose addresses have 32 bits (RFC 791).
@@ -45,7 +45,7 @@ pub enum Family {
 }
 
 impl Family {
-    /// Returns the number of bits of an address of the family.
+    /// Returns the number of bits of an address of the family: 32 or 128.
     #[inline]
     pub fn width(self) -> u8
         ensures { result ≡ bit_count self }
@@ -92,7 +92,7 @@ impl Model for Addr {
 }
 
 impl Addr {
-    /// Returns the IPv4 address of these octets, the most significant first.
+    /// Returns the IPv4 address of `octets`, the most significant first.
     #[inline]
     pub fn v4(octets: [u8; V4_OCTETS]) -> Self
         ensures { result ≡ record { family = Family.V4; bits = bits_of_octets octets } }
@@ -104,7 +104,7 @@ impl Addr {
         }
     }
 
-    /// Returns the IPv6 address of these octets, the most significant first.
+    /// Returns the IPv6 address of `octets`, the most significant first.
     #[inline]
     pub fn v6(octets: [u8; V6_OCTETS]) -> Self
         ensures { result ≡ record { family = Family.V6; bits = bits_of_octets octets } }
@@ -115,8 +115,8 @@ impl Addr {
         }
     }
 
-    /// Returns the address of `family` whose bits are the highest of `number`. The bits below must
-    /// be 0.
+    /// Returns the address of `family` whose bits are the highest of `number`. The bits of `number`
+    /// below them must be 0.
     #[inline]
     pub(crate) fn aligned(number: u128, family: Family) -> Self
         requires { IsAligned family number }
@@ -131,7 +131,7 @@ impl Addr {
         }
     }
 
-    /// Returns a number whose highest bits are those of the address. The bits below are 0.
+    /// Returns the address as a number: its bits are the highest, and the bits below them are 0.
     #[inline]
     pub(crate) fn number(&self) -> u128
         ensures aligned { IsAligned self.now.family result }
@@ -149,7 +149,8 @@ impl Addr {
         self.family
     }
 
-    /// Returns the octet at index `place`, counted from 0 at the most significant.
+    /// Returns the octet at index `place`, where 0 is the most significant. `place` must be below 4
+    /// for IPv4, and below 16 for IPv6.
     #[inline]
     pub fn octet(&self, place: usize) -> u8
         requires { place < octet_count self.now.family }
@@ -158,7 +159,8 @@ impl Addr {
         (self.number.get() >> (NUMBER_BITS as usize - OCTET_BITS - OCTET_BITS * place) & 0xff) as u8
     }
 
-    /// Returns the 16-bit group at index `place`, counted from 0 at the most significant.
+    /// Returns the 16-bit group at index `place`, where 0 is the most significant. `place` must be
+    /// below 2 for IPv4, and below 8 for IPv6.
     #[inline]
     pub(crate) fn group(&self, place: usize) -> u16
         requires { GROUP_BITS * place + GROUP_BITS ≤ bit_count self.now.family }
@@ -168,8 +170,8 @@ impl Addr {
             & 0xffff) as u16
     }
 
-    /// Returns whether the bit at index `place` is 1. Bits are counted from 0 at the most
-    /// significant.
+    /// Returns whether the bit at index `place` is 1, where 0 is the most significant. `place` must
+    /// be below the number of bits of the address.
     #[inline]
     pub fn bit(&self, place: usize) -> bool
         requires { place < bit_count self.now.family }

@@ -1,4 +1,4 @@
-//! The leading bits of numbers and octets. `prefix.rt` calls these functions to make prefixes. Read
+//! The highest bits of numbers and of octets. `prefix.rt` makes prefixes with these functions. Read
 //! [`highest`] first.
 
 ghost use Rattle.std.specs.Prelude.{◌≡◌, ◌*◌, ◌^◌, ◌<◌, ◌≤◌, length, take};
@@ -8,10 +8,11 @@ ghost use Rattle.ip_prefix.specs.Kept.{highest_part};
 use crate::addr::{OCTET_BITS, V6_OCTETS};
 use crate::number::{HALF_BITS, NUMBER_BITS};
 
-/// The number of octets, after the length, that the most usual IPv4 prefixes take at most.
+/// The number of octets up to which the bits of a prefix are read as three octets. Most prefixes of
+/// IPv4 have at most 24 bits.
 const SHORT: usize = 3;
 
-/// Returns `number` with its highest `len` bits unchanged and all bits below cleared.
+/// Returns `number` with all bits but its highest `len` cleared. `len` must be at most 128.
 #[inline]
 pub(crate) fn highest(number: u128, len: u8) -> u128
     requires { len ≤ NUMBER_BITS }
@@ -30,8 +31,8 @@ pub(crate) fn highest(number: u128, len: u8) -> u128
     number >> below << below
 }
 
-/// Returns a number whose highest bits are those of the first `size` octets, the first octet the
-/// most significant. The bits below are unspecified.
+/// Returns the number whose highest bits are those of the first `size` octets, in big-endian order.
+/// The bits below them are unspecified. `size` must be at most 16 and the length of `octets`.
 #[inline]
 pub(crate) fn number_in_front(octets: &[u8], size: usize) -> u128
     requires { (size ≤ length octets.now) × (size ≤ V6_OCTETS) }

@@ -1,6 +1,6 @@
 //! Theorems about the definitions that the contracts of this crate cite. The functions have no code
-//! and nothing calls them: what they state is proved as the crate is checked. `docs/proved.md`
-//! names them.
+//! and nothing calls them: their `ensures` clauses are proved as the crate is checked.
+//! `docs/proved.md` names them.
 
 ghost use Rattle.std.specs.Prelude.{◌≡◌, ◌≤◌, ◌↔◌, ℕ, true, false, List, [], ◌∷◌, codes, length, IsTrue};
 ghost use Rattle.std.specs.Cmp.{IsTotalOrder};
@@ -19,14 +19,14 @@ ghost use Rattle.ip_prefix.specs.Marks.{IsFirstLongestRun};
 ghost use Rattle.octet_forms.specs.Sequences.{SpellsAll};
 ghost use Rattle.octet_forms.specs.Fronts.{IsCode};
 
-/// Proves that addresses are totally ordered, and that only equal ones compare as equal.
+/// States that addresses are totally ordered, and that only equal addresses compare as equal.
 pub fn address_order()
     ensures total { IsTotalOrder address_cmp }
     ensures ties { IsAntisymmetric address_cmp }
 {}
 
-/// Proves that prefixes are totally ordered, that only equal ones compare as equal, and that the
-/// order is by their least addresses, then by their lengths.
+/// States that prefixes are totally ordered, that only equal prefixes compare as equal, and that
+/// the order is by the least address, then by the length.
 pub fn prefix_order()
     ensures total { IsTotalOrder network_cmp }
     ensures ties { IsAntisymmetric network_cmp }
@@ -34,8 +34,9 @@ pub fn prefix_order()
         → network_cmp m n ≡ filled_cmp m n }
 {}
 
-/// Proves that a prefix contains the addresses of its family that begin with its bits, and covers
-/// the prefixes of its family that do, which are those whose addresses it all contains.
+/// States that a prefix contains exactly the addresses of its family that begin with its bits, and
+/// covers exactly the prefixes of its family that do. These are the prefixes whose addresses it all
+/// contains.
 pub fn containment()
     ensures contained { (n : Network) (a : Address)
         → (IsTrue (contains n a) ↔ ((n.family ≡ a.family) × IsFront n.bits a.bits)) }
@@ -45,7 +46,7 @@ pub fn containment()
         → (IsTrue (covers n other) ↔ ContainsAllOf n other) }
 {}
 
-/// Proves that covering is a partial order of prefixes, and that no prefix covers a shorter one.
+/// States that covering is a partial order of prefixes, and that no prefix covers a shorter one.
 pub fn covering_order()
     ensures reflexive { (n : Network) → IsTrue (covers n n) }
     ensures transitive { (a b c : Network)
@@ -54,8 +55,8 @@ pub fn covering_order()
     ensures lengths { (a b : Network) → IsTrue (covers a b) → length a.bits ≤ length b.bits }
 {}
 
-/// Proves that of two prefixes that contain one address, one that is no longer covers the other. So
-/// at most one prefix of a length contains an address.
+/// States that of two prefixes that contain one address, the shorter covers the longer. So at most
+/// one prefix of each length contains an address.
 pub fn nested_prefixes()
     ensures covered { (m n : Network) (a : Address) → IsTrue (contains m a) → IsTrue (contains n a)
         → length m.bits ≤ length n.bits → IsTrue (covers m n) }
@@ -63,7 +64,7 @@ pub fn nested_prefixes()
         → length m.bits ≡ length n.bits → m ≡ n }
 {}
 
-/// Proves which [`Turn`](crate::Turn) a prefix has as seen from another: `Outside` if the other
+/// States which [`Turn`](crate::Turn) a prefix has as seen from another: `Outside` if the other
 /// doesn't cover it, `Here` if they are equal, else `Left` or `Right` by the half of the other that
 /// covers it.
 pub fn turns_by_bits()
@@ -76,8 +77,8 @@ pub fn turns_by_bits()
         → ((turn_of (way m) (way n) ≡ Right) ↔ IsTrue (covers (half m true) n)) }
 {}
 
-/// Proves that the prefix of the bits that two prefixes of one family share covers both, and that
-/// each prefix that covers both covers it.
+/// States that the prefix of the leading bits that two prefixes of one family share covers both,
+/// and that each prefix that covers both covers it.
 pub fn common_prefix()
     ensures both { (m n : Network) → m.family ≡ n.family
         → IsTrue (covers (common m n) m) × IsTrue (covers (common m n) n) }
@@ -85,20 +86,20 @@ pub fn common_prefix()
         → IsTrue (covers other (common m n)) }
 {}
 
-/// Proves that the printed text of an address is a spelling of it, and the printed text of a prefix
-/// one of the prefix.
+/// States that the printed text of an address can be parsed as this address, and the printed text
+/// of a prefix as this prefix.
 pub fn text_spells()
     ensures addresses { (a : Address) → IsAddress a → SpellsAddress a (address_text a) }
     ensures prefixes { (n : Network) → IsNetwork n → SpellsPrefix n (network_text n) }
 {}
 
-/// Proves that the groups that `::` stands for in the printed text of an IPv6 address are the first
+/// States that the groups that `::` replaces in the printed text of an IPv6 address are the first
 /// of the longest runs of zeros (RFC 5952, section 4.2).
 pub fn shortened_run()
     ensures { (groups : List ℕ) → IsFirstLongestRun groups (longest_zero_run groups) }
 {}
 
-/// Proves that no text is a spelling of two addresses, nor of two prefixes.
+/// States that no text can be parsed as two addresses, nor as two prefixes.
 pub fn one_spelling()
     ensures addresses { (a b : Address) (text : List ℕ)
         → SpellsAddress a text → SpellsAddress b text → a ≡ b }
@@ -106,8 +107,8 @@ pub fn one_spelling()
         → SpellsPrefix m text → SpellsPrefix n text → m ≡ n }
 {}
 
-/// Proves that no octets begin with two prefixes of one family as BGP sends them, and that none are
-/// two lists of such prefixes.
+/// States that no octets begin with two prefixes of one family, and that none are two lists of such
+/// prefixes, as BGP sends them (RFC 4271, section 4.3).
 pub fn one_network()
     ensures single { (family : Family) → IsCode (SpellsNetwork family) }
     ensures lists { (family : Family) (octets : List ℕ) (a b : List Network)
@@ -115,7 +116,7 @@ pub fn one_network()
         → SpellsAll (SpellsNetwork family) b octets → a ≡ b }
 {}
 
-/// Proves the values of the numbers and marks that the definitions name.
+/// States the values of the constants that the definitions name.
 pub fn address_numbers()
     ensures octets { (V4_OCTETS ≡ 4) × (V6_OCTETS ≡ 16) }
     ensures bits { (V4_BITS ≡ 32) × (V6_BITS ≡ 128) × (NUMBER_BITS ≡ 128) }

@@ -1,5 +1,5 @@
-//! The 128-bit numbers that addresses and prefixes are stored as. `addr.rt` and `prefix.rt` use
-//! them. Read [`Number`] first.
+//! 128-bit numbers as two halves. `addr.rt` and `prefix.rt` store the bits of addresses and
+//! prefixes so. Read [`Number`] first.
 
 ghost use Rattle.std.specs.Prelude.{◌≡◌, ◌-◌, ◌/◌, ◌^◌, ◌<◌, ◌==◌, bit_and};
 ghost use Rattle.std.specs.Ordering.{nat_cmp};
@@ -13,7 +13,7 @@ pub(crate) const NUMBER_BITS: u8 = 128;
 /// The number of bits of half a [`Number`].
 pub(crate) const HALF_BITS: u8 = 64;
 
-/// A 128-bit number.
+/// A 128-bit number, stored as two halves of 64 bits.
 #[derive(Clone, Copy, Debug)]
 pub(crate) struct Number {
     // Two halves have an alignment of eight octets, where a `u128` has one of sixteen.
@@ -44,7 +44,7 @@ impl Model for Number {
 }
 
 impl Number {
-    /// Returns `number` as two halves.
+    /// Splits `number` into its two halves.
     #[inline]
     pub(crate) fn new(number: u128) -> Self
         ensures { result ≡ number }
@@ -63,8 +63,8 @@ impl Number {
         u128::from(self.high) << HALF_BITS | u128::from(self.low)
     }
 
-    /// Returns whether the bit at index `place` is 1. Bits are counted from 0 at the most
-    /// significant.
+    /// Returns whether the bit at index `place` is 1, where 0 is the most significant. `place` must
+    /// be below 128.
     #[inline]
     pub(crate) fn bit(self, place: u8) -> bool
         requires { place < NUMBER_BITS }
@@ -77,7 +77,7 @@ impl Number {
         self.get() >> (NUMBER_BITS - 1 - place) & 1 == 1
     }
 
-    /// Returns the ordering of the two numbers by value.
+    /// Compares two numbers by value.
     #[inline]
     pub(crate) fn compare(self, other: Number) -> Ordering
         ensures { result ≡ nat_cmp self other }

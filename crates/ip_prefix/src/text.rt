@@ -1,5 +1,5 @@
-//! Printing addresses and prefixes. The printers of lines and replies call it, mostly through
-//! [`InPlace`]. Read [`Addr::write_text`] and [`Prefix::write_text`] first.
+//! Printing addresses and prefixes as text. The printers of lines and replies call it, mostly
+//! through [`InPlace`]. Read [`Addr::write_text`] and [`Prefix::write_text`] first.
 
 ghost use Rattle.std.specs.Prelude.{◌≡◌, ◌+◌, ◌*◌, ◌<◌, ◌≤◌, [], ◌∷◌, ◌++◌, OnOk, OnErr, length, take, drop, replicate, decimal};
 ghost use Rattle.std.specs.Net.Text as Hex;
@@ -29,20 +29,22 @@ const GROUP_DIGITS: usize = 4;
 /// The least number of groups of 0 in a row that `::` stands for (RFC 5952, section 4.2.2).
 const LEAST_RUN: usize = 2;
 
-/// The number of octets that a group and a colon before it take at most.
+/// The greatest number of octets of a group and a colon.
 const GROUP_ROOM: usize = GROUP_DIGITS + 1;
 
 /// The number of octets that [`Addr::write_text`] needs from its offset on: as many as eight
 /// groups, each with a colon.
 pub const ADDRESS_ROOM: usize = GROUP_ROOM * GROUP_COUNT;
 
-/// The number of octets that [`Prefix::write_text`] needs from its offset on.
+/// The number of octets that [`Prefix::write_text`] needs from its offset on: an address, a slash
+/// and the length.
 pub const PREFIX_ROOM: usize = ADDRESS_ROOM + 1 + ROW;
 
 impl Addr {
-    /// Writes the address as text into `text` at offset `at`, an IPv6 address as RFC 5952, section
-    /// 4, recommends, and returns the offset of the octet after it. `text` needs [`ADDRESS_ROOM`]
-    /// octets from `at` on, of which those after the address are unspecified.
+    /// Writes the address as text into `text` at offset `at`, and returns the offset of the octet
+    /// after it. IPv6 addresses have the form of RFC 5952, section 4, and never a dotted end.
+    /// `text` needs [`ADDRESS_ROOM`] octets from `at` on, of which those after the address are
+    /// unspecified.
     #[inline(always)]
     #[tactic(auto, unfolding(crate::specs::Text::address_text))]
     pub fn write_text(&self, text: &mut [u8], at: usize) -> usize
@@ -61,8 +63,8 @@ impl Addr {
         }
     }
 
-    /// Appends the address as text, in the form of [`Addr::write_text`]. If memory allocation
-    /// fails, `text` is unchanged.
+    /// Appends the address to `text`, in the form of [`Addr::write_text`]. On error, `text` is
+    /// unchanged.
     pub fn put_text(&self, text: &mut Vec<u8>) -> Result<(), AllocError>
         ensures appended { OnOk result (text.new.items ≡ text.old.items ++ address_text self.now) }
         ensures unchanged { OnErr result (text.new.items ≡ text.old.items) }
@@ -88,8 +90,8 @@ impl Prefix {
         write_short(u32::from(self.len()), text, slash + 1)
     }
 
-    /// Appends the prefix as text, in the form of [`Prefix::write_text`]. If memory allocation
-    /// fails, `text` is unchanged.
+    /// Appends the prefix to `text`, in the form of [`Prefix::write_text`]. On error, `text` is
+    /// unchanged.
     pub fn put_text(&self, text: &mut Vec<u8>) -> Result<(), AllocError>
         ensures appended { OnOk result (text.new.items ≡ text.old.items ++ network_text self.now) }
         ensures unchanged { OnErr result (text.new.items ≡ text.old.items) }
@@ -126,8 +128,8 @@ impl InPlace for Prefix {
     }
 }
 
-/// Writes `octet` in decimal and a dot at offset `at`, and returns the offset of the octet after
-/// the dot.
+/// Writes `octet` in decimal and then a dot into `text` at offset `at`, and returns the offset of
+/// the octet after the dot.
 #[inline]
 fn write_octet(octet: u8, text: &mut [u8], at: usize) -> usize
     requires { at + ROW ≤ length text.old }
@@ -139,8 +141,9 @@ fn write_octet(octet: u8, text: &mut [u8], at: usize) -> usize
     dot + 1
 }
 
-/// Writes the text of an IPv6 address at offset `at`, and returns the offset of the octet after it.
-/// The groups are joined by colons, and `::` stands for the longest run of two or more groups of 0.
+/// Writes `address`, which must be of IPv6, as text into `text` at offset `at`, and returns the
+/// offset of the octet after it. The groups are joined by colons, and `::` replaces the first of
+/// the longest runs of two or more groups of 0 (RFC 5952, section 4.2).
 #[inline(never)]
 fn write_colons(address: &Addr, text: &mut [u8], at: usize) -> usize
     requires { (address.now.family ≡ V6) × (at + ADDRESS_ROOM ≤ length text.old) }
@@ -166,8 +169,8 @@ fn write_colons(address: &Addr, text: &mut [u8], at: usize) -> usize
     write_groups(&groups[first + len..], text, gap + 2)
 }
 
-/// Returns the index of the first group and the number of groups of the longest run of groups of 0.
-/// Of several such runs, the first counts. If no group is 0, both numbers are 0.
+/// Returns the longest run of groups of 0: the index of its first group, and the number of its
+/// groups. Of several such runs, the first counts. If no group is 0, both numbers are 0.
 #[inline(always)]
 fn longest_zero_run(groups: &[u16; GROUP_COUNT]) -> (usize, usize)
     ensures value { result ≡ Hex.longest_zero_run groups.now }
@@ -186,8 +189,8 @@ fn longest_zero_run(groups: &[u16; GROUP_COUNT]) -> (usize, usize)
     (usize::from(row[0]), usize::from(row[1]))
 }
 
-/// Writes the groups in hexadecimal, joined by colons, at offset `at`, and returns the offset of
-/// the octet after them.
+/// Writes `groups` in lower-case hexadecimal, joined by colons, into `text` at offset `at`, and
+/// returns the offset of the octet after them.
 fn write_groups(groups: &[u16], text: &mut [u8], at: usize) -> usize
     requires { at + GROUP_ROOM * length groups.now ≤ length text.old }
     ensures written { IsWritten text.old at (Hex.groups_text groups.now) text.new result }
@@ -204,8 +207,8 @@ fn write_groups(groups: &[u16], text: &mut [u8], at: usize) -> usize
     place
 }
 
-/// Writes `group` in lower-case hexadecimal, without leading zeros, at offset `at`, and returns the
-/// offset of the octet after it.
+/// Writes `group` in lower-case hexadecimal, without leading zeros, into `text` at offset `at`, and
+/// returns the offset of the octet after it.
 #[inline]
 fn write_group(group: u16, text: &mut [u8], at: usize) -> usize
     requires { at + GROUP_DIGITS ≤ length text.old }
@@ -219,8 +222,8 @@ fn write_group(group: u16, text: &mut [u8], at: usize) -> usize
     write_hex_pair(group % 0x100, text, low)
 }
 
-/// Writes `group`, which is below 256, in lower-case hexadecimal, without leading zeros, at offset
-/// `at`, and returns the offset of the octet after it.
+/// Writes `group`, which must be below 256, in lower-case hexadecimal, without leading zeros, into
+/// `text` at offset `at`, and returns the offset of the octet after it.
 #[inline]
 fn write_low_group(group: u16, text: &mut [u8], at: usize) -> usize
     requires { (group < 0x100) × (at + HEX_PAIR ≤ length text.old) }

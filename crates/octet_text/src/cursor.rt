@@ -1,18 +1,19 @@
 //! Functions that write numbers and other values as text into a slice at an offset, and return the
-//! offset of the octet after the text. The slice needs a fixed number of octets from the offset on;
-//! those after the text are unspecified. [`Text`](crate::Text) and the crates that print values
-//! call them. Read [`write_decimal`] first.
+//! offset of the octet after the text. The slice needs a fixed number of octets from that offset
+//! on; those after the text are then unspecified. [`Text`](crate::Text) and the crates that print
+//! values call them. Read [`write_decimal`] first.
 
 ghost use Rattle.std.specs.Prelude.{◌≡◌, ℕ, List, ◌+◌, ◌<◌, ◌≤◌, ◌++◌, ◌∷◌, [], length, take, drop, decimal};
 ghost use Rattle.octet_text.specs.Written.{IsWritten, three_digits, filled, two_hex_digits};
 
 use crate::digits::{DIGIT_ROWS, HEX_PAIRS};
 
-/// The number of octets that [`write_decimal`] needs from its offset on. A `u32` has at most ten
-/// digits, but they are written four octets at a time.
+/// The number of octets that [`write_decimal`] needs from its offset on: the ten digits of a `u32`,
+/// and two more, since digits are written four octets at a time.
 pub const DECIMAL_ROOM: usize = 12;
 
-/// The number of octets that [`write_ended_decimal`] needs from its offset on.
+/// The number of octets that [`write_ended_decimal`] needs from its offset on: a decimal and an
+/// octet.
 pub(crate) const ENDED_ROOM: usize = DECIMAL_ROOM + 1;
 
 /// The greatest number of decimal digits of a `u32`.
@@ -65,8 +66,8 @@ pub fn write_ended_decimal(number: u32, end: u8, text: &mut [u8], at: usize) -> 
     behind + 1
 }
 
-/// Writes `number`, which is at least a million, in decimal at offset `at`, and returns the offset
-/// of the octet after it.
+/// Writes `number`, which must be at least 1,000,000, in decimal into `text` at offset `at`, and
+/// returns the offset of the octet after it. `text` needs [`DECIMAL_ROOM`] octets from `at` on.
 #[inline(never)]
 fn write_long(number: u32, text: &mut [u8], at: usize) -> usize
     requires { (MILLION ≤ number) × (at + DECIMAL_ROOM ≤ length text.old) }
@@ -80,8 +81,9 @@ fn write_long(number: u32, text: &mut [u8], at: usize) -> usize
     write_three(low % THOUSAND, text, thousands)
 }
 
-/// Writes `number`, which is below a million, in decimal at offset `at`, and returns the offset of
-/// the octet after it.
+/// Writes `number`, which must be below 1,000,000, in decimal, without leading zeros, into `text`
+/// at offset `at`, and returns the offset of the octet after it. `text` needs `3 + ROW` octets from
+/// `at` on.
 #[inline(always)]
 fn write_six(number: u32, text: &mut [u8], at: usize) -> usize
     requires { (number < MILLION) × (at + 3 + ROW ≤ length text.old) }
@@ -95,9 +97,9 @@ fn write_six(number: u32, text: &mut [u8], at: usize) -> usize
     write_three(number % THOUSAND, text, thousands)
 }
 
-/// Writes `number`, which is below 1,000, in decimal into `text` at offset `at`, and returns the
-/// offset of the octet after it. `text` needs [`ROW`] octets from `at` on, of which those after the
-/// number are unspecified.
+/// Writes `number`, which must be below 1,000, in decimal, without leading zeros, into `text` at
+/// offset `at`, and returns the offset of the octet after it. `text` needs [`ROW`] octets from `at`
+/// on, of which those after the number are unspecified.
 #[inline(always)]
 pub fn write_short(number: u32, text: &mut [u8], at: usize) -> usize
     requires { (number < THOUSAND) × (at + ROW ≤ length text.old) }
@@ -109,8 +111,8 @@ pub fn write_short(number: u32, text: &mut [u8], at: usize) -> usize
     at + usize::from(row[3]) - ZERO
 }
 
-/// Writes `number`, which is below 1,000, in three digits at offset `at`, and returns the offset of
-/// the octet after them.
+/// Writes `number`, which must be below 1,000, in three digits, with leading zeros, into `text` at
+/// offset `at`, and returns `at + 3`. `text` needs [`ROW`] octets from `at` on.
 #[inline(always)]
 fn write_three(number: u32, text: &mut [u8], at: usize) -> usize
     requires { (number < THOUSAND) × (at + ROW ≤ length text.old) }
@@ -120,8 +122,8 @@ fn write_three(number: u32, text: &mut [u8], at: usize) -> usize
     at + 3
 }
 
-/// Returns the decimal digits of `number`, which is below 1,000, filled with spaces to three
-/// octets, and then the digit of their count.
+/// Returns the decimal digits of `number`, which must be below 1,000, padded on the right with
+/// spaces to three octets, and then the ASCII digit of their count.
 #[inline(always)]
 fn short_row(number: u32) -> [u8; ROW]
     requires { number < THOUSAND }
@@ -130,7 +132,8 @@ fn short_row(number: u32) -> [u8; ROW]
     DIGIT_ROWS[number as usize]
 }
 
-/// Returns `number`, which is below 1,000, in three digits, and then a space.
+/// Returns `number`, which must be below 1,000, in three digits, with leading zeros, and then a
+/// space.
 #[inline(always)]
 fn three_row(number: u32) -> [u8; ROW]
     requires { number < THOUSAND }
@@ -139,8 +142,8 @@ fn three_row(number: u32) -> [u8; ROW]
     DIGIT_ROWS[THOUSAND as usize + number as usize]
 }
 
-/// Writes `number`, which is below 256, in two lower-case hexadecimal digits into `text` at offset
-/// `at`, and returns the offset of the octet after them.
+/// Writes `number`, which must be below 256, in two lower-case hexadecimal digits into `text` at
+/// offset `at`, and returns `at + 2`.
 #[inline]
 pub fn write_hex_pair(number: u16, text: &mut [u8], at: usize) -> usize
     requires { (number < 0x100) × (at + HEX_PAIR ≤ length text.old) }
@@ -151,7 +154,7 @@ pub fn write_hex_pair(number: u16, text: &mut [u8], at: usize) -> usize
     at + HEX_PAIR
 }
 
-/// Returns the two lower-case hexadecimal digits of `number`, which is below 256.
+/// Returns `number`, which must be below 256, in two lower-case hexadecimal digits.
 #[inline(always)]
 pub fn hex_pair(number: u16) -> [u8; HEX_PAIR]
     requires { number < 0x100 }
@@ -160,7 +163,7 @@ pub fn hex_pair(number: u16) -> [u8; HEX_PAIR]
     HEX_PAIRS[number as usize]
 }
 
-/// Copies `octets` into `text` at offset `at`.
+/// Copies all of `octets` into `text` at offset `at`.
 #[inline(always)]
 pub fn put_octets(octets: &[u8], text: &mut [u8], at: usize)
     requires { at + length octets.now ≤ length text.old }
@@ -192,7 +195,8 @@ pub trait InPlace {
 /// decimals, each followed by an octet.
 pub const WORD_ROOM: usize = 2 * ENDED_ROOM;
 
-/// A way to write a number as a word.
+/// A way to write a `u32` as a word, as a type parameter of
+/// [`Text::put_ended_words`](crate::Text::put_ended_words).
 pub trait Word {
     /// The word of a number, as octets.
     ghost word: { ℕ → List ℕ };

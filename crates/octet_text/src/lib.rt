@@ -1,6 +1,6 @@
-//! Text built from octets: [`Text`], which grows at its end, and functions that write numbers into
-//! a slice at an offset. The crates that print addresses, AS paths and lines call them. Read
-//! `buffer.rt` first, then `cursor.rt`.
+//! Texts as octets: [`Text`], which grows at its end, and functions that write numbers into a slice
+//! at an offset. The crates that print addresses, AS paths and lines call them. Read `buffer.rt`
+//! first, then `cursor.rt`.
 #![tactic(auto)]
 
 mod buffer;
