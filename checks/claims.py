@@ -19,6 +19,8 @@ DUMP = 'bgpdump_lines/src/dump.rt'
 PLAY = 'bgpdump_tool/src/play.rt'
 PROGRAM = 'bgpdump/src/run.rt'
 IN_MEMORY = 'bgpdump/src/in_memory.rt'
+INPUT = 'mrt_frames/src/input.rt'
+OUTPUT = 'bgpdump_lines/src/output.rt'
 
 
 class Ground(NamedTuple):
@@ -95,6 +97,18 @@ CLAIMS = {
                'and no octets are without one. That it is a double negation suffices: what is said of texts can be '
                'decided'),
         Ground('bgpdump_tool/src/laws.rt', 'one_script', ('one', 'some'), 'likewise a script and its lines'),
+    ),
+    'No line waits: before a read that may wait, both outputs are flushed': (
+        Ground(DUMP, 'run_dump', ('flushed',),
+               'where a read failed, the outputs hold nothing back, and nothing is flushed after a failed read. Any '
+               'read that asks the device may fail, so this holds before each of them'),
+        Ground(PLAY, 'run_play', ('flushed',), 'likewise'),
+        Ground('bgpdump_lines/specs/Flushing.antt', 'LeavesFlushed', (), 'by how the run ended'),
+        Ground('mrt_wire/src/source.rt', 'next', ('buffered',),
+               'a record that is buffered as a whole is read without asking the device'),
+        Ground(INPUT, 'take', ('buffered',), 'what an input owes: from its buffer it reads without a fault'),
+        Ground(INPUT, 'has_buffered_record', ('',), 'exactly where the buffer holds a whole record'),
+        Ground(OUTPUT, 'flush', ('flushed',), 'what an output owes: nothing is pending after it'),
     ),
     'For every input and every script of up to 1 MiB, even when memory allocation fails': (
         Ground(DUMP, 'run_dump', ('input_sound', 'out_sound', 'err_sound'),

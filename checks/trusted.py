@@ -45,6 +45,8 @@ CALLS = {
     'run_play': {'bgpdump_tool/src/play.rt': ('run_play',)},
     'dump': {'bgpdump/src/run.rt': ('dump',), 'bgpdump/src/in_memory.rt': ('dump_known',)},
     'play': {'bgpdump/src/run.rt': ('play',), 'bgpdump/src/in_memory.rt': ('play_known',)},
+    'Input': {'mrt_frames/src/input.rt': None},
+    'Output': {'bgpdump_lines/src/output.rt': None},
     'laws of splits and scripts': {
         'mrt_wire/src/laws.rt': ('one_split', 'no_octets_without_a_split', 'one_content'),
         'bgpdump_tool/src/laws.rt': ('one_script', 'one_command', 'best_match')},

@@ -11,7 +11,7 @@ use std::alloc::AllocError;
 use std::marker::Model;
 use std::rc::Rc;
 
-/// The time at which a record was written.
+/// The timestamp of a record (RFC 6396, sections 2 and 3).
 #[derive(Clone, Copy, Debug, PartialEq, Eq)]
 pub struct Time {
     /// Seconds since 1970.
@@ -33,13 +33,14 @@ pub enum Tag {
     Bgp4mpEt,
 }
 
-/// The attributes and the time of a route. Peer and prefix are beside it, as in [`Item::Announce`].
+/// The path attributes and the time of a route. Its peer and its prefix are beside it, as in
+/// [`Item::Announce`].
 #[derive(Debug, Drop)]
 pub struct Route {
     /// The path attributes.
     pub attrs: Attrs,
-    /// The time of the route, in seconds since 1970: the time of its record or, for an entry of a
-    /// table, the one that the [`Stamp`](crate::Stamp) of the reader selects.
+    /// The time of the route, in seconds since 1970: the timestamp of its record or, for a table
+    /// entry, the time that a [`Stamp`](crate::Stamp) chooses.
     pub time: u32,
 }
 
@@ -60,13 +61,13 @@ pub const ESTABLISHED: u16 = 6;
 /// A change of a peer's route to a prefix, or of the state of its session.
 #[derive(Debug, Drop)]
 pub enum Item {
-    /// An announcement: from now on the peer has this route to the prefix. An entry of a table is
-    /// one too.
+    /// An announcement: from now on the peer has this route to the prefix. The entries of routing
+    /// tables are announcements too.
     Announce(Peer, Prefix, Rc<Route>),
     /// A withdrawal: from now on the peer has no route to the prefix.
     Withdraw(Peer, Prefix),
-    /// A change of the session with the peer from the first state to the second (RFC 4271, section
-    /// 8.2.2), by their numbers (RFC 6396, section 4.4.1).
+    /// A change of the session with the peer from the first state to the second, by their numbers
+    /// (RFC 4271, section 8.2.2; RFC 6396, section 4.4.1).
     State(Peer, u16, u16),
 }
 
@@ -79,8 +80,8 @@ pub struct Shared {
     pub end: usize,
 }
 
-/// Two adjacent ranges of items. Those of each range announce prefixes of one peer with one route.
-/// Either range may be empty.
+/// Two adjacent ranges of items. The items of each range announce prefixes of one peer with one
+/// route. Either range may be empty.
 #[derive(Clone, Copy, Debug, PartialEq, Eq)]
 pub struct SharedRanges {
     /// The index of the first item of the first range.
@@ -91,8 +92,8 @@ pub struct SharedRanges {
     pub end: usize,
 }
 
-/// A list of items in order, with the ranges of it that are known to share a route. In contracts it
-/// is the list of items, each route by its value.
+/// The items of an event in order, with two ranges of them that are known to share a route. In
+/// contracts it is the list of the items' values, which have routes and not handles to them.
 #[derive(Debug, Drop)]
 pub struct Items {
     items: Vec<Item>,
@@ -116,7 +117,7 @@ impl Items {
     ghost use Rattle.mrt_events.specs.Event.{saying};
     ghost use Rattle.mrt_events.specs.SharedRoute.{AreOfOneRoute, AreSharedIn};
 
-    /// Returns the items of a vector, without a range that is known to share a route.
+    /// Returns the items of a vector, in order. No range of them is known to share a route.
     pub fn from_vec(items: Vec<Item>) -> Items
         ensures { result ≡ map saying items.items }
     {
@@ -130,8 +131,8 @@ impl Items {
         }
     }
 
-    /// Returns the items of a vector, where those of each range of `shared` announce prefixes of
-    /// one peer with one route.
+    /// Returns the items of a vector, in order. The items of each range of `shared` must announce
+    /// prefixes of one peer with one route.
     pub fn sharing(items: Vec<Item>, shared: SharedRanges) -> Items
         requires { AreSharedIn shared (map saying items.items) }
         ensures { result ≡ map saying items.items }
@@ -154,8 +155,9 @@ impl Items {
         &self.items
     }
 
-    /// Returns a range of items that are known to announce prefixes of one peer with one route: the
-    /// longer one of [`Items::shared_ranges`]. It may be empty although several items do.
+    /// Returns the longer one of [`Items::shared_ranges`], the first if both have one length. Its
+    /// items announce prefixes of one peer with one route. It may be empty although several items
+    /// do.
     pub fn shared(&self) -> Shared
         ensures ordered { result.start ≤ result.end }
         ensures within { result.end ≤ length self.now }
@@ -168,8 +170,8 @@ impl Items {
         Shared { start, end: middle }
     }
 
-    /// Returns both ranges of items that are known to announce prefixes of one peer with one route.
-    /// Either may be empty although several items do.
+    /// Returns the two ranges of items that are known to announce prefixes of one peer with one
+    /// route each. Either may be empty although several items do.
     pub fn shared_ranges(&self) -> SharedRanges
         ensures { AreSharedIn result self.now }
     {

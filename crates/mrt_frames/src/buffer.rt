@@ -10,13 +10,14 @@ use crate::header::LONGEST_BODY;
 use crate::input::Input;
 use std::ops::Range;
 
-/// The number of octets by which a full buffer grows while it has no more than these. A larger
-/// buffer is doubled.
+/// The number of octets by which a full buffer grows as long as it has no more than these. A longer
+/// one is doubled.
 const FIRST_GROWTH: usize = 4096;
 
 /// Fills `buffer` from `input`, and returns the number of octets filled, which is less than the
-/// length of `buffer` only at the end of the input. Adds the octets read to `taken`, on error too,
-/// and fails with `PastLimit` if `taken` reaches `limit` before `buffer` is full.
+/// length of `buffer` only at the end of the input. Adds the octets read to `taken`, on error too.
+/// Fails with `PastLimit` if `taken` reaches `limit` before `buffer` is full, or with `InputFailed`
+/// if a read fails.
 #[inline(always)]
 pub(crate) fn fill_within<I: Input>(
     input: &mut I,
@@ -50,9 +51,9 @@ pub(crate) fn fill_within<I: Input>(
     Ok(filled)
 }
 
-/// Returns the index up to which to fill the buffer of a body of `size` octets next, where the
-/// buffer has `held` octets and the first `filled` are filled. It is the end of the buffer, or if
-/// that is full, the length to which it is to grow, and at most `size`.
+/// Returns the index up to which the buffer of a body of `size` octets is filled next, where the
+/// buffer has `held` octets and the first `filled` are filled. It is the end of the buffer, or, if
+/// that is full, the length to which the buffer is to grow; it is at most `size`.
 fn next_end(held: usize, filled: usize, size: usize) -> usize
     requires unfinished { filled < size }
     requires small { size ≤ LONGEST_BODY }
@@ -69,7 +70,8 @@ fn next_end(held: usize, filled: usize, size: usize) -> usize
 }
 
 /// Fills the octets of `buffer` in the range `part` from `input`, and returns the number of octets
-/// filled, as [`fill_within`] does. The octets before the range are unchanged.
+/// filled. Counts them in `taken`, up to `limit`, and fails as [`fill_within`] does. The octets
+/// before the range are unchanged.
 pub(crate) fn fill_part<I: Input>(
     input: &mut I,
     buffer: &mut Vec<u8>,
@@ -94,8 +96,9 @@ pub(crate) fn fill_part<I: Input>(
 
 /// Reads a body of `size` octets into the start of `buffer`, and returns the number of octets read,
 /// which is less than `size` only at the end of the input. Counts them in `taken`, up to `limit`,
-/// as [`fill_within`] does. `buffer` grows to at most twice the octets read plus 4,096, so a length
-/// that the input doesn't have allocates little.
+/// and fails as [`fill_within`] does, or with `Memory` if memory allocation fails. `buffer` grows
+/// to at most twice the octets read plus 4,096, so a length that the input doesn't have allocates
+/// little.
 #[inline(never)]
 pub(crate) fn fill_body<I: Input>(
     input: &mut I,
@@ -114,7 +117,7 @@ pub(crate) fn fill_body<I: Input>(
     ensures failed { I.failed input.new ≡ (I.failed input.old || is_read result) }
     ensures buffered { size ≤ length (I.buffered input.old) → is_read result ≡ false }
 {
-    // It is out of line, since few bodies are longer than all before.
+    // Out of line, since few bodies are longer than all before.
     let mut filled = 0;
     while filled < size {
         let end = next_end(buffer.len(), filled, size);

@@ -11,51 +11,53 @@ use crate::header::{HEADER_SIZE, Header, LONGEST_BODY, read_header};
 use crate::input::Input;
 use std::alloc::Global;
 
-/// The greatest size of the buffer of bodies, in octets, that is kept when a body of no more octets
+/// The largest size of the buffer of bodies, in octets, that is kept when a body of no more octets
 /// is read. A buffer of one octet more is freed then, and grows anew.
 const MOST_KEPT: usize = 1 << 18;
 
-/// The number of octets of a skipped body that are read at once. They are few, since each skipped
-/// record makes a buffer for them. A body of one octet more takes one more read of the input.
+// They are few, since the buffer is filled with zeros for each skipped record.
+/// The number of octets of a skipped body that are read at once, into a buffer on the stack. A body
+/// of one octet more takes one more read of the input.
 const PIECE: usize = 512;
 
-/// The supported types of records, and the form of the bodies of each.
+/// The supported types and subtypes of records, and the format of the bodies of each.
 pub trait Profile {
-    /// The form of a body, by which it is parsed.
+    /// The format of a body, by which it is parsed.
     type Form: Copy;
 
-    /// The form of the bodies of a type and subtype, if these are supported.
+    /// The format of the bodies of a type and subtype, or `None` if these aren't supported.
     ghost form_at: { Self → ℕ → ℕ → Option Self.Form };
 
-    /// Returns the form of the bodies of type `kind` and `subtype`, or `None` if these aren't
+    /// Returns the format of the bodies of type `kind` and `subtype`, or `None` if these aren't
     /// supported.
     fn form_of(&self, kind: u16, subtype: u16) -> Option<Self::Form>
         ensures { result ≡ form_at self.now kind subtype };
 }
 
-/// The header of the next record, or what is left of the input if that is shorter.
+/// The header of the next record, or the fault of what is left of the input.
 #[derive(Clone, Copy)]
 enum Start {
-    /// The header of a record.
+    /// The header of the next record.
     Header(Header),
-    /// No whole header is left: the fault of the octets left, or `None` at the end of the input.
+    /// The input ends before a whole header: the fault of the octets that are left, or `None` if
+    /// none are.
     Rest(Option<RecordKind>),
 }
 
-/// The next record of an input, or its end.
+/// The next record of an input, or the fault of what is left of it.
 #[derive(Clone, Copy)]
 pub enum Front<F> {
-    /// A record of a supported type, with the form of its body, which [`FrameReader::body`]
-    /// returns.
+    /// The header of a record of a supported type, and the format of its body, which
+    /// [`FrameReader::body`] returns.
     Record(Header, F),
-    /// A record of an unsupported type, whose body was skipped.
+    /// The header of a record of an unsupported type, whose body was skipped.
     Passed(Header),
-    /// No whole record can be read: the fault of the octets left, or `None` at the end of the
-    /// input.
+    /// No whole record can be read: the fault of the octets that are left, or `None` if none are.
     Rest(Option<RecordKind>),
 }
 
-/// A reader of records from an input, within a limit of octets.
+/// A reader of records, header and body, from an input, within a limit of octets. The caller holds
+/// the input and passes it to each call.
 #[derive(Drop)]
 pub struct FrameReader {
     /// A buffer whose start is the last body that was read. The next body reuses it.
@@ -68,7 +70,8 @@ pub struct FrameReader {
 }
 
 impl FrameReader {
-    /// Returns a reader at the start of its input, which reads at most `limit` octets.
+    /// Returns a reader at the start of its input, which reads at most `limit` octets, without
+    /// allocating memory.
     pub fn new(alloc: Global, limit: u64) -> Self
         ensures limit { result.limit ≡ limit }
         ensures taken { result.taken ≡ 0 }
@@ -88,8 +91,8 @@ impl FrameReader {
         self.taken
     }
 
-    /// Returns the first `size` octets of the buffer of bodies. They are the body of the last
-    /// record if `size` is the length that its header states.
+    /// Returns the first `size` octets of the buffer of bodies. They are the body of the record
+    /// that was read last if `size` is the length that its header states, in octets.
     pub fn body(&self, size: u32) -> &[u8]
         requires { size ≤ vec_len self.now.body }
         ensures { result.now ≡ take size self.now.body.items }
@@ -97,7 +100,8 @@ impl FrameReader {
         &self.body[..size as usize]
     }
 
-    /// Reads the next header, or returns [`Start::Rest`] if the input ends before or inside it.
+    /// Reads the next header, or returns [`NextHeader::Rest`] if the input ends before or inside
+    /// it. On error, a part of the header may have been read.
     #[inline(always)]
     fn take_header<I: Input>(&mut self, input: &mut I) -> Result<Start, TakeFault>
         ensures octets { TakesOctets (TakesHeader self.new.limit (answer_of_source result))
@@ -117,7 +121,7 @@ impl FrameReader {
     }
 
     /// Reads a body of `size` octets into the buffer of bodies. Returns `false` if the input ends
-    /// inside the body.
+    /// inside the body. On error, a part of the body may have been read.
     #[inline(always)]
     fn take_body<I: Input>(&mut self, input: &mut I, size: u32) -> Result<bool, SourceFault>
         requires { size ≤ LONGEST_BODY }
@@ -141,7 +145,8 @@ impl FrameReader {
         Ok(count == size)
     }
 
-    /// Skips a body of `size` octets. Returns `false` if the input ends inside the body.
+    /// Skips a body of `size` octets. Returns `false` if the input ends inside the body. On error,
+    /// a part of the body may have been read.
     #[inline(never)]
     fn pass_body<I: Input>(&mut self, input: &mut I, size: u32) -> Result<bool, TakeFault>
         ensures octets { TakesOctets (PassesBody self.new.limit size (answer_of_source result))
@@ -165,9 +170,10 @@ impl FrameReader {
         Ok(true)
     }
 
-    /// Reads the next record from `input`, or returns [`Front::Rest`] if there is no whole one.
-    /// Bodies of types that `profile` doesn't support are skipped. On error, a part of the record
-    /// may have been read. No read fails if the record is buffered as a whole.
+    /// Reads the next record from `input`, or returns [`NextRecord::Rest`] if there is no whole
+    /// one. Bodies of types that `profile` doesn't support are skipped. Fails if the input fails,
+    /// the limit is met, or memory allocation fails; a part of the record may have been read then.
+    /// No read fails if the record is buffered as a whole.
     #[inline(always)]
     pub fn take_record<P: Profile, I: Input>(
         &mut self,

@@ -28,7 +28,7 @@ pub struct Header {
     pub size: u32,
 }
 
-/// Returns the big-endian 16-bit number at offset `place` of `octets`.
+/// Returns the big-endian 16-bit number at `offset` in `octets`.
 fn u16_at(octets: &[u8], place: usize) -> u16
     requires { place + 2 ≤ length octets.now }
     ensures { to_be_bytes w16 result ≡ take 2 (drop place octets.now) }
@@ -36,7 +36,7 @@ fn u16_at(octets: &[u8], place: usize) -> u16
     BigEndian::read_u16(&octets[place..])
 }
 
-/// Returns the big-endian 32-bit number at offset `place` of `octets`.
+/// Returns the big-endian 32-bit number at `offset` in `octets`.
 fn u32_at(octets: &[u8], place: usize) -> u32
     requires { place + 4 ≤ length octets.now }
     ensures { to_be_bytes w32 result ≡ take 4 (drop place octets.now) }
@@ -44,7 +44,7 @@ fn u32_at(octets: &[u8], place: usize) -> u32
     BigEndian::read_u32(&octets[place..])
 }
 
-/// Returns the header of which `octets` are the spelling. Numbers are big-endian.
+/// Parses the octets of a header (RFC 6396, section 2). Its numbers are big-endian.
 pub(crate) fn read_header(octets: &[u8; HEADER_SIZE]) -> Header
     ensures fits { IsHeader result.seconds result.kind result.subtype result.size }
     ensures octets { header_octets result.seconds result.kind result.subtype result.size
@@ -58,8 +58,8 @@ pub(crate) fn read_header(octets: &[u8; HEADER_SIZE]) -> Header
     }
 }
 
-/// Returns `true` if `octets` begins with a header and at least as many octets after it as it
-/// states.
+/// Returns `true` if `octets` begins with a whole record: a header, and a body of the length that
+/// the header states.
 #[inline]
 pub(crate) fn begins_with_record(octets: &[u8]) -> bool
     ensures { IsTrue result ↔ HoldsRecord octets.now }

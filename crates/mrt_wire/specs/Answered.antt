@@ -1,5 +1,5 @@
 -- Private.
--- What a source answers.
+-- What a source returns: from one state to another, and in a call of `next`.
 use Rattle.std.specs.Prelude.{◌≡◌, ℕ, ◌+◌, Bool, true, false, List, [], ◌∷◌, ◌++◌, length, Option, ◌⊎◌, Result, Ok, Err, take}
 use Rattle.std.specs.Io.KnownBytes.{Consumes}
 use Rattle.mrt_wire.specs.declared.next.Phase.{Phase}
@@ -14,20 +14,22 @@ use Rattle.mrt_wire.specs.declared.next.Next.{Next}
 use Rattle.mrt_events.specs.declared.stamp.Stamp.{Stamp}
 use Rattle.mrt_wire.specs.declared.next.Next.TheVariants as next
 
--- ---- what a source has answered since it stood at a place
+-- ---- what calls of `next` returned from one state of a source to another
 
--- the place behind frames
+-- the state of a source after the records of these frames, where `p` is that before them
 abbrev pub place_behind_all : Place → List Frame → Place
 place_behind_all p [] = p
 place_behind_all p (frame ∷ frames) = place_behind_all (place_behind p frame) frames
 
--- what was taken behind the frames: nothing while the source reads, and the rest where it has ended
+-- the octets taken after the last whole record, by the phase: none while the source reads, and the rest of the input
+-- where it has ended. It doesn't hold of a source that has failed.
 abbrev pub RestSoFar : Phase → Option (List ℕ) → List ℕ → Type 0
 RestSoFar Reading left rest = rest ≡ []
 RestSoFar Ended left rest = EndsAt left rest
 RestSoFar Spent left rest = ⊥
 
--- from one place to another this was answered, and the octets taken are those of frames and then a rest
+-- from state `p` to state `q` calls returned these results, and took the octets of frames and maybe of a rest off the
+-- front of an input, which had `left` before and has `left'` afterwards
 pub record SoFar (p q : Place) (left left' : Option (List ℕ)) (found : List Finding) : Type 0 where
   pub frames : List Frame
   pub rest : List ℕ
@@ -41,30 +43,31 @@ pub record SoFar (p q : Place) (left left' : Option (List ℕ)) (found : List Fi
   pub stamp : q.stamp ≡ p.stamp
   pub rest_is : RestSoFar q.phase left' rest
 
--- whether nothing was found
+-- true of an empty list of results
 abbrev pub is_nothing : List Finding → Bool
 is_nothing [] = true
 is_nothing (finding ∷ found) = false
 
--- ---- what a call of `next` answers
+-- ---- what one call of `next` returns
 
--- what an answer tells
+-- the event or fault that `next` returned, as a list of one, and no element for the end
 abbrev pub answer_findings : Next → List Finding
 answer_findings (next.Event event) = Found event ∷ []
 answer_findings (next.Bad fault) = Bad fault ∷ []
 answer_findings next.End = []
 
--- the place behind octets that ended the reading so
+-- the state of a source that took these octets in state `p` and is then in this phase, with no record read
 abbrev pub stopped_place : Phase → Place → List ℕ → Place
 stopped_place phase p octets =
     record { index = p.index; number = p.number; offset = p.offset + length octets; limit = p.limit; stamp = p.stamp; phase = phase }
 
--- a place where the source is spent, if it answered a fault
+-- the state `q`, or, where the call failed, `q` with phase `Spent`
 abbrev pub spent_place : Place → Result Next SourceFault → Place
 spent_place q (Ok answer) = q
 spent_place q (Err fault) = record { index = q.index; number = q.number; offset = q.offset; limit = q.limit; stamp = q.stamp; phase = Spent }
 
--- the octets are those of one frame, whose event or fault is answered
+-- the octets are those of the record of one frame, whose event or fault is returned, in state `p`; the state is `q`
+-- after it
 pub record IsFrameAt (p q : Place) (answer : Next) (octets : List ℕ) (frame : Frame) : Type 0 where
   pub whole : octets ≡ spelling frame.mrt
   pub is_record : IsRecord frame.mrt
@@ -72,38 +75,45 @@ pub record IsFrameAt (p q : Place) (answer : Next) (octets : List ℕ) (frame : 
   pub tells : answer_findings answer ≡ finding (p.number + 1) p.offset frame.verdict ∷ []
   pub place : q ≡ place_behind p frame
 
--- the octets are the rest, whose fault is answered, or the end; but for a length that is too long, the input ends there
+-- the octets are the rest of the input, whose fault is returned, or the end where it is empty, in state `p`; the
+-- state is `q` after it. The input ends there, unless a header states too much.
 pub record IsRestAt (p q : Place) (left : Option (List ℕ)) (answer : Next) (octets : List ℕ) : Type 0 where
   pub ends : EndsAt left octets
   pub tells : answer_findings answer ≡ fault_findings (p.number + 1) p.offset (rest_fault octets)
   pub place : q ≡ stopped_place Ended p octets
 
--- octets that a fault left: a record has begun in them, or for want of memory a whole one wasn't judged
+-- octets that a call took and then failed with this error: they begin with no whole record, or, if memory allocation
+-- failed, they may be those of a whole one, whose outcome is open
 abbrev pub IsLeft : SourceFault → List ℕ → Type 0
 IsLeft fault octets = IsBegun octets ⊎ ((fault ≡ Memory) × ((r : Record) × IsRecord r × (octets ≡ spelling r)))
 
--- a source that reads went from one place to another and answered so, and these octets were taken from an input that has others left
+-- a call of `next` in phase `Reading` took these octets from an input that has `left` left, returned this result, and
+-- changed the state from `p` to `q`: it read a whole record, or a rest, or failed
 abbrev pub Nexts : Place → Place → Option (List ℕ) → List ℕ → Result Next SourceFault → Type 0
 Nexts p q left octets (Ok answer) = ((frame : Frame) × IsFrameAt p q answer octets frame) ⊎ IsRestAt p q left answer octets
 Nexts p q left octets (Err fault) = IsLeft fault octets × Stops fault q.offset p.limit × (q ≡ stopped_place Spent p octets)
 
--- octets were taken from the input on the way from one place to the other, and this was answered
+-- a call of `next` in phase `Reading`, of an input that had `left` before and has `left'` afterwards, returned this
+-- result and changed the state from `p` to `q`
 abbrev pub IsStep : Place → Place → Option (List ℕ) → Option (List ℕ) → Result Next SourceFault → Type 0
 IsStep p q left left' result = (octets : List ℕ) × Consumes left left' octets × Nexts p q left' octets result
 
--- what may follow the octets taken in a call that answered so: none where it saw the end
+-- these octets may follow the ones taken in a call that returned this: none where it met the end of the input, else
+-- any
 abbrev pub MayFollow : Next → List ℕ → Type 0
 MayFollow (next.Event event) more = Unit {0}
 MayFollow (next.Bad fault) more = fault.kind ≡ CutRecord → more ≡ []
 MayFollow next.End more = more ≡ []
 
--- the answer is the first result of any split of the octets taken, with any behind them that may follow
+-- what `next` returned in state `p` is the first of the results of the octets taken, however they split, whatever
+-- octets that may follow stand after them, for an input that knows its octets. Where it returned the end there are no
+-- results.
 abbrev pub IsFirstResult : Place → Option (List ℕ) → Option (List ℕ) → Next → Type 0
 IsFirstResult p left left' answer =
     (taken after more : List ℕ) (frames : List Frame) (rest : List ℕ) → Took left left' taken after → MayFollow answer more
     → Splits p.stamp p.index (taken ++ more) frames rest → take 1 (results p frames rest) ≡ answer_findings answer
 
--- the octets split in one way at most
+-- the octets split in at most one way into frames and a rest, with this peer index table before the first
 abbrev pub SplitsOneWay : Stamp → Index → List ℕ → Type 0
 SplitsOneWay stamp index octets =
     (frames frames' : List Frame) (rest rest' : List ℕ) → Splits stamp index octets frames rest → Splits stamp index octets frames' rest' → (frames ≡ frames') × (rest ≡ rest')

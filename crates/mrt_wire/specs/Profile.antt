@@ -1,4 +1,4 @@
--- What is read: the types and subtypes of records, and the forms of their bodies (RFC 6396, section 4).
+-- The types and subtypes of records that are supported, and the formats of their bodies (RFC 6396, section 4).
 use Rattle.std.specs.Prelude.{◌≡◌, ℕ, ◌==◌, if◌then◌else◌, Bool, true, false, Option, Some, None}
 use Rattle.ip_prefix.specs.declared.addr.Family.TheVariants.{V4, V6}
 use Rattle.bgp_wire.specs.declared.AsWidth.TheVariants.{Two, Four}
@@ -8,7 +8,8 @@ use Rattle.mrt_wire.specs.declared.profile.SessionKind.TheVariants.{StateChange,
 use Rattle.mrt_wire.specs.declared.profile.TheConstants.{TABLE_DUMP, AFI_IPV4, AFI_IPV6, TABLE_DUMP_V2, BGP4MP, BGP4MP_ET, PEER_INDEX_TABLE, RIB_IPV4_UNICAST, RIB_IPV6_UNICAST, BGP4MP_STATE_CHANGE, BGP4MP_MESSAGE, BGP4MP_MESSAGE_AS4, BGP4MP_STATE_CHANGE_AS4}
 use Rattle.mrt_frames.specs.Record.{Record}
 
--- the forms of what happened in sessions, with microseconds or not, by subtype (section 4.4)
+-- the format of the bodies of BGP4MP records of this subtype, and `None` where it isn't supported (section 4.4);
+-- `timed` tells whether the bodies begin with microseconds (section 3)
 abbrev pub session_form : Bool → ℕ → Option Form
 session_form timed subtype =
     if subtype == BGP4MP_STATE_CHANGE then Some (Session record { kind = StateChange; width = Two; timed = timed })
@@ -17,7 +18,8 @@ session_form timed subtype =
     else if subtype == BGP4MP_STATE_CHANGE_AS4 then Some (Session record { kind = StateChange; width = Four; timed = timed })
     else None
 
--- the table of what is read: the form of the bodies of a type and subtype (sections 4.2, 4.3 and 4.4)
+-- the format of the bodies of this type and subtype, and `None` where these aren't supported (sections 4.2, 4.3 and
+-- 4.4)
 abbrev pub form_of : ℕ → ℕ → Option Form
 form_of kind subtype =
     if kind == TABLE_DUMP then
@@ -31,10 +33,10 @@ form_of kind subtype =
     else if kind == BGP4MP_ET then session_form true subtype
     else None
 
--- bodies of this type and subtype have this form
+-- the type and subtype are supported, and their bodies have this format
 abbrev pub HasForm : ℕ → ℕ → Form → Type 0
 HasForm kind subtype form = form_of kind subtype ≡ Some form
 
--- the type and subtype are read
+-- the type and subtype of the record are supported
 abbrev pub IsSupported : Record → Type 0
 IsSupported r = (form : Form) × HasForm r.kind r.subtype form

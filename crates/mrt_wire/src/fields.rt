@@ -1,6 +1,6 @@
-//! Parsers of the fields that MRT record bodies are made of (RFC 6396, section 4). The parsers of
-//! each record type call them, one field after the other. All numbers are big-endian. Read
-//! [`Field`] first.
+//! Parsers of the fields that the bodies of MRT records are made of (RFC 6396, section 4). The
+//! parsers of each record type call them, one field after the other. All numbers are big-endian.
+//! Read [`ValueAndRest`] first.
 
 ghost use Rattle.std.specs.Prelude.{◌≡◌, ℕ, List, length, IfSome, IfNone};
 ghost use Rattle.ip_prefix.specs.Sequences.{Begins};
@@ -71,8 +71,8 @@ pub(crate) fn split_word(octets: &[u8]) -> Option<Field<'_, u32>>
     Some(Field { value, rest })
 }
 
-/// Parses the big-endian AS number at the start of `octets`, which takes two or four octets as
-/// `width` says. Returns `None` if `octets` has fewer.
+/// Parses the big-endian AS number at the start of `octets`, which takes two or four octets, by
+/// `width`. Returns `None` if `octets` has fewer.
 #[inline]
 pub(crate) fn split_asn(width: AsWidth, octets: &[u8]) -> Option<Field<'_, u32>>
     ensures { FindsField (SpellsAsn width) octets.now result }
@@ -87,9 +87,9 @@ pub(crate) fn split_asn(width: AsWidth, octets: &[u8]) -> Option<Field<'_, u32>>
     }
 }
 
-/// Splits a field off that begins with its length, a big-endian 16-bit number of octets. Returns
-/// the field's octets without the length, and the octets after the field. Returns `None` if
-/// `octets` is shorter than the field.
+/// Splits off a field that begins with its length, a big-endian 16-bit number of octets. Returns
+/// the octets of the field without the length, and the octets after the field. Returns `None` if
+/// `octets` is shorter than the length and the field.
 #[inline]
 pub(crate) fn split_sized(octets: &[u8]) -> Option<(&[u8], &[u8])>
     ensures some { IfSome result (λ found. Begins AreSized found.0.now found.1.now octets.now) }
@@ -101,7 +101,7 @@ pub(crate) fn split_sized(octets: &[u8]) -> Option<(&[u8], &[u8])>
 
 /// Parses the address of `family` at the start of `octets` into `addr`, and returns the octets
 /// after it. An IPv4 address takes 4 octets, an IPv6 address 16. If `octets` has fewer, returns
-/// `None` and leaves `addr` as it was.
+/// `None` and leaves `addr` unchanged.
 #[inline]
 pub(crate) fn fill_address<'a>(
     addr: &mut Addr,
@@ -127,7 +127,7 @@ pub(crate) fn fill_address<'a>(
 }
 
 /// Parses the peer at the start of `octets`: its address, of `family`, and then its AS number, of
-/// `width`. Returns `None` if `octets` has too few octets for them.
+/// `width`. Returns `None` if `octets` is too short for them.
 #[inline(always)]
 pub(crate) fn split_peer_of(
     family: Family,

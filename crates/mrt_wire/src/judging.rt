@@ -1,6 +1,6 @@
 //! Parsing one MRT record into its event, or finding its fault. [`Source`](crate::Source) calls
-//! [`judge`] for each record whose type and subtype are supported (`profile.rt`); `judge` calls the
-//! parser of that record type.
+//! [`decode_record`] for each record whose type and subtype are supported (`profile.rt`). Read that
+//! first; it calls the parser of each record type.
 
 ghost use Rattle.std.specs.Prelude.{◌≡◌};
 ghost use Rattle.mrt_wire.specs.declared.judging.Refusal.TheVariants.{Memory};
@@ -24,7 +24,7 @@ use std::alloc::{AllocError, Global};
 /// The reason why a record yields no event.
 #[derive(Clone, Copy)]
 pub(crate) enum Refusal {
-    /// The record is faulty.
+    /// The record has this fault.
     Fault(RecordKind),
     /// Memory allocation failed.
     Memory,
@@ -49,7 +49,7 @@ impl From<WireFault> for Refusal {
     }
 }
 
-/// A record of a supported type and subtype, as it was taken from the input.
+/// A record of a supported type and subtype, whose body isn't parsed yet.
 #[derive(Clone, Copy)]
 pub(crate) struct RawRecord<'a> {
     /// The form of the body, by the type and subtype of the record.
@@ -72,8 +72,8 @@ fn peers_in(index: &Option<Peers>) -> &[Peer]
 }
 
 /// Returns the fault of the entries of a RIB record, or `None` if they have none. It is `NoIndex`
-/// if no peer index table was accepted before them, or else `PeerIndex` with `unknown`, the first
-/// peer index among the entries that isn't in the table.
+/// if no peer index table was accepted before the record. Otherwise it is `PeerIndex` with
+/// `unknown`, the first peer index among the entries that isn't in the table, if there is one.
 fn entries_fault(index: &Option<Peers>, unknown: Option<u16>) -> Option<RecordKind>
     ensures { result ≡ entries_fault index.now unknown }
 {
@@ -95,9 +95,9 @@ fn session_tag(micros: Option<u32>) -> Tag
     }
 }
 
-/// Parses a record into its event. The peers of an accepted PEER_INDEX_TABLE replace `index`. Fails
-/// with the fault of the record, or with `Memory` if memory allocation fails; `index` is left as it
-/// was then.
+/// Parses a record into its event. The peers of a PEER_INDEX_TABLE replace `index`, those of the
+/// last table accepted before. Fails with the fault of the record, or with `Memory` if memory
+/// allocation fails; `index` is unchanged then.
 #[inline(always)]
 pub(crate) fn judge(
     alloc: Global,

@@ -1,6 +1,6 @@
 //! Theorems about the definitions that the contracts of this crate cite. The functions have no code
 //! and nothing calls them: what they state is proved as the crate is checked. `docs/proved.md`
-//! names them.
+//! names them. Read [`law_one_split`] first.
 
 ghost use Rattle.std.specs.Prelude.{◌≡◌, ℕ, List};
 ghost use Rattle.mrt_events.specs.declared.stamp.Stamp.{Stamp};
@@ -21,8 +21,8 @@ pub fn one_content()
         IsBody kind subtype a body → IsBody kind subtype b body → a ≡ b }
 {}
 
-/// Proves that no list of octets is without a split into frames and a rest that begins with no
-/// record. The statement is a double negation: it names no split.
+/// Proves that every list of octets has a split into frames and a rest that begins with no record.
+/// The statement is a double negation, since it names no split.
 pub fn no_octets_without_a_split()
     ensures { (stamp : Stamp) (index : Index) (octets : List ℕ) → IsOctets octets →
         ((frames : List Frame) (rest : List ℕ) → Splits stamp index octets frames rest → ⊥) → ⊥ }
@@ -34,8 +34,9 @@ pub fn one_split()
     ensures { (stamp : Stamp) (index : Index) (octets : List ℕ) → SplitsOneWay stamp index octets }
 {}
 
-/// Proves the values of the numbers that the definitions name: MRT types and subtypes, the sizes of
-/// fields in octets (RFC 6396, sections 2 to 4), and the greatest length of a body that is read.
+/// Proves the values of the constants that the definitions name: MRT types and subtypes, the sizes
+/// of fields in octets (RFC 6396, sections 2 to 4), the greatest length of a body that is read, and
+/// the microseconds of a second.
 pub fn record_numbers()
     ensures sizes { (HEADER_SIZE ≡ 12) × (LONGEST_BODY ≡ 16777216) }
     ensures types { (TABLE_DUMP ≡ 12) × (TABLE_DUMP_V2 ≡ 13) × (BGP4MP ≡ 16)

@@ -1,6 +1,6 @@
-//! Parsing PEER_INDEX_TABLE records (RFC 6396, section 4.3.1). The entries of RIB records refer to
-//! the peers of this table by their position in it, the peer index. `judge` calls
-//! [`read_peer_index`]; read that first.
+//! Parsing PEER_INDEX_TABLE records (RFC 6396, section 4.3.1). Entries of RIB records refer to the
+//! peers of this table by their position in it, counted from 0: the peer index. `decode_record`
+//! calls [`read_peer_index`]; read that first.
 
 ghost use Rattle.std.specs.Prelude.{◌≡◌, ℕ, List, IfSome, IfNone};
 ghost use Rattle.ip_prefix.specs.Sequences.{Begins};
@@ -31,7 +31,7 @@ const ID_SIZE: usize = 4;
 /// number of two octets.
 const SMALLEST_PEER: usize = 11;
 
-/// Returns the family of the address of a peer, by its Peer Type.
+/// Returns the family of a peer's address, by its Peer Type (RFC 6396, section 4.3.1).
 fn peer_family(kind: u8) -> Family
     ensures { result ≡ peer_family kind }
 {
@@ -42,7 +42,7 @@ fn peer_family(kind: u8) -> Family
     }
 }
 
-/// Returns the width of the AS number of a peer, by its Peer Type.
+/// Returns the width of a peer's AS number, by its Peer Type (RFC 6396, section 4.3.1).
 fn peer_width(kind: u8) -> AsWidth
     ensures { result ≡ peer_width kind }
 {
@@ -53,8 +53,8 @@ fn peer_width(kind: u8) -> AsWidth
     }
 }
 
-/// Parses the peer entry at the start of `octets`, whose BGP ID is ignored. Returns `None` if
-/// `octets` is shorter than the entry.
+/// Parses the peer entry at the start of `octets`, ignoring its BGP ID (RFC 6396, section 4.3.1).
+/// Returns `None` if `octets` is shorter than the entry.
 fn split_peer(octets: &[u8]) -> Option<Field<'_, Peer>>
     ensures { FindsField SpellsPeer octets.now result }
 {
@@ -64,9 +64,9 @@ fn split_peer(octets: &[u8]) -> Option<Field<'_, Peer>>
     split_peer_of(family, width, after_id)
 }
 
-/// Parses the peer entries at the start of `octets`, after their 16-bit count, and ignores the
-/// octets after them. Fails with `Malformed` if there are fewer entries than the count states, or
-/// with `Memory` if memory allocation fails.
+/// Parses a 16-bit count and as many peer entries at the start of `octets`, and ignores the octets
+/// after them. Fails with `Malformed` if there are fewer entries than the count states, or with
+/// `Memory` if memory allocation fails.
 fn read_peers(alloc: Global, octets: &[u8]) -> Result<Peers, WireFault>
     ensures { Reads (WithMore (SpellsCounted SpellsPeer)) octets.now result }
 {
@@ -86,8 +86,8 @@ fn read_peers(alloc: Global, octets: &[u8]) -> Result<Peers, WireFault>
 }
 
 /// Parses the body of a PEER_INDEX_TABLE record into its peers (RFC 6396, section 4.3.1), and
-/// ignores the collector's BGP ID and the view name. Fails with `Malformed` if it isn't such a
-/// body, or with `Memory` if memory allocation fails.
+/// ignores the collector's BGP ID and the view name. Fails with `Malformed` if the body has another
+/// form, or with `Memory` if memory allocation fails.
 pub(crate) fn read_peer_index(alloc: Global, octets: &[u8]) -> Result<Peers, WireFault>
     ensures { Reads SpellsPeerIndex octets.now result }
 {

@@ -1,6 +1,6 @@
-//! The MRT types and subtypes that are supported, and the form of the body of each (RFC 6396,
-//! section 4). `FrameReader::take_record` asks [`Forms`] for the form of each record, and `judge`
-//! matches on it. Read [`Form`] first.
+//! The MRT types and subtypes that are supported, and the format of the body of each (RFC 6396,
+//! section 4). `FrameReader::take_record` asks [`SupportedTypes`] for the format of each record,
+//! and `decode_record` matches on it. Read [`BodyFormat`] first.
 
 ghost use Rattle.std.specs.Prelude.{◌≡◌};
 ghost use Rattle.mrt_wire.specs.Profile.{form_of, session_form};
@@ -58,18 +58,18 @@ pub(crate) enum SessionKind {
     Message,
 }
 
-/// The form of the body of a BGP4MP record.
+/// The format of the body of a BGP4MP or BGP4MP_ET record.
 #[derive(Clone, Copy)]
 pub(crate) struct SessionForm {
     /// The kind of the record.
     pub(crate) kind: SessionKind,
-    /// The width of AS numbers, in the paths of an UPDATE too.
+    /// The width of AS numbers, both in the session fields and in the paths of an UPDATE.
     pub(crate) width: AsWidth,
     /// Whether the body begins with microseconds, as those of BGP4MP_ET do (RFC 6396, section 3).
     pub(crate) timed: bool,
 }
 
-/// The form of the body of a supported record.
+/// The format of the body of a supported record.
 #[derive(Clone, Copy)]
 pub(crate) enum Form {
     /// One peer and its route to a prefix of this family: TABLE_DUMP (RFC 6396, section 4.2).
@@ -83,7 +83,7 @@ pub(crate) enum Form {
     Session(SessionForm),
 }
 
-/// The [`Profile`] of the supported records, which gives each type and subtype a [`Form`].
+/// The supported types and subtypes of records, which gives each a [`BodyFormat`].
 pub(crate) struct Forms;
 
 impl Profile for Forms {
@@ -105,8 +105,9 @@ impl Profile for Forms {
     }
 }
 
-/// Returns the form of the body of a BGP4MP record of this subtype, or `None` if the subtype isn't
-/// supported. `timed` says whether the body begins with microseconds.
+/// Returns the format of the body of a BGP4MP record of this subtype, or `None` if the subtype
+/// isn't supported. `timed` tells whether the body begins with microseconds, as those of BGP4MP_ET
+/// do.
 fn session_form(timed: bool, subtype: u16) -> Option<Form>
     ensures { result ≡ session_form timed subtype }
 {

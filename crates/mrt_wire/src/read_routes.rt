@@ -1,5 +1,7 @@
-//! Routes of tables, each with the octets that its attributes were read from. A peer mostly has the same
-//! attributes in record after record, which are read once.
+//! A cache of the routes that table entries were parsed into, with the octets that each was parsed
+//! from. Peers mostly send the same attributes in record after record, which are parsed once.
+//! `rib.rt` and `table_dump.rt` call [`RouteCache::get_or_read`] for each entry; read that first,
+//! then [`CachedRoute`].
 
 ghost use Rattle.std.specs.Prelude.{◌≡◌, ◌≤◌, ◌<◌, IsTrue, IfOk, IfErr, IfSome, OnOk, vec_len};
 ghost use Rattle.bgp_wire.specs.Content.{SpellsRibAttrs};
@@ -18,31 +20,32 @@ use std::marker::Model;
 use std::mem;
 use std::rc::Rc;
 
-/// The number of octets of the value of ORIGIN (RFC 4271, section 4.3).
+/// The size of the value of ORIGIN, in octets (RFC 4271, section 4.3).
 const ORIGIN_SIZE: u8 = 1;
 
-/// The largest number of octets of attributes that are kept with their route. Longer ones are read each
-/// time, into a route of the pool.
+/// The largest size of the attributes of a cached route, in octets. Attributes of one octet more
+/// are parsed for each entry, into a route of the pool.
 const LONGEST_PLACED: usize = 192;
 
-/// The largest number of segments of the path of a route that is kept. A slot whose route gets more is
-/// emptied, so that the next entry there is read into new memory.
+/// The largest number of path segments of a cached route. A slot whose route has one segment more
+/// is emptied, so that the next entry there is parsed into new memory.
 const MOST_SEGMENTS: usize = 2;
 
-/// The largest number of octets that a slot takes in memory, with all capacity of its route: most where
-/// its path has numbers of two octets. Nothing compares it at run time; `MOST_OCTETS` is checked with it.
+/// The largest number of octets of memory that a slot takes, with all capacity of its route. It was
+/// computed for the path that takes most, one of AS numbers of two octets. Nothing compares it at
+/// run time; the bound `MOST_OCTETS` of `pool.rt` is proved with it.
 pub(crate) const LARGEST_PLACE: usize = 1344;
 
-/// The largest number of spare routes. A record with more entries whose routes have other owners allocates
-/// memory for the rest.
+/// The largest number of spare routes. A record with more entries whose routes have other owners
+/// allocates memory for the further ones.
 pub(crate) const MOST_SPARES: usize = 64;
 
-/// A ring of routes, which are swapped for routes that have other owners. Mostly those have none any more
-/// when their turn comes again.
+/// A ring of routes that are swapped for routes with other owners. By the time that a route's turn
+/// comes again, its other owners have mostly dropped it.
 #[derive(Drop)]
 struct SpareRoutes {
     routes: Vec<Rc<Route>>,
-    /// The index of the next one.
+    /// The index of the route that is swapped next.
     next: usize,
     ghost few: { vec_len routes ≤ MOST_SPARES },
     ghost within: { next < MOST_SPARES },
@@ -57,7 +60,9 @@ impl SpareRoutes {
         }
     }
 
-    /// Swaps `route` for the next route of the ring, which may have other owners too.
+    /// Swaps `route` for the next route of the ring, which may have other owners too, or for a
+    /// blank one as long as the ring has fewer than [`MOST_SPARES`] routes. On error, which means
+    /// that memory allocation fails, `route` is unspecified.
     #[inline(always)]
     fn exchange_route(&mut self, alloc: Global, route: &mut Rc<Route>) -> Result<(), AllocError> {
         match self.routes.get_mut(self.next) {
@@ -68,7 +73,8 @@ impl SpareRoutes {
         Ok(())
     }
 
-    /// Adds `route` to the ring, and replaces it by one without attributes.
+    /// Moves `route` to the end of the ring, and sets `route` to a new one without attributes. On
+    /// error, which means that memory allocation fails, `route` is unspecified.
     #[inline(never)]
     fn add_route(&mut self, alloc: Global, route: &mut Rc<Route>) -> Result<(), AllocError>
         requires { vec_len self.old.routes < MOST_SPARES }
@@ -80,14 +86,19 @@ impl SpareRoutes {
     }
 }
 
-/// A route, and the octets that its attributes were read from. In contracts it is the route.
+/// A route of a table entry, with the octets that its attributes were parsed from. In contracts it
+/// is the route.
 #[derive(Drop)]
 struct ReadRoute {
     route: Rc<Route>,
+    /// The path attributes, unparsed (RFC 4271, section 4.3).
     octets: Vec<u8>,
+    /// The family of the prefix that `octets` were parsed for.
     family: Family,
+    /// The width of the AS numbers in `octets`.
     width: AsWidth,
-    /// Whether the route was read from `octets`. It is false after an error.
+    /// Whether `route` was parsed from `octets`. It is `false` before the first entry, and after one that
+    /// couldn't be parsed.
     known: bool,
 }
 
@@ -105,7 +116,8 @@ impl Model for ReadRoute {
 }
 
 impl ReadRoute {
-    /// Returns a route without attributes, which was read from no octets.
+    /// Returns a route without attributes, which was parsed from no octets. Fails if memory
+    /// allocation fails.
     fn none(alloc: Global) -> Result<ReadRoute, AllocError> {
         let route = new_route(alloc)?;
         Ok(ReadRoute {
@@ -117,7 +129,8 @@ impl ReadRoute {
         })
     }
 
-    /// Returns whether its attributes were read from these octets, for the same family and width.
+    /// Returns `true` if the attributes of the route were parsed from the octets, for the family
+    /// and at the width of `raw`.
     #[inline(always)]
     fn is_of(&self, sent: SentAttrs<'_>) -> bool
         ensures { IsTrue result → SpellsRibAttrs sent.entry.family sent.entry.width
@@ -129,7 +142,8 @@ impl ReadRoute {
             && self.octets.as_slice() == sent.octets
     }
 
-    /// Sets its time, unless it has other owners and another time, and returns whether it has `time`.
+    /// Sets the time of the route, in seconds since 1970, and returns `true`. If the route has
+    /// another time and another owner, it is left as it is, and `false` is returned.
     #[inline(always)]
     fn date(&mut self, time: u32) -> bool
         ensures time { IsTrue result → self.new.time ≡ time }
@@ -147,8 +161,10 @@ impl ReadRoute {
         }
     }
 
-    /// Reads attributes into the route, or, if it has other owners, into a spare route or a new one that
-    /// takes its place. Returns the route, whose time is `time`.
+    /// Parses attributes into the route, sets its time, in seconds since 1970, and returns it. If
+    /// it has other owners, a route of `spares` or a new one replaces it first. Fails with
+    /// `Malformed` if the attributes are malformed, or with `Memory` if memory allocation fails;
+    /// the route isn't reused then until it was parsed anew.
     #[inline(always)]
     fn read(
         &mut self,
@@ -174,8 +190,9 @@ impl ReadRoute {
     }
 }
 
-/// Returns whether attributes begin as routers send them, in the order of their types (RFC 4271, section
-/// 5): with ORIGIN, followed by a path of one segment.
+/// Returns `true` if path attributes begin as routers mostly send them, in the order of their types
+/// (RFC 4271, section 5): with ORIGIN, and then an AS_PATH of one segment, whose AS numbers have
+/// this width. An empty AS_PATH has no segment.
 #[inline(always)]
 fn begin_plainly(octets: &[u8], width: AsWidth) -> bool {
     let (size, count) = match octets {
@@ -197,8 +214,8 @@ fn begin_plainly(octets: &[u8], width: AsWidth) -> bool {
     usize::from(size) == usize::from(count) * width.octets() + 2
 }
 
-/// Returns whether attributes begin with MP_REACH_NLRI (RFC 7606, section 5.1), followed by ORIGIN and a
-/// path of one segment.
+/// Returns `true` if path attributes begin with MP_REACH_NLRI (RFC 7606, section 5.1), with its
+/// length in one octet, and then as [`has_usual_layout`] tests it.
 #[inline(never)]
 fn begin_plainly_behind_reach(octets: &[u8], width: AsWidth) -> bool {
     match octets {
@@ -209,19 +226,20 @@ fn begin_plainly_behind_reach(octets: &[u8], width: AsWidth) -> bool {
     }
 }
 
-/// The routes of tables that were read last, one for each slot. A peer has one slot, which it may share
-/// with others: which routes are kept changes time and memory alone.
+/// The cached routes of table entries, each in a slot. A peer has one slot, by its peer index or
+/// its hash, which it may share with other peers.
 #[derive(Drop)]
 pub(crate) struct ReadRoutes {
+    /// The slots, up to the last that was needed. An empty one is `None`.
     places: Vec<Option<ReadRoute>>,
     spares: SpareRoutes,
-    /// The routes of entries that aren't kept in a slot.
+    /// The routes of entries that aren't cached.
     pub(crate) routes: RoutePool,
     ghost bounded: { vec_len places ≤ PEER_PLACES },
 }
 
 impl ReadRoutes {
-    /// Returns no slots, without allocating memory.
+    /// Returns a cache without slots, without allocating memory.
     pub(crate) fn new(alloc: Global) -> ReadRoutes {
         ReadRoutes {
             places: Vec::new(alloc),
@@ -230,7 +248,7 @@ impl ReadRoutes {
         }
     }
 
-    /// Adds empty slots up to this index.
+    /// Adds empty slots until there is one with index `slot`. Fails if memory allocation fails.
     fn make_place(&mut self, place: usize) -> Result<(), AllocError>
         requires { place < PEER_PLACES }
         ensures { OnOk result (place < vec_len self.new.places) }
@@ -241,7 +259,8 @@ impl ReadRoutes {
         Ok(())
     }
 
-    /// Empties the slot, so that its memory is freed unless the route has other owners.
+    /// Empties a slot, given by its index. Frees the memory of its route unless that has other
+    /// owners.
     #[inline(never)]
     fn clear(&mut self, place: usize)
         requires { place < vec_len self.old.places }
@@ -249,7 +268,10 @@ impl ReadRoutes {
         self.places[place] = None;
     }
 
-    /// Reads attributes into the slot, and returns the route, whose time is `time`.
+    /// Parses attributes into the slot with index `slot`, and returns their route, with this time,
+    /// in seconds since 1970. Fails with `Malformed` if the attributes are malformed, or with
+    /// `Memory` if memory allocation fails; the slot's route isn't reused then until it was parsed
+    /// anew.
     #[inline(always)]
     fn read(
         &mut self,
@@ -273,9 +295,11 @@ impl ReadRoutes {
         }
     }
 
-    /// Returns a route of these attributes, whose time is `time`. `number` is that of its peer in the peer
-    /// index, or a hash of the peer: if the slot's route was read from the same octets, they aren't read
-    /// again. A route that may take more memory than a slot may is read into the pool.
+    /// Returns a route with these attributes and this time, in seconds since 1970. `number` is the
+    /// peer index of the entry or a hash of its peer, which selects the slot. If the slot's route
+    /// was parsed from the same octets, nothing is parsed. A route that may take more memory than a
+    /// slot may is parsed into the pool. Fails with `Malformed` if the attributes are malformed, or
+    /// with `Memory` if memory allocation fails.
     #[inline(always)]
     pub(crate) fn route_of(
         &mut self,
@@ -287,6 +311,7 @@ impl ReadRoutes {
         ensures read { IfOk result (λ route. IsSentAs sent.entry time route.value) }
         ensures refused { IfErr result (RefusesSent sent.entry) }
     {
+        // Which routes are cached changes time and memory alone, so the contract doesn't tell them apart.
         if sent.octets.len() > LONGEST_PLACED {
             return self.routes.rib_route(alloc, sent, time);
         }

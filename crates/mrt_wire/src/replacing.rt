@@ -1,5 +1,5 @@
-//! Moving or copying the attributes of a message into a route, whose memory is reused.
-//! `route_pool.rt` calls [`put_attrs`].
+//! Moving or copying the attributes of a message into a route whose memory is reused.
+//! `route_pool.rt` calls [`move_or_copy_attrs`]; read that first.
 
 ghost use Rattle.std.specs.Prelude.{◌≡◌, true, OnOk};
 
@@ -7,8 +7,8 @@ use bgp_wire::{Attrs, replace_attrs};
 use std::alloc::{AllocError, Global};
 use std::mem;
 
-/// Sets `attrs` to the value of `others`, and gives `others` the path and the communities that
-/// `attrs` had, so that their memory is reused.
+/// Sets `attrs` to the value of `others`. `others` gets the path and the communities that `attrs`
+/// had, so that their memory is reused; its other fields are unchanged.
 #[inline(always)]
 fn exchange_attrs(attrs: &mut Attrs, others: &mut Attrs)
     ensures { attrs.new ≡ others.old }
@@ -25,9 +25,9 @@ fn exchange_attrs(attrs: &mut Attrs, others: &mut Attrs)
     attrs.atomic = others.atomic;
 }
 
-/// Sets `attrs` to the value of `others`, which is copied and left as it is if `is_kept`. If not,
-/// `others` is unspecified afterwards. On error, which means that memory allocation fails, `attrs`
-/// is unspecified.
+/// Sets `attrs` to the value of `others`, which is copied and left as it is if `keep_attrs`, and is
+/// unspecified afterwards if not. On error, which means that memory allocation fails, `attrs` is
+/// unspecified.
 #[inline(always)]
 pub(crate) fn put_attrs(
     alloc: Global,

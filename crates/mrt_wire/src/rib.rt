@@ -1,6 +1,6 @@
-//! Parsing RIB_IPV4_UNICAST and RIB_IPV6_UNICAST records: the entries of a table for one prefix
-//! (RFC 6396, sections 4.3.2 and 4.3.4). `judge` calls [`read_rib`]; read that first, then
-//! `read_entry`.
+//! Parsing RIB_IPV4_UNICAST and RIB_IPV6_UNICAST records: the entries of a routing table for one
+//! prefix (RFC 6396, sections 4.3.2 and 4.3.4). `decode_record` calls [`read_rib`]; read that
+//! first, then `read_entry`.
 
 ghost use Rattle.std.specs.Prelude.{◌≡◌, ◌∷◌, [], slice_get, OnOk, IfSome, IfNone, IfOk, IfErr};
 ghost use Rattle.std.specs.Option.{option_or};
@@ -30,7 +30,7 @@ const SMALLEST_ENTRY: usize = 8;
 /// A parsed RIB entry (RFC 6396, section 4.3.4).
 #[derive(Drop)]
 pub(crate) struct ReadEntry {
-    /// The route, whose time is the one that the stamp of the [`Snapshot`] selects.
+    /// The route, whose time is the one that the stamp of the [`TableContext`] selects.
     pub(crate) route: Rc<Route>,
     /// The Originated Time, in seconds since 1970.
     pub(crate) originated: u32,
@@ -38,7 +38,7 @@ pub(crate) struct ReadEntry {
     pub(crate) index: u16,
 }
 
-/// The context in which the entries of a RIB record are parsed.
+/// The context of the entries of a RIB record: what their items depend on besides their octets.
 #[derive(Clone, Copy)]
 pub(crate) struct Snapshot<'a> {
     /// The peers of the peer index table, in the order of their peer indexes.
@@ -60,8 +60,8 @@ pub(crate) struct EntryItems {
     pub(crate) unknown: Option<u16>,
 }
 
-/// Returns the time of the route of a table entry, in seconds since 1970. As `stamp` says, it is
-/// `seconds`, the timestamp of the record, or `originated`, the Originated Time of the entry.
+/// Returns the time of the route of a table entry, in seconds since 1970: `seconds`, the timestamp
+/// of the record, or `originated`, the Originated Time of the entry, as `stamp` chooses.
 #[inline]
 pub(crate) fn time_of(stamp: Stamp, seconds: u32, originated: u32) -> u32
     ensures { result ≡ entry_time stamp seconds originated }
@@ -103,8 +103,9 @@ fn frame_entry(octets: &[u8]) -> Option<FramedEntry<'_>>
     })
 }
 
-/// Parses the RIB entry at the start of `octets`, and returns it with the octets after it. Fails
-/// with `Malformed` if no well-formed entry is there, or with `Memory` if memory allocation fails.
+/// Parses the RIB entry at the start of `octets`, and returns it with the octets after it (RFC
+/// 6396, section 4.3.4). Fails with `Malformed` if no well-formed entry is there, or with `Memory`
+/// if memory allocation fails.
 #[inline]
 fn read_entry<'a>(
     alloc: Global,
@@ -144,9 +145,9 @@ fn peer_at(peers: &[Peer], number: u16) -> Option<Peer>
 }
 
 impl EntryItems {
-    /// Appends the announcement of `prefix` with the route of `entry`. If its peer index is
-    /// unknown, sets `unknown` to it instead, unless `unknown` is set. On error, which means that
-    /// memory allocation fails, `self` is unspecified.
+    /// Appends the announcement of `prefix` with the route of `entry`. If the peer index of `entry`
+    /// is unknown, appends nothing and sets `unknown` to it, unless `unknown` is set. On error,
+    /// which means that memory allocation fails, `self` is unspecified.
     fn add(
         &mut self,
         snapshot: Snapshot<'_>,
@@ -169,9 +170,9 @@ impl EntryItems {
     }
 }
 
-/// Parses the RIB entries at the start of `octets`, after their 16-bit count, into announcements of
-/// `prefix`. The octets after the entries are ignored. Fails with `Malformed` if an entry is
-/// missing or malformed, or with `Memory` if memory allocation fails.
+/// Parses a 16-bit count and as many RIB entries at the start of `octets` into announcements of
+/// `prefix`, and ignores the octets after them. Fails with `Malformed` if an entry is missing or
+/// malformed, or with `Memory` if memory allocation fails.
 fn read_entries(
     alloc: Global,
     pool: &mut Pool,
@@ -201,8 +202,8 @@ fn read_entries(
 }
 
 /// Parses the body of a RIB_IPV4_UNICAST or RIB_IPV6_UNICAST record into announcements (RFC 6396,
-/// section 4.3.2). Unknown peer indexes are no error here. Fails with `Malformed` if it isn't such
-/// a body, or with `Memory` if memory allocation fails.
+/// section 4.3.2). An unknown peer index is no error here. Fails with `Malformed` if the body has
+/// another form, or with `Memory` if memory allocation fails.
 pub(crate) fn read_rib(
     alloc: Global,
     pool: &mut Pool,

@@ -1,5 +1,6 @@
 //! Parsing the path attributes of a table entry into a route, whose memory is reused if nobody else
-//! holds it. `route_pool.rt` and `read_routes.rt` call these functions. Read [`SentAttrs`] first.
+//! holds it. `route_pool.rt` and `route_cache.rt` call [`fill_or_replace`]. Read [`RawAttrs`]
+//! first.
 
 ghost use Rattle.std.specs.Prelude.{IfOk, IfErr, OnOk};
 ghost use Rattle.mrt_wire.specs.Judging.{IsSentAs, RefusesSent};
@@ -28,8 +29,7 @@ pub(crate) fn blank_route(alloc: Global) -> Route {
     Route { attrs, time: 0 }
 }
 
-/// Returns a new shared route without attributes and with time 0, or an error if memory allocation
-/// fails.
+/// Allocates a shared route without attributes and with time 0. Fails if memory allocation fails.
 pub(crate) fn new_route(alloc: Global) -> Result<Rc<Route>, AllocError> {
     Ok(Rc::new(alloc, blank_route(alloc))?)
 }
@@ -71,8 +71,9 @@ fn read_rib_route(alloc: Global, sent: SentAttrs<'_>, time: u32) -> Result<Rc<Ro
 }
 
 /// Parses the path attributes of a table entry into `shared`, and sets its time, in seconds since
-/// 1970. If the route has another owner, `shared` becomes a new route. Fails as [`fill_rib_route`]
-/// does; a route without another owner is unspecified then, and one with another is left as it was.
+/// 1970. If the route has another owner, `shared` becomes a new route instead. Fails as
+/// [`fill_rib_route`] does; a route without another owner is unspecified then, and `shared` is
+/// unchanged if its route has one.
 #[inline(always)]
 pub(crate) fn fill_shared(
     shared: &mut Rc<Route>,

@@ -1,5 +1,7 @@
-//! A pool of routes: the next record is read into those of earlier records that have no other owner any
-//! more, so that reading mostly allocates nothing.
+//! A pool of routes that records are read into. A route that nobody else holds any more is
+//! overwritten with that of a later record, so that reading mostly allocates nothing. `update.rt`
+//! calls [`RoutePool::make_route`] for each message, and `route_cache.rt` calls
+//! [`RoutePool::rib_route`] for each table entry that it doesn't cache. Read [`RoutePool`] first.
 
 ghost use Rattle.std.specs.Prelude.{◌≡◌, ◌≤◌, ◌<◌, ◌+◌, ◌-◌, ◌*◌, min, max, true, IfOk, IfErr, vec_len};
 ghost use Rattle.mrt_wire.specs.declared.route_pool.TheConstants.{LET_GO, MOST_ROOM, MOST_ROUTES};
@@ -14,57 +16,63 @@ use std::alloc::{AllocError, Global};
 use std::mem;
 use std::rc::Rc;
 
-/// The number of routes of a record that are kept without being counted, if they are short. Each further
-/// one is counted.
+/// The number of routes of a record, the first ones, that are kept without being counted if their
+/// attributes are short. Each further one is counted.
 pub(crate) const FIRST_ROUTES: usize = 4;
 
-/// The largest number of octets of the attributes of such a route. One with longer attributes is counted.
+/// The largest size, in octets, of the attributes of a route that is kept without being counted. A
+/// route with longer attributes is counted.
 const LONGEST_FIRST: usize = 1024;
 
-/// The largest number of octets that such a route takes in memory, with all its capacity: most where each
-/// segment of its path has one number of two octets. Nothing compares it at run time; `MOST_OCTETS` is
-/// checked with it.
+/// The largest number of octets of memory that a route takes that is kept without being counted,
+/// with all its capacity. It was computed for the path that takes most, whose segments have one AS
+/// number of two octets each. Nothing compares it at run time; the bound `MOST_OCTETS` of `pool.rt`
+/// is proved with it.
 pub(crate) const LARGEST_FIRST: usize = 26 * 1024;
 
-/// The largest number of routes that are kept. A record has at most 65,535 entries, so none needs more;
-/// further ones would be read into the last route in turn.
+/// The largest number of routes in a pool. A record has at most 65,535 entries, so none needs more;
+/// further entries would all be read into the last route.
 pub(crate) const MOST_ROUTES: usize = 1 << 16;
 
-/// The number of octets that the counted routes may take in memory together, with all their capacity. A
-/// record that needs more may keep what it needs until enough octets were read after it (`LET_GO`). Above
-/// what may be kept, the last routes are dropped.
+/// The number of octets of memory that the counted routes may take together, with all their
+/// capacity. A record that needs more keeps what it needs, until enough octets of other records are
+/// read ([`LOWERING_RATE`]). Where the routes would take more than they may, the last ones are
+/// dropped.
 pub(crate) const MOST_ROOM: u64 = 560 * 1024;
 
-/// The largest number of octets that a route takes in the list of routes: a pointer and a number, and as
-/// much again of the list's spare capacity.
+/// The largest number of octets that an element of the list of routes takes: a pointer and a
+/// number, and as many octets again of the list's spare capacity.
 pub(crate) const PLACE_OCTETS: u64 = 32;
 
-/// How many octets less may be kept for each octet of a record, down to what that record needed. So what
-/// is dropped wasn't needed while a quarter as many octets were read, and allocating it again takes about
-/// as long as reading these.
+// What is dropped so wasn't needed while a quarter as many octets were read. To allocate it again
+// takes about as long as to read these.
+/// The number of octets by which the bound of a pool falls for each octet of a record, down to what
+/// that record needed and to [`MOST_ROOM`].
 const LET_GO: u64 = 4;
 
-/// Returns the largest number of octets that a counted route takes, with its entry in the list.
+/// Returns the largest number of octets of memory that a counted route takes, with its element in
+/// the list.
 #[inline]
 fn counted_room(route: &Route) -> u64 {
     route_room(route).saturating_add(PLACE_OCTETS)
 }
 
-/// A route of the pool, and the number of octets that are counted for it.
+/// A route of a pool, which the items of events may hold too.
 #[derive(Drop)]
 struct GivenRoute {
     route: Rc<Route>,
+    /// The number of octets that are counted for the route, or 0 if it isn't counted.
     room: u64,
 }
 
 impl GivenRoute {
-    /// Returns a route without attributes, for which no octets are counted.
+    /// Returns a route without attributes, which isn't counted. Fails if memory allocation fails.
     fn blank(alloc: Global) -> Result<GivenRoute, AllocError> {
         let route = new_route(alloc)?;
         Ok(GivenRoute { route, room: 0 })
     }
 
-    /// Returns whether the route has another owner besides the pool.
+    /// Returns `true` if the route has an owner besides the pool.
     fn has_other_owner(&self) -> bool {
         Rc::strong_count(&self.route) > 1
     }
@@ -74,16 +82,16 @@ impl GivenRoute {
 #[derive(Drop)]
 pub(crate) struct RoutePool {
     routes: Vec<GivenRoute>,
-    /// The number of routes that the current record has used, without the last of [`MOST_ROUTES`], which
-    /// is used again and again.
+    /// The number of routes that the current record has used, at most [`MOST_ROUTES`] - 1: the last
+    /// route is used for all further entries.
     given: usize,
-    /// The number of octets counted for all routes.
+    /// The number of octets counted for all routes together.
     room: u64,
-    /// The number of octets counted for the routes of the current record.
+    /// The number of octets counted for the routes that the current record has used.
     needed: u64,
-    /// The upper bound of `room`.
+    /// The largest value that `room` may have.
     most: u64,
-    /// The number of octets of the current record.
+    /// The size of the current record, in octets.
     octets: u64,
     ghost counted: { given ≤ vec_len routes },
     ghost bounded: { vec_len routes ≤ MOST_ROUTES },
@@ -91,8 +99,9 @@ pub(crate) struct RoutePool {
     ghost fits: { room ≤ most },
 }
 
-/// Returns a new route of these attributes and this time. If `is_kept` is false, `attrs` is left without
-/// them.
+/// Allocates a route with these attributes and this time, in seconds since 1970. `attrs` is copied
+/// and left as it is if `keep_attrs`; otherwise it is unspecified afterwards. Fails if memory
+/// allocation fails.
 #[inline(never)]
 fn made_route(
     alloc: Global,
@@ -122,7 +131,8 @@ impl RoutePool {
         }
     }
 
-    /// Begins a record of so many octets, which may use all routes again.
+    /// Begins a record of `octets` octets, which may use all routes of the pool. Lowers the bound
+    /// of the pool if an earlier record raised it above [`MOST_ROOM`].
     #[inline(always)]
     pub(crate) fn restart(&mut self, octets: usize)
         ensures given { self.new.given ≡ 0 }
@@ -139,7 +149,9 @@ impl RoutePool {
         self.octets = octets as u64;
     }
 
-    /// Lowers the bound of the pool by what the last record allows, and drops routes above it.
+    /// Lowers the bound of the pool by [`LOWERING_RATE`] octets for each octet of the last record,
+    /// but not below what that record needed, nor below [`MOST_ROOM`]. Drops routes that don't fit
+    /// any more.
     #[inline(never)]
     fn lower(&mut self)
         ensures given { self.new.given ≡ self.old.given }
@@ -154,8 +166,8 @@ impl RoutePool {
         self.most = most;
     }
 
-    /// Drops routes that the current record hasn't used, from the last on, until the others take at most
-    /// so many octets.
+    /// Drops routes that the current record hasn't used, from the last on, until the others take at
+    /// most `most` octets or none is left to drop. Sets `room` to at most `most` in any case.
     #[inline(never)]
     fn let_go(&mut self, most: u64)
         ensures given { self.new.given ≡ self.old.given }
@@ -173,19 +185,20 @@ impl RoutePool {
         self.routes.shrink_to_fit();
     }
 
-    /// Removes the routes that have other owners, if the last record needed more than [`MOST_ROOM`]. So
-    /// their memory is freed as soon as their other owners drop them; the next record couldn't use them
-    /// anyway.
+    /// Drops the pool's handles to routes that have other owners, if the last record needed more
+    /// than [`MOST_ROOM`]. So their memory is freed as soon as their other owners drop them.
     #[inline(always)]
     pub(crate) fn let_go_of_held(&mut self)
         ensures most { self.new.most ≡ self.old.most }
     {
+        // The next record couldn't be read into these routes anyway, as long as they have other owners.
         if self.needed > MOST_ROOM {
             self.remove_held();
         }
     }
 
-    /// Removes the routes that have other owners. The others may be used again.
+    /// Drops the pool's handles to routes that have other owners. All routes that are left may be
+    /// used again.
     #[inline(never)]
     fn remove_held(&mut self)
         ensures given { self.new.given ≡ 0 }
@@ -204,7 +217,8 @@ impl RoutePool {
         self.routes.shrink_to_fit();
     }
 
-    /// Returns the index of the next route of the record. The route may have other owners.
+    /// Returns the index of the route that the record uses next, and adds a blank route if the pool
+    /// has no more. The route may have other owners. Fails if memory allocation fails.
     #[inline(always)]
     fn next_place(&mut self, alloc: Global) -> Result<usize, AllocError>
         ensures next { IfOk result (λ place. place ≡ self.old.given) }
@@ -219,7 +233,9 @@ impl RoutePool {
         Ok(place)
     }
 
-    /// Counts the octets of the route at this index, and drops others if all would take too much.
+    /// Counts the octets of the route at `index`, in place of those counted for it before, as
+    /// octets that the current record needs. If that exceeds the bound of the pool, raises the
+    /// bound to what the record needs, and drops routes that the record hasn't used.
     #[inline(never)]
     fn count(&mut self, place: usize)
         requires { place < vec_len self.old.routes }
@@ -238,8 +254,9 @@ impl RoutePool {
         self.most = most;
     }
 
-    /// Counts the octets of the route at this index, unless it is one of the first and short. `octets` is
-    /// the length of the attributes that it was read from.
+    /// Counts the octets of the route at `index`, unless it is one of the first [`FIRST_ROUTES`],
+    /// was read from at most [`LONGEST_FIRST`] octets, and isn't counted yet. `octets` is the size
+    /// of the attributes that it was read from.
     #[inline(always)]
     fn keep(&mut self, place: usize, octets: usize)
         requires { place < vec_len self.old.routes }
@@ -249,7 +266,10 @@ impl RoutePool {
         }
     }
 
-    /// Reads the attributes of a table's entry into the next route, and returns it, with this time.
+    /// Parses the attributes of a table entry into the next route of the pool, sets its time, in
+    /// seconds since 1970, and returns it. If that route has other owners, a new one replaces it in
+    /// the pool. Fails with `Malformed` if the attributes are malformed, or with `Memory` if memory
+    /// allocation fails.
     #[inline(never)]
     pub(crate) fn rib_route(
         &mut self,
@@ -268,8 +288,10 @@ impl RoutePool {
         Ok(route?)
     }
 
-    /// Returns a route of these attributes and this time, which takes the place of the next one. If
-    /// `is_kept` is false, `attrs` is left without them.
+    /// Returns a route with these attributes and this time, in seconds since 1970: the next one of
+    /// the pool, or, if that has other owners, a new one that replaces it. `attrs` is copied and
+    /// left as it is if `keep_attrs`; otherwise, or on error, it is unspecified afterwards. Fails
+    /// if memory allocation fails.
     #[inline(always)]
     pub(crate) fn route(
         &mut self,

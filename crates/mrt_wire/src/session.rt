@@ -1,6 +1,6 @@
 //! Parsing BGP4MP and BGP4MP_ET records: the state changes and messages of a session (RFC 6396,
-//! sections 3 and 4.4). `judge` calls [`read_session`]; read that first. `update.rt` turns an
-//! UPDATE into items.
+//! sections 3 and 4.4). `decode_record` calls [`read_session`]; read that first. `update.rt` turns
+//! an UPDATE into items.
 
 ghost use Rattle.std.specs.Prelude.{◌≡◌, ◌∷◌, [], ℕ, List, IfOk, IfSome, IfNone};
 ghost use Rattle.ip_prefix.specs.Network.{octet_count};
@@ -29,12 +29,12 @@ const INTERFACE_SIZE: usize = 2;
 /// The number of microseconds in a second.
 const MICROS_PER_SECOND: u32 = 1_000_000;
 
-/// The greatest size of a message, with the session fields in front of it, in octets, after which
-/// the memory that it was parsed into is kept. After one octet more it is freed, and the next
+/// The largest size of a message with the session fields in front of it, in octets, after which the
+/// memory that it was parsed into is kept. After one octet more that memory is freed, and the next
 /// message allocates its own.
 const LONGEST_KEPT: usize = 4096;
 
-/// The parsed body of a BGP4MP record.
+/// What the body of a BGP4MP record was parsed into.
 #[derive(Debug, Drop)]
 pub(crate) struct SessionItems {
     /// The state change, or the withdrawals and announcements of the UPDATE.
@@ -68,7 +68,7 @@ fn split_family(octets: &[u8]) -> Option<Field<'_, Family>>
 }
 
 /// Parses the session fields at the start of `octets`, from the Peer AS Number to the Local IP
-/// Address, and sets `peer` (RFC 6396, section 4.4.1). Returns the octets after them. Returns
+/// Address, sets `peer`, and returns the octets after them (RFC 6396, section 4.4.1). Returns
 /// `None` if a field is missing or the address family is unknown; `peer` is unspecified then.
 fn fill_session_peer<'a>(peer: &mut Peer, width: AsWidth, octets: &'a [u8]) -> Option<&'a [u8]>
     ensures some { IfSome result (λ rest.
@@ -85,9 +85,10 @@ fn fill_session_peer<'a>(peer: &mut Peer, width: AsWidth, octets: &'a [u8]) -> O
     Some(rest)
 }
 
-/// Parses the session fields and the BGP message of a BGP4MP record into items, none unless the
-/// message is an UPDATE (RFC 6396, sections 4.4.2 and 4.4.3). Routes get the time `seconds`. Fails
-/// with `Malformed` if the octets have another form, or with `Memory` if memory allocation fails.
+/// Parses the session fields and the BGP message of a BGP4MP record into the items of the message,
+/// none unless it is an UPDATE (RFC 6396, sections 4.4.2 and 4.4.3). Routes get the time `seconds`.
+/// Fails with `Malformed` if the octets have another form, or with `Memory` if memory allocation
+/// fails.
 #[inline(never)]
 fn read_peer_message(
     alloc: Global,
@@ -108,8 +109,8 @@ fn read_peer_message(
     }
 }
 
-/// Parses the microseconds at the start of the body of a BGP4MP_ET record, a 32-bit number
-/// (RFC 6396, section 3). If the body isn't `timed`, the value is `None` and the rest is all of
+/// Parses the microseconds at the start of the body of a BGP4MP_ET record, a 32-bit number (RFC
+/// 6396, section 3). If the body isn't `timed`, the value is `None` and the rest is all of
 /// `octets`. Returns `None` if the number is missing, or if it is 1,000,000 or more.
 fn split_micros(timed: bool, octets: &[u8]) -> Option<Field<'_, Option<u32>>>
     ensures { FindsField (SpellsMicros timed) octets.now result }
@@ -145,9 +146,9 @@ fn read_change(alloc: Global, width: AsWidth, octets: &[u8]) -> Result<Items, Wi
     Ok(Items::from_vec(items))
 }
 
-/// Parses the body of a BGP4MP record, without microseconds, into items. Routes get the time
-/// `seconds`. Fails with `Malformed` if the octets have another form, or with `Memory` if memory
-/// allocation fails.
+/// Parses the body of a BGP4MP record, after its microseconds, into items: a state change, or those
+/// of a message. Routes get the time `seconds`. Fails with `Malformed` if the octets have another
+/// form, or with `Memory` if memory allocation fails.
 #[inline(always)]
 fn read_happening(
     alloc: Global,
@@ -171,9 +172,9 @@ fn read_happening(
     }
 }
 
-/// Parses the body of a BGP4MP or BGP4MP_ET record into items and microseconds. `seconds`, the
-/// timestamp of the record, is the time of its routes. Fails with `Malformed` if the body has
-/// another form, or with `Memory` if memory allocation fails.
+/// Parses the body of a BGP4MP or BGP4MP_ET record into items and microseconds. Its routes get the
+/// time `seconds`, the timestamp of the record. Fails with `Malformed` if the body has another
+/// form, or with `Memory` if memory allocation fails.
 #[inline(always)]
 pub(crate) fn read_session(
     alloc: Global,

@@ -1,6 +1,6 @@
 //! The reader of MRT files. `bgpdump_lines` and `bgpdump_tool` make a [`Source`] and call
-//! [`Source::next`] until it returns the end or an error; read that first. `judging.rt` parses each
-//! record.
+//! [`Source::next`] until it returns the end or an error; read that first. `decoding.rt` parses
+//! each record.
 
 ghost use Rattle.std.specs.Prelude.{◌≡◌, ◌≤◌, ◌+◌, ◌||◌, ◌↔◌, false, Ok, Err, IsTrue};
 ghost use Rattle.mrt_wire.specs.declared.next.Next.{Next};
@@ -21,7 +21,7 @@ use std::alloc::Global;
 use std::marker::Model;
 
 /// A reader of events from an input of MRT records (RFC 6396). The caller holds the input and
-/// passes it to each call of [`Source::next`].
+/// passes it to each call of [`Source::next`]. In contracts a source is its `SourceState`.
 #[derive(Drop)]
 pub struct Source {
     alloc: Global,
@@ -59,9 +59,9 @@ impl Model for Source {
 }
 
 impl Source {
-    /// Returns a source at the start of its input, which reads at most `limit` octets. `stamp` says
-    /// which time the routes of tables get. If the source would have to read more, even only to see
-    /// the end, [`Source::next`] fails with `InputTooLong`.
+    /// Returns a source at the start of its input, which reads at most `limit` octets. `stamp`
+    /// chooses the time that the routes of table entries get. If the source would have to read more
+    /// octets, be it only to see the end, [`Source::next`] fails with `InputTooLong`.
     pub fn new(alloc: Global, stamp: Stamp, limit: u64) -> Self
         ensures { result ≡ start_place stamp limit }
     {
@@ -84,8 +84,8 @@ impl Source {
         self.frames.taken()
     }
 
-    /// Returns `true` if [`Source::next`] may still read from the input, that is in phase
-    /// [`Phase::Reading`].
+    /// Returns `true` if [`Source::next`] may still read from the input, which is so in phase
+    /// [`Phase::Reading`] and in no other.
     #[inline]
     pub fn is_reading(&self) -> bool
         ensures { IsTrue result ↔ (self.now.phase ≡ Phase.Reading) }
@@ -93,8 +93,8 @@ impl Source {
         self.phase == Phase::Reading
     }
 
-    /// Takes back a result of [`Source::next`] that the caller no longer needs, to reuse its
-    /// memory.
+    /// Reuses the memory of a result of [`Source::next`] that the caller no longer needs. What
+    /// later calls return doesn't depend on it.
     #[inline(always)]
     pub fn take_back(&mut self, answer: Next)
         ensures { self.new ≡ self.old }
@@ -106,9 +106,9 @@ impl Source {
     }
 
     /// Reads the next record, and returns its event or its fault, or [`Next::End`] at the end of
-    /// the input. An error means that the input failed, the limit was met, or memory allocation
-    /// failed; each later call returns `Spent`. Except in phase [`Phase::Reading`], nothing is
-    /// read.
+    /// the input. Fails with `Read` if the input fails, with `InputTooLong` if the limit is met, or
+    /// with `Memory` if memory allocation fails; each later call fails with `Spent`. Reads nothing
+    /// in phases [`Phase::Ended`] and [`Phase::Spent`].
     #[inline(always)]
     pub fn next<I: Input>(&mut self, input: &mut I) -> Result<Next, SourceFault>
         // One record is taken, and its event or fault is returned; or octets that begin with no
@@ -146,8 +146,9 @@ impl Source {
         }
     }
 
-    /// Reads the next record for [`Source::next`], in phase `Reading`. Returns its event or its
-    /// fault, or [`Next::End`] at the end of the input. On error, the phase is still `Reading`.
+    /// Reads the next record in phase `Reading`, and returns its event or its fault, or
+    /// [`Next::End`] at the end of the input. On error, the phase is still `Reading`;
+    /// [`Source::next`], which calls this, changes it.
     #[inline(always)]
     fn read<I: Input>(&mut self, input: &mut I) -> Result<Next, SourceFault>
         ensures next { IsStep self.old (spent_place self.new result)
@@ -201,9 +202,9 @@ fn fault_answer(number: u64, offset: u64, kind: RecordKind) -> Next
     })
 }
 
-/// Returns the event or the fault of record `number`, counted from 1, whose header begins `offset`
-/// octets into the input. Fails with `SourceFault::Memory` if memory allocation failed as the
-/// record was parsed.
+/// Returns what a source returns of a record that was parsed with this result: its event, or its
+/// fault with `number`, counted from 1, and `offset`, that of its header in octets. Fails with
+/// `SourceFault::Memory` if memory allocation failed as the record was parsed.
 fn record_answer(
     number: u64,
     offset: u64,

@@ -1,6 +1,6 @@
 //! Parsing TABLE_DUMP records, each of one peer and its route to a prefix (RFC 6396, section 4.2).
-//! `judge` calls [`read_peer_entry`]; read `frame_entry` first, which splits the body into its
-//! fields.
+//! `decode_record` calls [`read_table_dump`]. Read `split_entry_fields` first, which splits the
+//! body into its fields.
 
 ghost use Rattle.std.specs.Prelude.{IfSome, IfNone};
 ghost use Rattle.ip_prefix.specs.Fronts.{BeginsWithNone};
@@ -39,8 +39,8 @@ struct FramedEntry<'a> {
 }
 
 /// Parses the Prefix and the Prefix Length at the start of `octets`: an address of `family`, and
-/// the number of its leading bits that make the prefix. Returns `None` if `octets` is too short, or
-/// if the length exceeds the bits of an address.
+/// the number of its leading bits that make the prefix (RFC 6396, section 4.2). Returns `None` if
+/// `octets` is too short, or if the length exceeds the bits of an address.
 #[inline(always)]
 fn split_prefix(family: Family, octets: &[u8]) -> Option<Field<'_, Prefix>>
     ensures { FindsField (SpellsPrefix family) octets.now result }
@@ -55,10 +55,10 @@ fn split_prefix(family: Family, octets: &[u8]) -> Option<Field<'_, Prefix>>
     })
 }
 
-/// Splits a TABLE_DUMP body into its fields, without parsing the attributes (RFC 6396,
-/// section 4.2). View Number, Sequence Number, Status and the octets after the entry are ignored.
-/// Returns `None` if a field is missing or the Prefix Length exceeds the bits of an address of
-/// `family`.
+/// Splits a TABLE_DUMP body into its fields, without parsing the attributes (RFC 6396, section
+/// 4.2). Ignores the View Number, the Sequence Number, the Status and the octets after the
+/// attributes. Returns `None` if a field is missing or the Prefix Length exceeds the bits of an
+/// address of `family`.
 #[inline(always)]
 fn frame_entry(family: Family, octets: &[u8]) -> Option<FramedEntry<'_>>
     ensures some { IfSome result (λ framed. IsFramed family framed octets.now) }
@@ -91,9 +91,10 @@ pub(crate) struct Dating {
     pub(crate) stamp: Stamp,
 }
 
-/// Parses a TABLE_DUMP body for a prefix of `family` into an announcement. Fails with `Malformed`
-/// if it isn't such a body, or with `Memory` if memory allocation fails.
-// It is inlined, so that there is code for each family.
+/// Parses a TABLE_DUMP body for a prefix of `family` into an announcement, as [`read_table_dump`]
+/// does. Fails with `Malformed` if the body has another form, or with `Memory` if memory allocation
+/// fails.
+// Inlined, so that the compiler makes code for each family.
 #[inline(always)]
 fn read_entry_of(
     alloc: Global,
@@ -124,7 +125,8 @@ fn read_entry_of(
 }
 
 /// Parses a TABLE_DUMP body for a prefix of `family` into an announcement (RFC 6396, section 4.2).
-/// Fails with `Malformed` if it isn't such a body, or with `Memory` if memory allocation fails.
+/// Fails with `Malformed` if the body has another form, or with `Memory` if memory allocation
+/// fails.
 pub(crate) fn read_peer_entry(
     alloc: Global,
     pool: &mut Pool,

@@ -1,6 +1,6 @@
 //! Turning the parsed parts of an UPDATE into withdrawals and announcements. `session.rt` calls
-//! [`items_of_update`] once `replace_message` has parsed an UPDATE into `Pool::parts`; read that
-//! first.
+//! [`items_of_update`] once `replace_message` of `bgp_wire` has parsed an UPDATE into
+//! `Pool::parts`; read that first.
 
 ghost use Rattle.std.specs.Prelude.{◌≡◌, ◌++◌, ◌∷◌, [], true, map, OnOk, IfOk};
 ghost use Rattle.bgp_wire.specs.Parts.{update_in};
@@ -21,16 +21,17 @@ use std::rc::Rc;
 struct Announcement<'a, 'b> {
     /// The peer that sent the UPDATE.
     peer: &'a Peer,
-    /// The prefixes, which may be none.
+    /// The prefixes. There may be none.
     prefixes: &'b Prefixes,
     /// The time of the route, in seconds since 1970.
     seconds: u32,
-    /// Whether the attributes are needed again, so that they are copied into the route.
+    /// Whether the attributes are needed again, so that they are copied into the route and not
+    /// moved.
     is_kept: bool,
 }
 
-/// Appends a withdrawal of each prefix by `peer` to `items`. On error, which means that memory
-/// allocation fails, `items` is unspecified.
+/// Appends a withdrawal by `peer` of each prefix to `items`, in order. On error, which means that
+/// memory allocation fails, `items` is unspecified.
 fn add_withdrawals(
     items: &mut Vec<Item>,
     peer: &Peer,
@@ -46,8 +47,9 @@ fn add_withdrawals(
 }
 
 /// Appends an announcement of each prefix to `items`, all with one route, which is made from
-/// `attrs` unless there are no prefixes. `attrs` is left as it was if `is_kept`, and is unspecified
-/// if not. On error, which means that memory allocation fails, `items` is unspecified.
+/// `attrs` unless there are no prefixes. `attrs` is left as it is if `keep_attrs`, and is
+/// unspecified afterwards if not. On error, which means that memory allocation fails, `items` is
+/// unspecified.
 #[inline(always)]
 fn add_announcements(
     alloc: Global,
@@ -77,8 +79,8 @@ fn add_announcements(
     Ok(())
 }
 
-/// Returns the number of prefixes that `parts` withdraws and announces, or `usize::MAX` if there
-/// are more.
+/// Returns the number of prefixes that `parts` withdraws and announces together, or `usize::MAX` if
+/// there are more.
 #[inline]
 fn prefix_count(parts: &UpdateParts) -> usize {
     let withdrawn = parts.withdrawn.as_slice().len();
@@ -91,9 +93,10 @@ fn prefix_count(parts: &UpdateParts) -> usize {
         .saturating_add(mp_announced)
 }
 
-/// Returns the items of the UPDATE in `pool.parts`: its withdrawals, by MP_UNREACH_NLRI last, and
-/// then its announcements, by MP_REACH_NLRI last (RFC 4760, sections 3 and 4). Fails if memory
-/// allocation fails. The attributes in `pool.parts` are unspecified afterwards.
+/// Returns the items of the UPDATE in `pool.parts`, sent by `peer`: its withdrawals, by
+/// MP_UNREACH_NLRI last, and then its announcements, by MP_REACH_NLRI last (RFC 4760, sections 3
+/// and 4). Routes get the time `seconds`. Fails if memory allocation fails. The attributes in
+/// `pool.parts` are unspecified afterwards.
 #[inline]
 pub(crate) fn items_of_update(
     alloc: Global,
