@@ -1,6 +1,6 @@
-//! Sorted routes: the overflow of the hash table of `places.rt`, for routes that find all their
-//! slots taken. A search halves the routes, whatever hashes they have. Read [`OrderedRoutes`]
-//! first.
+//! A sorted list of routes: the overflow of the hash table of `slots.rt`, for routes whose slots
+//! are all taken. A search takes logarithmic time, even if all routes have one hash. Read
+//! [`OrderedRoutes`] first.
 
 ghost use Rattle.std.specs.Prelude.{◌≡◌, ◌≤◌, ◌<◌, IfSome, length, vec_len};
 
@@ -10,40 +10,38 @@ use std::alloc::{AllocError, Global};
 use std::cmp::Ordering;
 use std::rc::Rc;
 
-/// The largest number of routes of a run. A full run is split into two before it takes one more.
+/// The largest number of routes in a run. A full run is split into two before it takes one more.
 const LONGEST_RUN: usize = 64;
 
 /// The largest number of routes in the overflow. Each further one is put into a slot of the hash
-/// table, over the route that is there, which isn't found any more.
+/// table in place of the route that is there, which isn't found any more.
 const MOST_ORDERED: usize = 1 << 22;
 
-/// The largest factor by which the capacity of a list may exceed its length, once routes were
-/// removed. A list whose capacity divided by it, rounded down, is above the length is moved to a
-/// smaller block.
+/// The largest ratio of the capacity of a list to its length after routes were removed. A list
+/// whose capacity divided by it, rounded down, is above the length is moved to a smaller block.
 const MOST_TIMES: usize = 4;
 
-/// A route with its hash.
+/// A route with its hash, as [`hash_route`](crate::route_hash) returns it.
 #[derive(Drop)]
 pub(crate) struct HashedRoute {
     pub(crate) hash: u32,
     pub(crate) route: Rc<Route>,
 }
 
-/// A list of routes in the order of their hashes and, of one hash, of [`compare_routes`]. It is cut
-/// into runs: short sorted lists, each of which comes after the one before.
+/// A list of routes in ascending order of their hashes and, for equal hashes, of
+/// [`compare_routes`]. It is cut into runs, sorted lists of at most [`LONGEST_RUN`] routes.
 #[derive(Drop)]
 pub(crate) struct OrderedRoutes {
     // A search halves first the runs and then one run, and a route that comes or goes moves one run
     // alone.
     /// The runs, in order. None is empty, unless memory allocation failed.
     pub(crate) runs: Vec<Vec<HashedRoute>>,
-    /// The number of routes of all runs.
+    /// The number of routes in all runs.
     pub(crate) count: usize,
 }
 
 impl HashedRoute {
-    /// Compares this route with `route`, whose hash is `hash`: by their hashes, then by
-    /// [`compare_routes`].
+    /// Compares this route with `route`, whose hash is `hash`: by hash, then by [`compare_routes`].
     #[inline]
     fn compare_to(&self, hash: u32, route: &Route) -> Ordering {
         if self.hash != hash {
@@ -52,22 +50,22 @@ impl HashedRoute {
         compare_routes(&self.route, route)
     }
 
-    /// Returns whether the route has no other owner.
+    /// Returns `true` if nothing else owns the route.
     fn is_last_owner(&self) -> bool {
         Rc::strong_count(&self.route) == 1
     }
 }
 
-/// Returns the index of the first route of the run that isn't before `route`, whose hash is `hash`.
-/// It is the length of the run if there is none.
+/// Returns the index of the first route of the run that isn't less than `route`, whose hash is
+/// `hash`. It is the length of the run if all are less.
 fn find_index(run: &[HashedRoute], hash: u32, route: &Route) -> usize
     ensures { result ≤ length run.now }
 {
     run.partition_point(|hashed| hashed.compare_to(hash, route) == Ordering::Less)
 }
 
-/// Returns whether the first route of the run is after `route`, whose hash is `hash`. An empty run
-/// isn't.
+/// Returns `true` if the first route of the run is greater than `route`, whose hash is `hash`.
+/// Returns `false` if the run is empty.
 #[inline]
 fn is_behind(run: &[HashedRoute], hash: u32, route: &Route) -> bool {
     match run.first() {
@@ -76,8 +74,8 @@ fn is_behind(run: &[HashedRoute], hash: u32, route: &Route) -> bool {
     }
 }
 
-/// Shrinks the capacity of the list to its length if it is far more (`MOST_TIMES`). If memory
-/// allocation for the smaller block fails, the list stays as it is.
+/// Shrinks the capacity of the list to its length if it is far more ([`MOST_TIMES`]). If memory
+/// allocation for the smaller block fails, the list is unchanged.
 fn give_back_room<T: Drop>(list: &mut Vec<T>)
     ensures { list.new.items ≡ list.old.items }
 {
@@ -86,8 +84,8 @@ fn give_back_room<T: Drop>(list: &mut Vec<T>)
     }
 }
 
-/// Removes the routes of a run that have no other owner, and returns the number of octets that they
-/// take.
+/// Removes the routes of the run that have no other owner, and returns the number of octets that
+/// they took ([`route_size`]).
 fn take_unowned_of(run: &mut Vec<HashedRoute>) -> u64 {
     let mut octets = 0u64;
     'routes: for hashed in run.iter() {
@@ -102,7 +100,8 @@ fn take_unowned_of(run: &mut Vec<HashedRoute>) -> u64 {
     octets
 }
 
-/// Removes the second half of a run, and returns it in order. On an error, the run is unchanged.
+/// Removes the second half of the run and returns it, in order. Fails if memory allocation fails;
+/// the run is unchanged then.
 fn split_half(alloc: Global, run: &mut Vec<HashedRoute>) -> Result<Vec<HashedRoute>, AllocError> {
     let kept = run.len() / 2;
     let mut half = Vec::with_capacity(alloc, run.len() - kept)?;
@@ -116,7 +115,7 @@ fn split_half(alloc: Global, run: &mut Vec<HashedRoute>) -> Result<Vec<HashedRou
 }
 
 impl OrderedRoutes {
-    /// Returns an empty list, without allocating memory.
+    /// Returns an empty list. Allocates no memory.
     pub(crate) fn none(alloc: Global) -> OrderedRoutes {
         OrderedRoutes {
             runs: Vec::new(alloc),
@@ -124,13 +123,13 @@ impl OrderedRoutes {
         }
     }
 
-    /// Returns whether the list has as many routes as it may have.
+    /// Returns `true` if the list has as many routes as it may have ([`MOST_ORDERED`]).
     pub(crate) fn are_most(&self) -> bool {
         self.count >= MOST_ORDERED
     }
 
     /// Returns the index of the run that `route`, whose hash is `hash`, belongs to: the last one
-    /// that doesn't begin after it, or 0 if there is none.
+    /// whose first route isn't greater, or 0 if there is none.
     fn find_run(&self, hash: u32, route: &Route) -> usize {
         self.runs
             .partition_point(|run| !is_behind(run, hash, route))
@@ -149,7 +148,8 @@ impl OrderedRoutes {
         None
     }
 
-    /// Splits the run at the index into two. On an error, it is unchanged.
+    /// Splits the run at the index into two. Fails if memory allocation fails; the runs are
+    /// unchanged then.
     fn split_run(&mut self, index: usize) -> Result<(), AllocError>
         requires { index < vec_len self.old.runs }
     {
@@ -159,8 +159,8 @@ impl OrderedRoutes {
         Ok(())
     }
 
-    /// Returns the index of the run that `route`, whose hash is `hash`, is to be inserted into. A
-    /// full run is split before. On an error, the runs are unchanged.
+    /// Returns the index of the run that `route`, whose hash is `hash`, is to be inserted into, and
+    /// splits a full run before. Fails if memory allocation fails; the runs are unchanged then.
     fn find_room(&mut self, hash: u32, route: &Route) -> Result<usize, AllocError> {
         let index = self.find_run(hash, route);
         if index >= self.runs.len() || self.runs[index].len() < LONGEST_RUN {
@@ -170,7 +170,8 @@ impl OrderedRoutes {
         Ok(self.find_run(hash, route))
     }
 
-    /// Inserts a route, whose hash is `hash`, in order. On an error, it isn't inserted.
+    /// Inserts a route, whose hash is `hash`, in order. Fails if memory allocation fails; the route
+    /// is dropped then.
     pub(crate) fn put_route(&mut self, hash: u32, route: Rc<Route>) -> Result<(), AllocError> {
         if self.runs.is_empty() {
             let first = Vec::new(*self.runs.allocator());
@@ -185,7 +186,8 @@ impl OrderedRoutes {
         Ok(())
     }
 
-    /// Removes `route` itself, not one that equals it, and returns whether it was found.
+    /// Removes `route` itself, not one that equals it, and returns `true` if it was found. Its hash
+    /// is `hash`.
     pub(crate) fn take_route(&mut self, hash: u32, route: &Rc<Route>) -> bool {
         let index = self.find_run(hash, route);
         if index >= self.runs.len() {
@@ -207,8 +209,8 @@ impl OrderedRoutes {
     }
 
     /// Removes the routes that have no other owner, and returns the number of octets that they
-    /// take. Lists with far more capacity than they need are shrunk, unless memory allocation for a
-    /// smaller block fails.
+    /// took. Shrinks lists whose capacity is far more than their length, unless memory allocation
+    /// for a smaller block fails.
     pub(crate) fn take_unowned(&mut self) -> u64 {
         let mut octets = 0u64;
         let mut count = 0usize;

@@ -1,6 +1,6 @@
-//! The slots of the hash table of `places.rt`, and the searches in a row of them. A row is a bucket
-//! of four slots; a hash has two rows. Each slot has a tag, an octet of the hash of its route,
-//! which is compared first. Read [`Place`] first, then [`find_in_row`].
+//! The slots of the hash table of `slots.rt`, which calls the searches here. A row is a bucket of
+//! four slots, and a hash has two rows. Each slot has a tag, an octet of the hash of its route,
+//! which a search compares first. Read [`Slot`] first, then [`find_in_row`].
 
 ghost use Rattle.std.specs.Prelude.{◌≡◌, true, IfSome};
 ghost use Rattle.known_routes.specs.Places.{is_taken, is_tagged};
@@ -8,13 +8,13 @@ ghost use Rattle.known_routes.specs.Places.{is_taken, is_tagged};
 use mrt_events::{Route, route_size, same_route};
 use std::rc::Rc;
 
-/// The number of slots of a row. A route may be in two rows, so in eight slots. With one more, a
+/// The number of slots in a row. A route may be in two rows, so in eight slots. With one more, a
 /// row would begin in one line of the cache and end in the next.
 const ROW: usize = 4;
 
-/// The number of slots before the first row. A large block begins 16 octets after the start of a
-/// page, the size of one slot, so that each row is in one line of the cache. With one more, none
-/// would be.
+/// The number of slots before the first row, which have no route. A large block begins 16 octets
+/// after the start of a page, the size of one slot, so that each row is in one line of the cache.
+/// With one more, none would be.
 const BEFORE_ROWS: usize = 3;
 
 /// The factor by which a hash is multiplied for its second row: the prime nearest to 2^32 divided
@@ -32,11 +32,11 @@ pub(crate) const FREE: u8 = 0;
 pub(crate) enum Place {
     /// No route.
     Free,
-    /// A route, after its hash.
+    /// The hash of a route, and the route.
     Taken(u32, Rc<Route>),
 }
 
-/// Returns whether the slot has a route.
+/// Returns `true` if the slot has a route.
 #[inline]
 pub(crate) fn is_taken(place: &Place) -> bool
     ensures { result ≡ is_taken place.now }
@@ -44,12 +44,13 @@ pub(crate) fn is_taken(place: &Place) -> bool
     matches!(place, Place::Taken(_, _))
 }
 
-/// Returns whether the slot has a route without another owner.
+/// Returns `true` if the slot has a route that nothing else owns.
 pub(crate) fn is_last_owner(place: &Place) -> bool {
     matches!(place, Place::Taken(_, route) if Rc::strong_count(route) == 1)
 }
 
-/// Returns the number of octets that the route of the slot takes, or 0 if it has none.
+/// Returns the number of octets that the route of the slot takes ([`route_size`]), or 0 if it has
+/// none.
 pub(crate) fn octets_at(place: &Place) -> u64 {
     match place {
         Place::Free => 0,
@@ -57,8 +58,8 @@ pub(crate) fn octets_at(place: &Place) -> u64 {
     }
 }
 
-/// Returns the tag of a slot that has a route of this hash: the lowest octet of the hash, or 1 if
-/// that is 0.
+/// Returns the tag of a slot whose route has the hash `hash`: the lowest octet of the hash, or 1 if
+/// that is 0. It is never [`FREE`].
 #[inline]
 pub(crate) fn tag_of(hash: u32) -> u8
     ensures { is_tagged result ≡ true }
@@ -68,14 +69,15 @@ pub(crate) fn tag_of(hash: u32) -> u8
     hash.to_le_bytes()[0].max(FREE + 1)
 }
 
-/// Returns whether the slot at the index has this tag. An index out of bounds has none.
+/// Returns `true` if `tag` is the tag of the slot at the index. Returns `false` if the index is out
+/// of bounds.
 #[inline]
 fn has_tag(tags: &[u8], index: usize, tag: u8) -> bool {
     tags.get(index).is_some_and(|other| *other == tag)
 }
 
-/// Returns the index of the first slot of the row of a hash, in a table of `count` slots. In a
-/// table without slots it is out of bounds.
+/// Returns the index of the first slot of the row of `hash` in a table of `count` slots. The index
+/// is out of bounds if the table has no slots.
 #[inline]
 fn row_of(hash: u32, count: usize) -> usize {
     let rows = (count.saturating_sub(BEFORE_ROWS) / ROW) as u64;
@@ -83,8 +85,8 @@ fn row_of(hash: u32, count: usize) -> usize {
     row.wrapping_mul(ROW).wrapping_add(BEFORE_ROWS)
 }
 
-/// Returns the indices of the first slots of both rows of a hash, in a table of `count` slots. In a
-/// table without slots they are out of bounds.
+/// Returns the indices of the first slots of the two rows of `hash` in a table of `count` slots.
+/// They are out of bounds if the table has no slots.
 #[inline]
 pub(crate) fn rows_of(hash: u32, count: usize) -> [usize; 2] {
     [
@@ -93,8 +95,9 @@ pub(crate) fn rows_of(hash: u32, count: usize) -> [usize; 2] {
     ]
 }
 
-/// Returns a route of this hash that equals `route`, and the index of its slot, from the row that
-/// begins at the index `start`. `None` means that the row has none.
+/// Returns a route of this hash that equals `route`, with the index of its slot, from the row whose
+/// first slot is at the index `start`. Returns `None` if the row has none. `tags` has the tag of
+/// each slot.
 #[inline]
 pub(crate) fn find_in_row<'a>(
     tags: &[u8],
@@ -118,22 +121,23 @@ pub(crate) fn find_in_row<'a>(
     None
 }
 
-/// Returns whether the last slot of the row that begins at the index `start` is free.
+/// Returns `true` if the last slot of the row whose first slot is at the index `start` is free.
+/// Returns `false` if it is out of bounds.
 #[inline]
 pub(crate) fn has_free_end(tags: &[u8], start: usize) -> bool {
     has_tag(tags, start.saturating_add(ROW - 1), FREE)
 }
 
-/// Returns the index of the first free slot of the row that begins at the index `start`, or `None`
-/// if it has none.
+/// Returns the index of the first free slot of the row whose first slot is at the index `start`, or
+/// `None` if it has none. `tags` has the tag of each slot.
 #[inline]
 fn free_in_row(tags: &[u8], start: usize) -> Option<usize> {
     (start..start.saturating_add(ROW)).find(|index| has_tag(tags, *index, FREE))
 }
 
 /// Returns the index of the slot that a route of this hash is to be put into: the first free one of
-/// its rows, or the first slot of the first row if both are full. `tags` are those of all slots; if
-/// there are none, the index is out of bounds.
+/// its two rows, or the first slot of its first row if both are full. `tags` has the tag of each
+/// slot; if it is empty, the index is out of bounds.
 #[inline]
 pub(crate) fn place_for(tags: &[u8], hash: u32) -> usize {
     let [first, second] = rows_of(hash, tags.len());
@@ -142,8 +146,8 @@ pub(crate) fn place_for(tags: &[u8], hash: u32) -> usize {
         .unwrap_or(first)
 }
 
-/// Returns the index of the slot that has `route` itself, not one that equals it, in the row that
-/// begins at the index `start`, or `None` if there is none.
+/// Returns the index of the slot that has `route` itself, not one that equals it, in the row whose
+/// first slot is at the index `start`. Returns `None` if the row doesn't have it.
 #[inline]
 fn index_in_row(places: &[Place], start: usize, route: &Rc<Route>) -> Option<usize> {
     (start..start.saturating_add(ROW)).find(|index| {
@@ -151,8 +155,8 @@ fn index_in_row(places: &[Place], start: usize, route: &Rc<Route>) -> Option<usi
     })
 }
 
-/// Returns the index of the slot that has `route` itself, not one that equals it, in either row of
-/// its hash, or `None` if there is none.
+/// Returns the index of the slot that has `route` itself, not one that equals it, in the two rows
+/// of its hash. Returns `None` if they don't have it.
 pub(crate) fn index_of(places: &[Place], hash: u32, route: &Rc<Route>) -> Option<usize> {
     let [first, second] = rows_of(hash, places.len());
     index_in_row(places, first, route).or_else(|| index_in_row(places, second, route))

@@ -1,5 +1,6 @@
-//! A hash table of routes: each is in a slot of one of two rows, or in an overflow where both are
-//! full. `routes.rt` looks up and puts routes by it. Read [`Places`] first, then `place.rt`.
+//! A hash table of routes. Each route is in a slot of one of the two rows of its hash, or in an
+//! overflow if these were full. `routes.rt` looks up and adds routes by it. Read [`InternTable`]
+//! first, then `slot.rt`.
 
 ghost use Rattle.std.specs.Prelude.{◌≡◌, ◌<◌, ◌≤◌, ◌+◌, ◌*◌, true, IfOk, IfSome, OnOk, OnErr, IsTrue, slice_index_or, vec_len, count_by};
 ghost use Rattle.known_routes.specs.Places.{is_taken, is_tagged, AreTagged};
@@ -17,14 +18,14 @@ use std::mem;
 use std::rc::Rc;
 
 /// The number of slots of the first table, and the smallest number of a later one. The table grows
-/// when three quarters of its slots are taken and a route is added.
+/// when a route is added while three quarters of its slots are taken.
 const FIRST_PLACES: usize = 1024;
 
 /// The largest number of slots. A table of so many doesn't grow; a route whose rows are full goes
 /// to the overflow, where a search takes longer.
 pub(crate) const MOST_PLACES: usize = 1 << 24;
 
-/// The largest number of slots for each route, besides [`FIRST_PLACES`]. If a play begins with one
+/// The largest number of slots for each route, besides [`MIN_SLOTS`]. If a play begins with one
 /// more than that, the routes move to a smaller table.
 const MOST_TIMES: usize = 3;
 
@@ -32,9 +33,9 @@ const MOST_TIMES: usize = 3;
 /// there after a row with a free slot. With one route more there, they do.
 const CROWDED_SHARE: usize = 16;
 
-/// The ratio of the routes in slots to those that may be put over another because both of their
-/// rows are full. Of routes with random hashes, fewer are. One more goes to the overflow, where a
-/// search takes longer.
+/// The ratio of the routes in slots to those that may replace another because both of their rows
+/// are full. Of routes with random hashes, fewer do. One more goes to the overflow, where a search
+/// takes longer.
 const OVERWRITTEN_SHARE: usize = 12;
 
 /// The index of a route in the overflow, which is in no slot. No number is above it.
@@ -45,22 +46,23 @@ const NOWHERE: usize = usize::MAX;
 pub(crate) struct Places {
     /// The slots.
     pub(crate) places: Vec<Place>,
-    /// The tag of each slot, as [`tag_of`] gives it, or [`FREE`] if the slot has no route.
+    /// The tag of each slot: [`tag_of`] the hash of its route, or [`FREE`] if it has no route.
     pub(crate) tags: Vec<u8>,
     /// The number of slots that have a route.
     pub(crate) taken: usize,
     /// The overflow: routes that found both of their rows full.
     beyond: OrderedRoutes,
-    /// The number of routes that were put over others.
+    /// The number of routes that replaced another in its slot.
     overwritten: usize,
-    /// The number of octets that all routes of the table take.
+    /// The number of octets that all routes of the table take ([`route_size`]), as far as they were
+    /// counted.
     pub(crate) held: u64,
     ghost counted: { taken ≡ count_by is_taken places.items },
     ghost tagged: { AreTagged places.items tags.items },
 }
 
 impl Places {
-    /// Returns a table without slots, without allocating memory.
+    /// Returns a table without slots. Allocates no memory.
     pub(crate) fn none(alloc: Global) -> Places
         ensures { vec_len result.places ≡ 0 }
     {
@@ -74,7 +76,7 @@ impl Places {
         }
     }
 
-    /// Returns a table of `count` slots without routes.
+    /// Returns a table of `count` slots without routes. Fails if memory allocation fails.
     pub(crate) fn free(alloc: Global, count: usize) -> Result<Places, AllocError>
         ensures { IfOk result (λ free. vec_len free.places ≡ count) }
     {
@@ -94,23 +96,24 @@ impl Places {
         })
     }
 
-    /// Returns whether so many routes are in the overflow that a search goes on there after a row
-    /// with a free slot.
+    /// Returns `true` if the overflow has so many routes that a search goes on there after a row
+    /// with a free slot ([`CROWDED_SHARE`]).
     #[inline]
     fn is_crowded(&self) -> bool {
         self.beyond.count > self.taken / CROWDED_SHARE
     }
 
-    /// Returns whether a search ends after the row that begins at the index `row`: its last slot is
-    /// free, and few routes are in the overflow.
+    /// Returns `true` if a search ends after the row whose first slot is at the index `row`: its
+    /// last slot is free, and few routes are in the overflow.
     #[inline]
     fn is_last_row(&self, row: usize) -> bool {
         // Rows are filled from the front.
         has_free_end(&self.tags, row) && !self.is_crowded()
     }
 
-    /// Returns a route of this hash that equals `route`, and the index of its slot, or [`NOWHERE`]
-    /// for one in the overflow. `None` means that none was found.
+    /// Returns a route of this hash that equals `route`, with the index of its slot, or with
+    /// [`IN_OVERFLOW`] if it is in the overflow. Returns `None` if none is found. One that was put
+    /// while a row was full may not be found once that row has a free slot.
     #[inline]
     pub(crate) fn find_route(&self, hash: u32, route: &Route) -> Option<(usize, &Rc<Route>)>
         ensures { IfSome result (λ found. found.1.now.value ≡ route.now) }
@@ -131,14 +134,14 @@ impl Places {
         Some((NOWHERE, self.beyond.find_route(hash, route)?))
     }
 
-    /// Returns whether a route whose rows are full is put over another: if few were yet, or if the
-    /// overflow is full.
+    /// Returns `true` if a route whose rows are full is to replace another: if few did so far
+    /// ([`OVERWRITTEN_SHARE`]), or if the overflow is full.
     fn is_overwriting(&self) -> bool {
         self.overwritten < self.taken / OVERWRITTEN_SHARE || self.beyond.are_most()
     }
 
-    /// Adds a route of this hash to the overflow, and returns [`NOWHERE`]. On an error, it isn't
-    /// added.
+    /// Adds a route of this hash to the overflow, and returns [`IN_OVERFLOW`]. Fails if memory
+    /// allocation fails; the route is dropped then.
     #[inline(never)]
     fn put_beyond(&mut self, hash: u32, route: Rc<Route>) -> Result<usize, AllocError>
         ensures places { vec_len self.new.places ≡ vec_len self.old.places }
@@ -149,10 +152,11 @@ impl Places {
         Ok(NOWHERE)
     }
 
-    /// Puts a route of this hash into a free slot of its rows, and returns the index of the slot.
-    /// If they are full, the route is put over the first one of the first row while few were
-    /// (`OVERWRITTEN_SHARE`), or else into the overflow, at [`NOWHERE`]. A table without slots
-    /// drops it. Its octets aren't added to `held`. On an error, nothing is put.
+    /// Puts a route of this hash into a free slot of its two rows, and returns the index of the
+    /// slot. If they are full, the route replaces the first one of the first row
+    /// ([`InternTable::may_overwrite`]), or else goes to the overflow, at [`IN_OVERFLOW`]. A table
+    /// without slots drops it. Its octets aren't added to `held`. Fails if memory allocation fails;
+    /// the route is dropped then.
     pub(crate) fn put(&mut self, hash: u32, route: Rc<Route>) -> Result<usize, AllocError>
         ensures places { vec_len self.new.places ≡ vec_len self.old.places }
         ensures taken { self.old.taken ≤ self.new.taken }
@@ -179,7 +183,8 @@ impl Places {
         Ok(index)
     }
 
-    /// Removes the route of the slot at the index, if there is one.
+    /// Removes the route of the slot at the index. Does nothing if the slot has no route, or if the
+    /// index is out of bounds.
     pub(crate) fn free_at(&mut self, index: usize)
         ensures { vec_len self.new.places ≡ vec_len self.old.places }
     {
@@ -191,7 +196,8 @@ impl Places {
         }
     }
 
-    /// Removes `route` itself, not one that equals it, if it is found.
+    /// Removes `route` itself, not one that equals it. Does nothing if it isn't found. Its hash is
+    /// `hash`.
     pub(crate) fn take_route(&mut self, hash: u32, route: &Rc<Route>)
         ensures { vec_len self.new.places ≡ vec_len self.old.places }
     {
@@ -202,8 +208,8 @@ impl Places {
         }
     }
 
-    /// Puts the routes of a run of another table's overflow here. On an error, some of them aren't
-    /// put.
+    /// Puts the routes of a run of another table's overflow into this table. Fails if memory
+    /// allocation fails; the routes that weren't put are dropped then.
     fn put_run(&mut self, run: Vec<HashedRoute>) -> Result<(), AllocError>
         ensures { vec_len self.new.places ≡ vec_len self.old.places }
     {
@@ -213,7 +219,8 @@ impl Places {
         Ok(())
     }
 
-    /// Puts the routes of another table's overflow here. On an error, some of them aren't put.
+    /// Puts the routes of another table's overflow into this table. Fails if memory allocation
+    /// fails; the routes that weren't put are dropped then.
     fn put_runs(&mut self, beyond: OrderedRoutes) -> Result<(), AllocError>
         ensures { vec_len self.new.places ≡ vec_len self.old.places }
     {
@@ -223,8 +230,8 @@ impl Places {
         Ok(())
     }
 
-    /// Moves the routes of another table here, where there are none. On an error, some of them are
-    /// dropped.
+    /// Moves the routes of another table into this one, which must have none. Fails if memory
+    /// allocation fails; the routes that weren't moved are dropped then.
     fn take_over(&mut self, mut others: Places) -> Result<(), AllocError>
         ensures { vec_len self.new.places ≡ vec_len self.old.places }
     {
@@ -250,8 +257,8 @@ impl Places {
         self.put_runs(beyond)
     }
 
-    /// Returns a table of [`FIRST_PLACES`] slots with the routes of this one. On an error, the
-    /// routes are dropped.
+    /// Returns a table of [`MIN_SLOTS`] slots with the routes of this one. Fails if memory
+    /// allocation fails; the routes are dropped then.
     fn put_at_fewest(self, alloc: Global) -> Result<Places, AllocError>
         ensures { IfOk result (λ fewest. vec_len fewest.places ≡ FIRST_PLACES) }
     {
@@ -260,8 +267,8 @@ impl Places {
         Ok(fewest)
     }
 
-    /// Removes the routes that have no other owner. It allocates no memory but for smaller blocks
-    /// of the overflow, and keeps the larger ones if that fails.
+    /// Removes the routes that have no other owner. Allocates no memory but for smaller blocks of
+    /// the overflow, and keeps the larger ones if that fails.
     pub(crate) fn let_go(&mut self)
         ensures { vec_len self.new.places ≡ vec_len self.old.places }
     {
@@ -274,7 +281,7 @@ impl Places {
         self.held = self.held.saturating_sub(octets);
     }
 
-    /// Returns whether there aren't too many slots for the routes in them (`MOST_TIMES`).
+    /// Returns `true` if there aren't too many slots for the routes in them ([`MOST_TIMES`]).
     pub(crate) fn are_fitting(&self) -> bool
         ensures { IsTrue result →
             vec_len self.now.places ≤ MOST_TIMES * self.now.taken + FIRST_PLACES }
@@ -287,8 +294,8 @@ impl Places {
     }
 
     /// Moves the routes to a new table of two and a third slots for each, but at least
-    /// [`FIRST_PLACES`] and at most [`MOST_PLACES`]. On an error, the table is unchanged, or has no
-    /// slots and no routes if they were moved already.
+    /// [`MIN_SLOTS`] and at most [`MAX_SLOTS`]. Fails if memory allocation fails; the table is
+    /// unchanged then, or has no slots and no routes.
     pub(crate) fn resize(&mut self, alloc: Global) -> Result<(), AllocError>
         ensures most { OnOk result (vec_len self.new.places ≤ MOST_PLACES) }
         ensures fitting { OnOk result

@@ -1,5 +1,5 @@
-//! Hashes of routes and of peers: equal ones have the same hash, and others mostly don't.
-//! `routes.rt` looks up routes by them, and `rib_player` looks up peers. Read [`hash_of`] first.
+//! Hashes of routes and of peers: equal ones have equal hashes, and others mostly don't.
+//! `routes.rt` looks up routes by them, and `rib_player` looks up peers. Read [`hash_route`] first.
 
 ghost use Rattle.std.specs.Prelude.{◌+◌, ◌≤◌};
 ghost use Rattle.ip_prefix.specs.Network.{octet_count};
@@ -33,13 +33,13 @@ fn mixed(hash: u64, number: u64) -> u64 {
     (hash.rotate_left(TURN) ^ number).wrapping_mul(MULTIPLIER)
 }
 
-/// Returns `hash` with a number, or its absence, mixed in.
+/// Returns `hash` with `number` mixed in, or [`ABSENT`] if it is `None`.
 #[inline]
 fn with_number(hash: u64, number: Option<u32>) -> u64 {
     mixed(hash, number.map_or(ABSENT, u64::from))
 }
 
-/// Returns the four octets of an address from the index `place` on as a big-endian number.
+/// Returns the four octets of the address from the index `place` on, as a big-endian number.
 #[inline]
 fn four_octets(addr: &Addr, place: usize) -> u32
     requires { place + 4 ≤ octet_count addr.now.family }
@@ -52,7 +52,7 @@ fn four_octets(addr: &Addr, place: usize) -> u32
     ])
 }
 
-/// Returns `hash` with all octets of an address mixed in.
+/// Returns `hash` with all octets of the address mixed in.
 #[inline]
 fn with_address(hash: u64, addr: &Addr) -> u64 {
     let first = mixed(hash, u64::from(four_octets(addr, 0)));
@@ -66,7 +66,7 @@ fn with_address(hash: u64, addr: &Addr) -> u64 {
     }
 }
 
-/// Returns `hash` with the length of a list and all its numbers mixed in.
+/// Returns `hash` with the length of the list and then each of its numbers mixed in.
 #[inline]
 fn with_numbers(hash: u64, numbers: &[u32]) -> u64 {
     let mut hash = mixed(hash, numbers.len() as u64);
@@ -76,7 +76,7 @@ fn with_numbers(hash: u64, numbers: &[u32]) -> u64 {
     hash
 }
 
-/// Returns the hash of a route, by all its attributes and its time.
+/// Returns the hash of the route, which depends on its time and all its attributes.
 pub(crate) fn hash_of(route: &Route) -> u32 {
     let attrs = &route.attrs;
     let origin = attrs.origin.map_or(NO_ORIGIN, |origin| origin as u64);
@@ -104,7 +104,8 @@ pub(crate) fn hash_of(route: &Route) -> u32 {
     (hash >> LOWEST_BITS) as u32
 }
 
-/// Returns the hash of a peer. Its highest bits depend on all bits of the peer.
+/// Returns the hash of the peer, by its address and AS number. The highest bits depend on all bits
+/// of the peer.
 #[inline]
 pub fn peer_hash(peer: &Peer) -> u64 {
     with_address(u64::from(peer.asn), &peer.addr)

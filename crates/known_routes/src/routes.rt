@@ -1,6 +1,6 @@
-//! The table of known routes, by which equal routes become one. The player looks up the routes of
-//! an event by [`KnownRoutes::known`], and reports the routes that its steps drop by
-//! [`KnownRoutes::note_gone`]. Read [`KnownRoutes`] first, then `places.rt`.
+//! The table that interns routes. The player looks up the routes of an event by
+//! [`RouteInterner::intern`], and calls [`RouteInterner::release`] for the routes of steps that it
+//! drops. Read [`RouteInterner`] first, then `slots.rt`.
 
 ghost use Rattle.std.specs.Prelude.{◌≡◌, ◌≤◌, ◌+◌, ◌*◌, IfOk, IfSome, vec_len};
 ghost use Rattle.known_routes.specs.declared.routes.TheConstants.{LASTS};
@@ -27,8 +27,8 @@ const LOOKED_FOR_OWNERS: usize = 4;
 /// share a hash, and the slot of one replaces the slot of another.
 const LASTS: usize = 4096;
 
-/// The number of lowest bits of a peer's hash that are dropped for an index of these. With one
-/// more, only half of them are used.
+/// The number of lowest bits of a peer's hash that are dropped for an index below [`LASTS`]. With
+/// one more, only half of these are used.
 const LOWEST_BITS: u32 = 52;
 
 /// The largest number of owners of a route that may soon have none but this table: one that goes,
@@ -44,9 +44,9 @@ const RELEASED_SHARE: u64 = 5;
 /// It grows by an octet with four of these.
 const RELEASED_ROOM: u64 = 4 << 20;
 
-/// A table of routes that were played, which are here only to be found again: an equal route that
-/// comes later is replaced by the one here, and takes no memory of its own. Which routes are here
-/// is unspecified, and any may be dropped at any time.
+/// A table that interns routes: of an equal route that comes later, the one here is used instead,
+/// so that it takes no memory of its own. Which routes are here is unspecified, and any may be
+/// dropped at any time.
 #[derive(Drop)]
 pub struct KnownRoutes {
     alloc: Global,
@@ -59,8 +59,8 @@ pub struct KnownRoutes {
     released: u64,
     /// The number of octets of the routes that were added since the last play began.
     noted: u64,
-    /// The index of the slot that the last route of a peer was put into or found in, by the hash of
-    /// the peer.
+    /// For each of [`LASTS`] hashes of peers, the index of the slot that the last route of such a
+    /// peer is in. Empty before the table first grows.
     lasts: Vec<u32>,
     ghost bounded: { vec_len routes.places ≤ MOST_PLACES },
     ghost few: { vec_len lasts ≤ LASTS },
@@ -71,7 +71,7 @@ impl KnownRoutes {
     ghost use Rattle.std.specs.Prelude.{max};
     ghost use Rattle.known_routes.specs.Known.{route_count, stood_count};
 
-    /// Returns an empty table, without allocating memory.
+    /// Returns an empty table. Allocates no memory.
     pub fn new(alloc: Global) -> Self
         ensures { stood_count result ≡ 0 }
     {
@@ -87,7 +87,7 @@ impl KnownRoutes {
 
     /// Returns a route of the table that equals `route`, or else adds `route` and returns it. The
     /// last route of the peer is compared first. A new route with much spare capacity is added as a
-    /// copy without it. On an error, nothing is added.
+    /// copy without it. Fails if memory allocation fails; nothing is added then.
     pub fn known(&mut self, peer: &Peer, route: &Rc<Route>) -> Result<Rc<Route>, AllocError>
         ensures value { IfOk result (λ known. known.value ≡ route.now.value) }
         ensures stood { stood_count self.new ≤ max (stood_count self.old) (route_count self.new) }
@@ -109,8 +109,8 @@ impl KnownRoutes {
         Ok(kept)
     }
 
-    /// Returns what [`KnownRoutes::known`] does, but `route` itself if it is long and has many
-    /// owners.
+    /// Returns what [`RouteInterner::intern`] returns, or `route` itself without a look-up if it is
+    /// long and has many owners. Fails if memory allocation fails; nothing is added then.
     pub fn known_if_short(
         &mut self,
         peer: &Peer,
@@ -127,8 +127,8 @@ impl KnownRoutes {
         route.clone()
     }
 
-    /// Returns the route of the slot that the last route of a peer was in, if it equals `route`.
-    /// `last` is the index for the peer in `lasts`.
+    /// Returns the last route of a peer, if it equals `route` and its slot is noted. `last` is the
+    /// index for the peer in `lasts`.
     #[inline]
     fn last(&self, last: usize, route: &Route) -> Option<&Rc<Route>>
         ensures { IfSome result (λ known. known.now.value ≡ route.now) }
@@ -141,7 +141,7 @@ impl KnownRoutes {
     }
 
     /// Notes the index of the slot that the last route of a peer is in. `last` is the index for the
-    /// peer in `lasts`; if that has no items, nothing is noted.
+    /// peer in `lasts`; if that is empty, nothing is noted.
     fn note_last(&mut self, last: usize, index: usize)
         ensures routes { route_count self.new ≡ route_count self.old }
         ensures stood { stood_count self.new ≡ stood_count self.old }
@@ -151,8 +151,8 @@ impl KnownRoutes {
         }
     }
 
-    /// Moves the routes to a larger table, and allocates `lasts` if that is empty. On an error, the
-    /// table stays as it was, or has no routes if they were moved already.
+    /// Moves the routes to a larger table, and allocates `lasts` if that is empty. Fails if memory
+    /// allocation fails; the table is unchanged then, or has no routes if they were moved already.
     fn add_places(&mut self) -> Result<(), AllocError>
         ensures { stood_count self.new ≤ max (stood_count self.old) (route_count self.new) }
     {
@@ -165,8 +165,9 @@ impl KnownRoutes {
         Ok(())
     }
 
-    /// Adds a route that isn't here, with its hash and the octets that it takes, and returns the
-    /// index of its slot, or `usize::MAX` if it is in none. On an error, it isn't added.
+    /// Adds a route that isn't here, with its hash and the number of octets that it takes, and
+    /// returns the index of its slot, or `usize::MAX` if it is in none. Fails if memory allocation
+    /// fails; the route isn't added then.
     fn note(&mut self, hash: u32, route: Rc<Route>, octets: u64) -> Result<usize, AllocError>
         ensures { stood_count self.new ≤ max (stood_count self.old) (route_count self.new) }
     {
@@ -180,8 +181,8 @@ impl KnownRoutes {
         Ok(index)
     }
 
-    /// Notes that an owner of the route is about to go. If one other owner is left, the route is
-    /// removed from the table; if few are, its octets count as released.
+    /// Tells the table that an owner of the route is about to go. If one other owner is left, the
+    /// route is removed from the table; if few are, its octets count as released.
     pub fn note_gone(&mut self, route: &Rc<Route>)
         ensures { stood_count self.new ≡ stood_count self.old }
     {
@@ -195,8 +196,8 @@ impl KnownRoutes {
         }
     }
 
-    /// Notes that the routes of some items aren't kept: all that were added since the last play
-    /// began count as released.
+    /// Counts as released all routes that were added since the last play began. The caller calls it
+    /// when routes that it looked up aren't used.
     pub fn note_unused(&mut self)
         ensures { stood_count self.new ≡ stood_count self.old }
     {
@@ -216,8 +217,8 @@ impl KnownRoutes {
         }
     }
 
-    /// Begins a play: removes routes as [`KnownRoutes::let_go`] does, and moves the rest to a
-    /// smaller table if it has too many slots for them.
+    /// Prepares the table for a play: removes routes as [`RouteInterner::sweep_if_due`] does, and
+    /// moves the rest to a smaller table if it has too many slots for them.
     pub fn begin(&mut self)
         ensures { stood_count self.new ≡ route_count self.new }
     {
@@ -232,8 +233,8 @@ impl KnownRoutes {
     }
 }
 
-/// Returns whether path and communities have so few numbers that the route is looked up for each
-/// item.
+/// Returns `true` if the path and the communities have at most [`MOST_NUMBERS`] numbers and
+/// segments, so that the route is looked up for each item.
 fn is_short(route: &Route) -> bool {
     let attrs = &route.attrs;
     let mut numbers = attrs.communities.as_slice().len();

@@ -11,7 +11,7 @@ ghost use Rattle.prefix_store.specs.Stored.{Routes, put};
 ghost use Rattle.prefix_store.specs.Contents.{first_above, routes_above};
 ghost use Rattle.prefix_store.specs.Lookups.{IsLongest};
 
-/// Proves the value of the greatest count, `u64::MAX`.
+/// Proves that the greatest count is `u64::MAX`.
 pub fn count_numbers()
     ensures { GREATEST_COUNT + 1 ≡ 2 ^ 64 }
 {}

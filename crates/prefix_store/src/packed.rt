@@ -1,5 +1,5 @@
-//! Compact forms of prefixes whose family is known. The radix trees of `rib_store` keep their
-//! prefixes so. Read [`Packed`] first.
+//! Compact forms of prefixes whose family is known. The radix trees of `rib_store` and the entries
+//! of `rib_player` keep prefixes so. Read [`PackedPrefix`] first.
 
 ghost use Rattle.std.specs.Prelude.{◌≡◌, ◌≢◌, ◌≤◌, length};
 ghost use Rattle.ip_prefix.specs.declared.addr.Family.{Family};
@@ -11,7 +11,7 @@ ghost use Rattle.ip_prefix.specs.declared.turn.Turn.TheVariants.{Outside};
 
 use ip_prefix::{Addr, Prefix, Turn, V4_OCTETS};
 
-/// A form of prefixes that are all of one family.
+/// A compact form of prefixes that are all of one family.
 pub trait Packed: Copy + Drop {
     /// The prefix that the value represents.
     ghost network: { Self → Network };
@@ -34,7 +34,7 @@ pub trait Packed: Copy + Drop {
     fn turn(&self, other: &Prefix) -> Turn
         ensures { result ≡ turn_of (way (network self.now)) (way other.now) };
 
-    /// Returns the position of `other`, which this prefix must cover, relative to this prefix. An
+    /// Returns the position of `other` relative to this prefix, which must cover it. An
     /// implementation needn't compare the bits that both have.
     fn turn_covered(&self, other: &Prefix) -> Turn
         requires { turn_of (way (network self.now)) (way other.now) ≢ Outside }
@@ -49,7 +49,8 @@ pub trait Packed: Copy + Drop {
         ensures { network result ≡ prefix.now };
 }
 
-/// An IPv4 prefix: its network address, and its length in bits.
+/// An IPv4 prefix: the octets of its network address, in network byte order, and its length in
+/// bits.
 #[derive(Clone, Copy, Drop)]
 pub struct V4Prefix {
     octets: [u8; V4_OCTETS],

@@ -1,22 +1,24 @@
-//! Batches of eight prefixes that are prefetched together. `rib_player` collects them and passes
-//! them to [`PrefixStore::reach`](crate::PrefixStore::reach).
+//! Batches of eight prefixes whose nodes are prefetched together. `rib_player` collects them and
+//! passes them to [`PrefixStore::prefetch`](crate::PrefixStore::prefetch). Read [`PrefetchBatch`]
+//! first.
 
 use ip_prefix::Prefix;
 use std::mem;
 
-/// The number of prefixes that are prefetched together. One more waits for the next batch.
+/// The number of prefixes of a full batch. One more waits for the next batch.
 pub const PLACES_AT_ONCE: u8 = 8;
 
-/// A prefix in a store, or an empty slot of a batch.
+/// A prefix in a store, or an unused slot of a batch.
 #[derive(Drop)]
 pub enum Place<'a, S> {
-    /// An empty slot.
+    /// An unused slot.
     Nowhere,
     /// A prefix in this store.
     At(&'a S, Prefix),
 }
 
-/// A batch of up to eight prefixes, each with its store. The last one added is `first`.
+/// A batch of up to eight prefixes, each with its store, to prefetch together. The one that was
+/// added last is `first`.
 #[derive(Drop)]
 pub struct Places<'a, S> {
     pub first: Place<'a, S>,
@@ -46,8 +48,8 @@ impl<'a, S> Places<'a, S> {
         }
     }
 
-    /// Adds a prefix in `store`, and returns `true` if the batch is full. It must be taken then
-    /// ([`Places::take_all`]), since another addition would drop the oldest prefix.
+    /// Adds a prefix in `store`, and returns `true` if the batch is full then. A full batch must be
+    /// taken ([`PrefetchBatch::take_all`]), since a further addition drops its oldest prefix.
     pub fn add(&mut self, store: &'a S, prefix: Prefix) -> bool {
         let second = mem::replace(&mut self.first, Place::At(store, prefix));
         let third = mem::replace(&mut self.second, second);
@@ -60,7 +62,7 @@ impl<'a, S> Places<'a, S> {
         self.count >= PLACES_AT_ONCE
     }
 
-    /// Returns the batch, and leaves an empty one.
+    /// Returns the batch, and leaves an empty one in its place.
     pub fn take_all(&mut self) -> Self {
         mem::replace(self, Places::new())
     }

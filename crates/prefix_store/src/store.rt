@@ -1,4 +1,5 @@
-//! The interface of a store of routes by prefix. Read [`PrefixStore`], then [`PrefixStore::put`].
+//! The interface of a store of routes by prefix. `rib_store` implements it and `rib_player` calls
+//! it. Read [`PrefixStore`], then [`PrefixStore::put`].
 
 ghost use Rattle.std.specs.Prelude.{◌≡◌, ◌≤◌, true, false, not, Option, None, slice_get, take, vec_capacity, IfOk, OnOk, OnErr, option_map, option_copied};
 ghost use Rattle.std.specs.FinMap as finite;
@@ -24,7 +25,7 @@ pub trait PrefixStore<R: Drop>: Sized + Drop {
     /// The routes by prefix, at some of the keys.
     ghost routes: { Self → Routes R };
 
-    /// Returns a store without keys, without allocating memory.
+    /// Returns a store without keys. Allocates no memory.
     fn new(alloc: Global) -> Self
         ensures keys { keys result ≡ set.empty }
         ensures routes { routes result ≡ finite.empty };
@@ -65,7 +66,7 @@ pub trait PrefixStore<R: Drop>: Sized + Drop {
         Ok(made)
     }
 
-    /// Removes the key `prefix`, which must have no route.
+    /// Removes the key `prefix`, which must be a key without a route.
     fn discard(&mut self, prefix: &Prefix)
         requires key { set.contains (keys self.old) prefix.now ≡ true }
         requires free { finite.get (routes self.old) prefix.now ≡ None }
@@ -87,8 +88,8 @@ pub trait PrefixStore<R: Drop>: Sized + Drop {
         ensures { IsLongest (routes self.now) addr.now (option_map (λ p. (p.0, p.1.now)) result) };
 
     /// Returns the route at the least prefix that is greater than `prefix`, or at the least prefix
-    /// if `prefix` is `None`, with that prefix. Returns `None` if there is no such route. A walk
-    /// over all routes needs no state but the last prefix.
+    /// of all if `prefix` is `None`, with that prefix. Returns `None` if there is no such route. A
+    /// walk over all routes needs no state but the last prefix.
     fn after(&self, prefix: Option<&Prefix>) -> Option<(Prefix, &R)>
         ensures { option_map (λ p. (p.0, p.1.now)) result ≡
             slice_get (above (option_copied prefix.entry) (finite.entries (routes self.now))) 0 };
@@ -113,7 +114,7 @@ pub trait PrefixStore<R: Drop>: Sized + Drop {
     }
 
     /// Moves all routes into `taken`, in the order of their prefixes, in place of its elements. The
-    /// keys stay. `taken` must have capacity for all routes.
+    /// keys stay. `taken` must have capacity for all routes. Allocates no memory.
     fn take_routes(&mut self, taken: &mut Vec<R>)
         requires { finite.len (routes self.old) ≤ vec_capacity taken.old }
         ensures keys { keys self.new ≡ keys self.old }
@@ -136,9 +137,9 @@ pub trait PrefixStore<R: Drop>: Sized + Drop {
         }
     }
 
-    /// Prefetches the memory that calls for these prefixes read, for all of them at once. Changes
-    /// nothing. Returns a number that depends on what was read; a caller that uses it keeps the
-    /// compiler from removing the reads.
+    /// Prefetches the memory that calls for the prefixes of the batch read, for all of them at
+    /// once. Changes nothing. Returns a number that depends on what was read; a caller that uses it
+    /// keeps the compiler from removing the reads. The provided method reads nothing and returns 0.
     fn reach(_places: &Places<'_, Self>) -> u64 {
         0
     }

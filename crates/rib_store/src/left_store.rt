@@ -1,5 +1,5 @@
 //! A wrapper of a store whose memory is left to the operating system. `bgpdump` plays over such
-//! stores, since it ends soon after it drops them.
+//! stores, since it ends soon after it drops them. Read [`LeakingStore`] first.
 
 ghost use Rattle.std.specs.Prelude.{◌≡◌};
 ghost use Rattle.std.specs.Mem.{manually_drop_value};
@@ -94,7 +94,7 @@ impl<R: Drop, S: PrefixStore<R>> PrefixStore<R> for LeftStore<S> {
     }
 }
 
-/// Returns `place` with the wrapped store.
+/// Returns `place` with the wrapped store, or an unused slot if it is one.
 fn inner_place<'a, S>(place: &Place<'a, LeftStore<S>>) -> Place<'a, S> {
     match place {
         Place::Nowhere => Place::Nowhere,

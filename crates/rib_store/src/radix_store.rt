@@ -1,5 +1,5 @@
 //! A store that has a radix tree for each family. `bgpdump` keeps the routes of each peer in one.
-//! Read `tree.rt` for the trees.
+//! Read [`RadixStore`] first, then `tree.rt` for the trees.
 
 ghost use mir.Val.{bool_byte};
 ghost use Rattle.std.specs.Prelude.{◌≡◌, ℕ, ◌+◌, ◌*◌, ◌≤◌, is_some, option_map, option_copied};
@@ -59,7 +59,8 @@ impl<R: Drop> RadixStore<R> {
 
     /// Returns the route at the longest prefix that contains `addr`, as [`PrefixStore::longest`]
     /// does, and adds the number of nodes that the look-up visits to `met`: those whose prefixes
-    /// contain the address, and at most one more.
+    /// contain the address, and at most one more. `met` must be at most `u32::MAX` less 33 for an
+    /// IPv4 address, or less 129 for IPv6.
     pub fn longest_counted(&self, addr: &Addr, met: &mut u32) -> Option<(Prefix, &R)>
         requires { met.old + bit_count addr.now.family + 1 ≤ u32.MAX }
         ensures longest { IsLongest self.now.routes addr.now
@@ -220,7 +221,7 @@ impl<R: Drop> PrefixStore<R> for RadixStore<R> {
     }
 }
 
-/// Returns the descent to the prefix of `place`, which has ended if `place` is empty.
+/// Returns the descent to the prefix of `place`, which has ended if `place` is unused.
 fn descent_to<'a, R: Drop>(place: &Place<'a, RadixStore<R>>) -> Descent<'a, R> {
     let Place::At(store, prefix) = place else {
         return Descent::ended();

@@ -1,6 +1,6 @@
 //! A path-compressed radix tree of the prefixes of one family. [`RadixStore`](crate::RadixStore)
-//! has one for each family. Its operations are in the modules below: look-ups in `lookups.rt`, new
-//! keys in `puts.rt`, routes in `routes.rt`, removed keys in `keys.rt`.
+//! has one for each family. Read [`Tree`] first. Its operations are in the modules below: look-ups
+//! in `lookups.rt`, new keys in `puts.rt`, routes in `routes.rt`, removed keys in `keys.rt`.
 
 ghost use Rattle.std.specs.Prelude.{◌≡◌, true, false, Some, None, is_some, MatchOption, [], ◌∷◌, vec_capacity, option_copied, option_map, option_to_list};
 ghost use Rattle.prefix_store.specs.Lookups.{pointed};
@@ -79,7 +79,7 @@ const _: () = prove!(size_of::<Node<V4Prefix, Rc<u32>>>() <= V4_NODE_OCTETS);
 
 const _: () = prove!(size_of::<Node<Prefix, Rc<u32>>>() <= V6_NODE_OCTETS);
 
-/// The slot of a node.
+/// The slot of a node: whether the node is a key, and its route.
 #[derive(Drop)]
 pub(crate) enum Slot<R> {
     /// No key. The node has two children.
@@ -91,7 +91,7 @@ pub(crate) enum Slot<R> {
 }
 
 impl<K, R> Tree<K, R> {
-    /// Returns `true` if some key has a route. Reads the mark of the root alone.
+    /// Returns `true` if some key of the tree has a route. Reads the mark of the root alone.
     fn is_routed(&self) -> bool
         ensures { result ≡ is_routed self.now }
     {
@@ -113,7 +113,8 @@ impl<K, R> Fork<K, R> {
         self.left.is_routed() || self.right.is_routed()
     }
 
-    /// Returns `true` if some key below the branch has a route, but not on the side `turn`.
+    /// Returns `true` if some key below the branch has a route, leaving out the child on the side
+    /// `turn`. Reads the marks of the children.
     fn is_routed_beside(&self, turn: Turn) -> bool
         ensures { result ≡ routed_beside turn Branch self.now.left self.now.right }
     {
@@ -124,9 +125,9 @@ impl<K, R> Fork<K, R> {
         }
     }
 
-    /// Returns `true` if the node is marked, which `routed` says, and stays so whatever happens on
-    /// the side `turn`: a route is put there if `brought`, or else may be taken. If `false`, there
-    /// is no route elsewhere.
+    /// Returns `true` if the branch, whose mark is `routed`, stays marked whatever happens to the
+    /// child on the side `turn`. If `brought`, a route is put there; otherwise one may be taken.
+    /// `false` means that no other child has a route.
     #[inline]
     #[tactic(auto, using(crate::proofs::MarkLaws::none_beside))]
     fn is_routed_anyway(&self, routed: bool, brought: bool, turn: Turn) -> bool
@@ -153,7 +154,9 @@ impl<K, R> Node<K, R> {
         self.left.is_routed() || self.right.is_routed() || self.slot.is_filled()
     }
 
-    /// Returns `true` if there is a route at the node or below it, but not where `turn` leads.
+    /// Returns `true` if the node or some key below it has a route, leaving out what `turn` leads
+    /// to: the child on that side, or otherwise the node's own slot. Reads the marks of the
+    /// children.
     fn is_routed_beside(&self, turn: Turn) -> bool
         ensures { result ≡
             routed_beside turn self.now.slot self.now.left self.now.right }
@@ -165,9 +168,9 @@ impl<K, R> Node<K, R> {
         }
     }
 
-    /// Returns `true` if the node is marked, which `routed` says, and stays so whatever happens on
-    /// the side `turn`: a route is put there if `brought`, or else may be taken. If `false`, there
-    /// is no route elsewhere.
+    /// Returns `true` if the node, whose mark is `routed`, stays marked whatever happens where
+    /// `turn` leads. If `brought`, a route is put there; otherwise one may be taken. `false` means
+    /// that there is no route elsewhere.
     #[inline]
     #[tactic(auto, using(crate::proofs::MarkLaws::none_beside))]
     fn is_routed_anyway(&self, routed: bool, brought: bool, turn: Turn) -> bool
@@ -193,8 +196,8 @@ impl<R> Slot<R> {
         matches!(self, Slot::Filled(_))
     }
 
-    /// Returns the slot of a key: `None` if there is no key, `Some(None)` if the key has no route,
-    /// or else the route.
+    /// Returns the route of a key: `None` if the slot is of no key, `Some(None)` if the key has no
+    /// route, or else the route.
     pub(crate) fn kept(&self) -> Option<Option<&R>>
         ensures { option_map (λ slot. option_copied slot) result ≡ slot_of self.now }
     {
@@ -216,8 +219,8 @@ impl<R> Slot<R> {
         }
     }
 
-    /// Appends `prefix` with the route in the slot to `found`, if there is a route and if `found`
-    /// has spare capacity.
+    /// Appends `prefix` with the route in the slot to `found`. Does nothing if there is no route,
+    /// or if `found` has no spare capacity.
     fn add_routed<'a>(&'a self, prefix: Prefix, found: &mut Vec<(Prefix, &'a R)>)
         ensures found { pointed found.new.items ≡ filled (vec_capacity found.old)
             (pointed found.old.items) (option_to_list (routed_at prefix (slot_of self.now))) }
@@ -230,7 +233,7 @@ impl<R> Slot<R> {
     }
 }
 
-/// Appends `prefix` and `route` to `found` if it has spare capacity.
+/// Appends `prefix` and `route` to `found`. Does nothing if `found` has no spare capacity.
 fn add_route<'a, R>(prefix: Prefix, route: &'a R, found: &mut Vec<(Prefix, &'a R)>)
     ensures found { pointed found.new.items ≡ filled (vec_capacity found.old)
         (pointed found.old.items) ((prefix, route.now) ∷ []) }

@@ -1,5 +1,6 @@
 //! Counts of the nodes, the keys and the routes of a tree, which visit all of its nodes.
-//! `radix_store.rt` calls them, for keys and routes only if its own count was saturated.
+//! `radix_store.rt` calls them; the counts of keys and routes only if its own count was saturated.
+//! Read [`Tree::node_count`] first.
 
 ghost use Rattle.std.specs.Prelude.{◌≡◌, length};
 ghost use Rattle.rib_store.specs.Tree.{shape_of, slots_of};

@@ -1,6 +1,6 @@
 //! Prefetching descents to eight prefixes at once, before routes are put or taken there. The
 //! processor waits for the nodes of all eight together, and not for one after the other.
-//! `RadixStore::reach` calls [`Descents::finish`]; read [`Descent`] first.
+//! `RadixStore::prefetch` calls [`Descents::run`]; read [`Descent`] first.
 
 use crate::tree::Tree;
 use ip_prefix::Prefix;
@@ -20,6 +20,7 @@ const MOST_NODES: u8 = 32;
 /// finds out nothing about the prefix.
 #[derive(Drop)]
 pub(crate) struct Descent<'a, R> {
+    /// The node that the descent has come to.
     root: Root<'a, R>,
     /// The first 64 bits of the prefix, filled up with zeros.
     bits: u64,
@@ -27,7 +28,7 @@ pub(crate) struct Descent<'a, R> {
     depth: u8,
 }
 
-/// The subtree that a descent has reached, or the end of the descent.
+/// The subtree that a descent has come to, or the end of the descent.
 #[derive(Drop)]
 pub(crate) enum Root<'a, R> {
     /// No subtree.
@@ -48,7 +49,7 @@ impl<'a, R> Descent<'a, R> {
         }
     }
 
-    /// Returns a descent from `root` to `prefix`, which must be of one family.
+    /// Returns a descent from `root` to `prefix`. They must be of one family.
     pub(crate) fn at(root: Root<'a, R>, prefix: &Prefix) -> Self {
         Descent {
             root,
@@ -57,7 +58,8 @@ impl<'a, R> Descent<'a, R> {
         }
     }
 
-    /// Passes a node, and returns `true` if there was one to pass.
+    /// Advances to a child of the current node, and returns `true`. Returns `false` if there is
+    /// none to advance to.
     #[inline]
     fn pass_node(&mut self) -> bool {
         let next = match &self.root {
@@ -76,8 +78,8 @@ impl<'a, R> Descent<'a, R> {
     }
 }
 
-/// Returns the child of the root on the side of the bit of `bits` that follows the root's prefix.
-/// Returns `None` if the root has no children, or if the prefix has `depth` bits or more.
+/// Returns the child of the root of `tree` on the side of the bit of `bits` that follows the root's
+/// prefix. Returns `None` if the root has no children, or if its prefix has `depth` bits or more.
 #[inline]
 fn below<'a, K: Packed, R>(tree: &'a Tree<K, R>, bits: u64, depth: u8) -> Option<&'a Tree<K, R>> {
     let (prefix, left, right) = match tree {
@@ -117,7 +119,7 @@ impl<'a, R> Descents<'a, R> {
         u64::from(MOST_NODES)
     }
 
-    /// Advances each descent by a node, and returns `true` if one had a node to pass.
+    /// Advances each descent by a node, and returns `true` if one of them could advance.
     #[inline]
     fn pass_nodes(&mut self) -> bool {
         let first_four = self.first.pass_node()

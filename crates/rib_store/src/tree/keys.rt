@@ -1,5 +1,5 @@
-//! Methods that remove a key and join what is below it to its parent. `RadixStore::discard` calls
-//! [`Tree::discard`]; read that method first.
+//! Methods that remove a key and the nodes that aren't needed without it. `RadixStore::discard`
+//! calls [`Tree::discard`]; read that method first.
 
 ghost use Rattle.std.specs.Prelude.{◌≡◌, None, List, Bool};
 ghost use Rattle.ip_prefix.specs.Turns.{way};
@@ -75,7 +75,8 @@ fn discard_leaf<K: Packed, R: Drop>(tree: &mut Tree<K, R>, prefix: K, key: &Pref
     }
 }
 
-/// Replaces the root by its only child, if it is no key and has one child.
+/// Replaces the root by its only child. Does nothing if the root is a key, or has no or two
+/// children.
 fn join<K: Packed, R: Drop>(tree: &mut Tree<K, R>)
     requires shaped { IsNearlyShaped (shape_of K.network tree.old) }
     requires marked { IsMarked tree.old }
@@ -111,7 +112,7 @@ fn join<K: Packed, R: Drop>(tree: &mut Tree<K, R>)
     }
 }
 
-/// Moves the root out of its heap node if it is a key without children.
+/// Moves the root out of its heap node if it is a key without children, and frees the node.
 fn fold_leaf<K: Packed, R: Drop>(tree: &mut Tree<K, R>)
     requires { IsMarked tree.old }
     ensures marked { IsMarked tree.new }

@@ -48,8 +48,8 @@ impl<K: Packed, R> Tree<K, R> {
         }
     }
 
-    /// Returns the route at the longest prefix that covers `key`, with that prefix, or `None` if
-    /// there is none. Adds the number of nodes that it visits to `met`.
+    /// Returns the route at the longest prefix that covers `key`, with that prefix, or `None` if no
+    /// prefix with a route covers it. Adds the number of nodes that it visits to `met`.
     pub(crate) fn longest(&self, key: &Prefix, met: &mut u32) -> Option<(Prefix, &R)>
         requires { met.old + visits (shape_of K.network self.now) (way key.now) ≤ u32.MAX }
         ensures found { option_map (λ p. (p.0, p.1.now)) result

@@ -1,4 +1,4 @@
-//! Constructors of nodes, which `puts.rt` and `routes.rt` call.
+//! Constructors of nodes, which `puts.rt` and `routes.rt` call. Read [`new_leaf`] first.
 
 ghost use Rattle.std.specs.Prelude.{◌≡◌, ◌⊎◌, ◌||◌, Some, None, false, is_some, IfOk};
 ghost use Rattle.ip_prefix.specs.Turns.{way};

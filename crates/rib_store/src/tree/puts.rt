@@ -1,5 +1,5 @@
 //! Methods that put a route at a prefix, and make the prefix a key.
-//! [`RadixStore::put`](crate::RadixStore) calls [`Tree::put`]; read that method first.
+//! [`RadixStore`](crate::RadixStore) calls [`Tree::put`]; read that method first.
 
 ghost use Rattle.std.specs.Prelude.{◌≡◌, ◌≢◌, ◌||◌, Some, None, true, is_some, not, OnOk, OnErr, IfOk};
 ghost use Rattle.ip_prefix.specs.Turns.{way, turn_of};
@@ -17,8 +17,8 @@ use std::mem;
 
 impl<K: Packed, R: Drop> Tree<K, R> {
     /// Swaps the route at `key` and `route`, either of which may be `None`, and makes `key` a key.
-    /// Returns `true` if it wasn't one before. On error, which means that memory allocation fails,
-    /// the tree and `route` are unchanged.
+    /// Returns `true` if it wasn't one before. Fails if memory allocation fails; the tree and
+    /// `route` are unchanged then.
     #[cycle(put)]
     pub(crate) fn put(
         &mut self,
@@ -87,8 +87,8 @@ impl<K: Packed, R: Drop> Tree<K, R> {
 }
 
 /// Swaps the route at `key` in the child `below` and `route`, as [`Tree::put`] does, and sets the
-/// mark `routed` of its parent to the mark of the child. The parent has no routes elsewhere. On
-/// error, all are unchanged.
+/// mark `routed` of the child's parent to the mark of the child. The parent must have no routes
+/// elsewhere. Fails if memory allocation fails; all are unchanged then.
 #[cycle(put)]
 #[inline(never)]
 fn put_marking<K: Packed, R: Drop>(
@@ -121,8 +121,8 @@ fn put_marking<K: Packed, R: Drop>(
     Ok(made)
 }
 
-/// Swaps the route at `key` and `route`, as [`Tree::put`] does, where `key` isn't below the root or
-/// the root has no children.
+/// Swaps the route at `key` and `route`, as [`Tree::put`] does. `key` must not be below the root,
+/// unless the root has no children.
 #[inline(never)]
 fn put_at_root<K: Packed, R: Drop>(
     tree: &mut Tree<K, R>,
@@ -187,8 +187,8 @@ fn put_at_root<K: Packed, R: Drop>(
 }
 
 /// Makes `key` a key with `route`, above the root or beside it below a new branch, and returns
-/// `true`. `prefix` is the prefix of the root, which must not cover `key`. On error, which means
-/// that memory allocation fails, the tree and `route` are unchanged.
+/// `true`. `prefix` is the prefix of the root, which must not cover `key`. Fails if memory
+/// allocation fails; the tree and `route` are unchanged then.
 fn put_beside<K: Packed, R: Drop>(
     tree: &mut Tree<K, R>,
     prefix: &Prefix,
@@ -233,8 +233,8 @@ fn put_beside<K: Packed, R: Drop>(
     Ok(true)
 }
 
-/// Makes the prefix of the branch at the root, `prefix`, a key with `route`, and returns `true`. On
-/// error, which means that memory allocation fails, the tree and `route` are unchanged.
+/// Makes the prefix of the branch at the root, `prefix`, a key with `route`, and returns `true`.
+/// Fails if memory allocation fails; the tree and `route` are unchanged then.
 fn put_at_fork<K: Packed, R: Drop>(
     tree: &mut Tree<K, R>,
     prefix: K,
@@ -266,8 +266,8 @@ fn put_at_fork<K: Packed, R: Drop>(
     Ok(true)
 }
 
-/// Swaps the route at `key` and `route`, as [`Tree::put`] does, where `prefix` is the only key of
-/// the tree. Returns `true` if `key` wasn't a key before.
+/// Swaps the route at `key` and `route`, as [`Tree::put`] does, in a tree whose only key is
+/// `prefix`. Returns `true` if `key` wasn't a key before.
 fn put_at_leaf<K: Packed, R: Drop>(
     tree: &mut Tree<K, R>,
     prefix: K,

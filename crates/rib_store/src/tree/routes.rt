@@ -85,8 +85,8 @@ impl<K: Packed, R: Drop> Tree<K, R> {
 }
 
 impl<K: Packed, R: Drop> Tree<K, R> {
-    /// Moves all routes to the end of `taken`, in the order of their prefixes. `taken` must have
-    /// spare capacity for them. Skips nodes without a route below them.
+    /// Moves all routes to the end of `taken`, in the order of their prefixes. The keys stay.
+    /// `taken` must have spare capacity for all routes. Skips nodes without a route below them.
     pub(crate) fn take_routes(&mut self, taken: &mut Vec<R>)
         requires marked { IsMarked self.old }
         requires room { length taken.old.items + length (all_routes (shape_of K.network self.old))
@@ -130,7 +130,8 @@ impl<K: Packed, R: Drop> Tree<K, R> {
 }
 
 /// Swaps the route at `key` in the child `below` and `route`, as [`Tree::exchange`] does, and sets
-/// the mark `routed` of its parent to the mark of the child. The parent has no routes elsewhere.
+/// the mark `routed` of the child's parent to the mark of the child. The parent must have no routes
+/// elsewhere.
 #[cycle(exchange)]
 #[inline(never)]
 fn exchange_marking<K: Packed, R: Drop>(
@@ -207,7 +208,7 @@ impl<R: Drop> Slot<R> {
     }
 
     /// Moves the route, if there is one, to the end of `taken`, which must have spare capacity for
-    /// it.
+    /// it. The key stays.
     fn take_route(&mut self, taken: &mut Vec<R>)
         requires { length taken.old.items < vec_capacity taken.old ⊎ is_filled self.old ≡ false }
         ensures taken { taken.new.items ≡ taken.old.items
