@@ -28,12 +28,12 @@ use std::marker::Model;
 use std::ops::Bound;
 use std::rc::Rc;
 
-/// The smallest number of peers with a key for which [`Table::peers_if_few`] returns a list. With
+/// The smallest number of peers with a key for which [`Table::few_peers`] returns a list. With
 /// one peer less it returns `None`.
 const LEAST_PEERS: usize = 64;
 
 /// The smallest ratio of the peers with a key to those with a route for which
-/// [`Table::peers_if_few`] returns a list. If one more peer has a route, it returns `None`.
+/// [`Table::few_peers`] returns a list. If one more peer has a route, it returns `None`.
 const FEW_OF: usize = 4;
 
 /// A routing table for each peer: at most one route for each pair of a peer and a prefix. Some
