@@ -29,7 +29,7 @@ use Rattle.std.specs.BTreeMap as tree
 
 -- ---- a player as plain data
 
--- a timeline as a pair of its parts, so that it is plain data
+-- timelines as plain data
 abbrev pub coded_timeline : Coded Timeline
 coded_timeline =
     code_by (ℕ × (ℕ × (List Routes × List Pairs)))

@@ -83,7 +83,7 @@ cleared_entries entries routes = entries
 abbrev pub entry_of : Pair → Marks → Option (Rc Route Global) → Entry
 entry_of pair marks other = record { pair = pair; other = other; before = marks.before; behind = marks.behind }
 
--- the entry that its memory stands for; for memory without contents one of no peer and no prefix
+-- the entry that its memory stands for; for memory without contents, an arbitrary entry
 abbrev pub entry_kept : Kept → Entry
 entry_kept (V4Absent marks prefix peer) = entry_of (pair_of peer.value (v4_network prefix)) marks None
 entry_kept (V4Present marks prefix peer route) = entry_of (pair_of peer.value (v4_network prefix)) marks (Some route)
