@@ -3,7 +3,7 @@
 use Rattle.std.specs.Prelude.{◌<◌, Bool, nat_lt, List, map, vec_len, vec_capacity}
 use Rattle.rib_player.specs.declared.chosen.Chosen.{Chosen}
 
--- for each number below the count, in order, whether it is a member
+-- for each number below the bound of a sparse set, in order, whether it is a member
 abbrev pub choices : Chosen → List Bool
 choices c = map (λ place. nat_lt place c.count) c.places.items
 

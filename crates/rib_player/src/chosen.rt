@@ -1,6 +1,6 @@
-//! A sparse set of numbers: a list of all numbers below a count, in which the members come first,
-//! so that they are listed without a look at the others. `stores.rt` keeps in it which stores have
-//! a route. Read [`SparseSet`] first.
+//! A sparse set: the numbers below a bound in a list in which the members come first, so that they
+//! are listed without a look at the others. `stores.rt` keeps in it which stores have a route. Read
+//! [`SparseSet`] first.
 
 ghost use Rattle.std.specs.Prelude.{◌≡◌, ◌<◌, ◌≤◌, ◌++◌, ◌∷◌, ℕ, [], false, not, Some, length, OnOk, slice_get, vec_len, vec_capacity};
 ghost use Rattle.rib_player.specs.Places.{AreInverse, IsReplaced, IsSwapped, ListsAll, changed_place};
@@ -9,11 +9,12 @@ ghost use Rattle.std.proofs.Props.{props};
 use crate::room::give_back_room;
 use std::alloc::{AllocError, Global};
 
-/// A set of some of the numbers from 0 up to a count. Adding and removing a member takes constant
-/// time, and no memory.
+/// A set of some of the numbers below a bound, which grows by [`add`](SparseSet::add) and shrinks
+/// by [`remove`](SparseSet::remove). Making a number a member or not takes constant time, and no
+/// memory.
 #[derive(Drop)]
 pub(crate) struct Chosen {
-    /// All numbers below the count, the members first.
+    /// All numbers below the bound, the members first.
     numbers: Vec<usize>,
     /// The index of each number in `numbers`.
     places: Vec<usize>,
@@ -23,8 +24,8 @@ pub(crate) struct Chosen {
     ghost within: { count ≤ vec_len numbers },
 }
 
-/// Swaps the numbers at the indices `one` and `other` of `numbers`, and corrects `places`, which
-/// has the index of each number in `numbers`.
+/// Swaps the numbers at the indices `one` and `other` of `numbers`, and their indices in `places`,
+/// which is the inverse of `numbers`.
 fn exchange(numbers: &mut Vec<usize>, places: &mut Vec<usize>, one: usize, other: usize)
     requires inverse { AreInverse numbers.old.items places.old.items }
     requires one { one < vec_len numbers.old }
@@ -46,7 +47,7 @@ fn exchange(numbers: &mut Vec<usize>, places: &mut Vec<usize>, one: usize, other
 impl Chosen {
     ghost use Rattle.rib_player.specs.Chosen.{HasRoom, choices};
 
-    /// Returns an empty set of no numbers, without allocating memory.
+    /// Returns a set with the bound 0, without allocating memory.
     pub(crate) fn new(alloc: Global) -> Chosen
         ensures { choices result ≡ [] }
     {
@@ -67,7 +68,7 @@ impl Chosen {
         self.places.reserve(1)
     }
 
-    /// Adds one to the count of numbers; the new one isn't a member. There must be capacity for it
+    /// Raises the bound by one; the new number isn't a member. There must be capacity for it
     /// ([`SparseSet::reserve`]).
     pub(crate) fn add(&mut self)
         requires { HasRoom self.old }
@@ -78,7 +79,7 @@ impl Chosen {
         self.places.push_reserved(number);
     }
 
-    /// Makes `number` a member if `is` is true, or else no member. It must be below the count.
+    /// Makes `number`, which must be below the bound, a member if `is` is true, or else no member.
     /// Allocates no memory.
     #[inline]
     pub(crate) fn choose(&mut self, number: usize, is: bool)
@@ -90,7 +91,7 @@ impl Chosen {
         }
     }
 
-    /// Makes `number` a member if `is` is true, or else no member. It must be the opposite so far.
+    /// Makes `number` a member if `is` is true, or else no member. It must be the opposite before.
     fn turn(&mut self, number: usize, is: bool)
         requires { slice_get (choices self.old) number ≡ Some (not is) }
         ensures { IsReplaced (choices self.old) (choices self.new) number is }
@@ -105,8 +106,8 @@ impl Chosen {
         }
     }
 
-    /// Lowers the count of numbers by one: `number` is taken out, and the last number becomes
-    /// `number`, as in [`Vec::swap_remove`]. Allocates no memory.
+    /// Lowers the bound by one: `number` is taken out, and the last number becomes `number`, member
+    /// or not as it was; compare [`Vec::swap_remove`]. Allocates no memory.
     pub(crate) fn remove(&mut self, number: usize)
         requires { number < length (choices self.old) }
         ensures { IsSwapped (choices self.old) (choices self.new) number }

@@ -47,8 +47,8 @@ pub(crate) struct Stores<S> {
     pub(crate) held: Vec<S>,
     /// The peers, as the entries of steps share them. The index of a peer is its number.
     pub(crate) names: Vec<Rc<NumberedPeer>>,
-    /// The numbers of the peers whose store has a route, as far as [`Stores::set_routed`] was
-    /// called.
+    /// The numbers of the stores that have a route. The caller keeps it right by
+    /// [`Stores::set_routed`].
     pub(crate) routed: Chosen,
     /// The number that was set last for a peer of each slot, or 0. It may be another peer's, so a
     /// reader checks which peer has it; a peer that isn't found here is in `order`. Empty until the
@@ -199,7 +199,7 @@ impl<S> Stores<S> {
         self.held.get_mut(found)
     }
 
-    /// Notes whether the store with this number has a route. The number must be that of a store.
+    /// Records whether the store with this number has a route. The number must be that of a store.
     /// Allocates no memory.
     #[inline]
     pub(crate) fn note_routes(&mut self, number: usize, has: bool)
@@ -212,9 +212,9 @@ impl<S> Stores<S> {
         self.routed.choose(number, has);
     }
 
-    /// Notes whether the store with this number has a route, of which it has `count` now. If
-    /// `count` is two or more, it must be noted already that the store has one. Allocates no
-    /// memory.
+    /// Records whether the store with this number has a route, given the number `count` of its
+    /// routes now. If `count` is two or more, it must be on record already that the store has one.
+    /// Allocates no memory.
     #[inline]
     pub(crate) fn note_count(&mut self, number: usize, count: u64)
         requires within { number < length self.old.held.items }
@@ -246,8 +246,8 @@ impl<S: Drop> Stores<S> {
     ghost use Rattle.rib_player.specs.StoresByPeer.{stores_in};
     ghost use Rattle.rib_player.specs.Noted.{routed_in};
 
-    /// Adds `store` for `peer`, which must have none, under the next number, and notes that it has
-    /// no route. On an error, which means that memory allocation failed, nothing is added, and
+    /// Adds `store` for `peer`, which must have none, under the next number, and records that it
+    /// has no route. On an error, which means that memory allocation failed, nothing is added, and
     /// `store` is dropped.
     pub(crate) fn insert(&mut self, peer: Peer, store: S) -> Result<(), AllocError>
         requires { store_at (stores_in self.old) peer ≡ None }
