@@ -68,7 +68,8 @@ abbrev pub claims_along : Pair → List Routes → ℕ
 claims_along pair [] = 0
 claims_along pair (first ∷ tables) = one_if (is_routed pair first) + brought_along pair first tables
 
--- how many claims of a pair a player makes, over all positions from the floor to the end
+-- how many claims of a pair a player makes, over all positions from the floor to the end; it has some exactly
+-- if the pair is a key of the table
 abbrev pub claims : Timeline → Pair → ℕ
 claims t pair = claims_along pair t.tables
 

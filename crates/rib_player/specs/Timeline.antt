@@ -37,7 +37,8 @@ table_at t position = slice_index_or t.tables (position - t.floor) finite.empty
 abbrev pub current : Timeline → Routes
 current t = table_at t t.cursor
 
--- the pairs that have a route at the cursor, or that a kept step names, before or after the cursor
+-- the keys of a player's table: the pairs that have a route at the cursor, or that a kept step names, before
+-- or after the cursor
 unfoldable pub wanted : Timeline → Pairs
 wanted t = set.from_list (finite.keys (current t) ++ flat_map set.items t.steps)
 

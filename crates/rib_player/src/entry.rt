@@ -56,8 +56,8 @@ pub(crate) enum End {
 /// The memory layout of an entry, by the family of its prefix and by whether it has a route.
 #[derive(Drop)]
 enum Kept {
-    // An IPv4 prefix is stored beside the marks, so that an entry takes three words; an IPv6 prefix
-    // is boxed with its peer. The entries of a peer share the peer.
+    // An IPv4 prefix is stored beside the two flags, so that an entry takes three words; an IPv6
+    // prefix is boxed with its peer. The entries of a peer share the peer.
     V4Absent(Marks, V4Prefix, Rc<NumberedPeer>),
     V4Present(Marks, V4Prefix, Rc<NumberedPeer>, Rc<Route>),
     V6Absent(Marks, Box<V6Pair>),

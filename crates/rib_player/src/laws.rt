@@ -76,18 +76,18 @@ pub fn walk_over_peers()
         → routed_above routes low ≡ [] }
 {}
 
-/// States which pairs are keys of a player's table, the wanted ones: those that have a route at the
-/// cursor, and those that a kept step names, before or after the cursor.
+/// States which pairs are keys of a player's table: those that have a route at the cursor, and
+/// those that a kept step names, before or after the cursor.
 pub fn wanted_pairs()
     ensures { (t : Timeline) (pair : Pair) → set.contains (wanted t) pair
         ≡ (is_some (finite.get (current t) pair)
         || list_any (λ step. set.contains step pair) t.steps) }
 {}
 
-/// States that the wanted pairs are those with a claim (`claims.rt`), and how claims change:
-/// forgetting the first step takes one from each pair that the step clears, dropping the last step
-/// takes one from each pair that it brings (that has no route before it and one after it), and
-/// playing an event adds one to each pair that the event brings.
+/// States that the keys of a player's table are the pairs with a claim (`claims.rt`), and how
+/// claims change: forgetting the first step takes one from each pair that the step clears, dropping
+/// the last step takes one from each pair that it brings (that has no route before it and one after
+/// it), and playing an event adds one to each pair that the event brings.
 pub fn claimed_pairs()
     ensures wanted { (t : Timeline) (history : List Event) (pair : Pair) → StandsFor t history →
         set.contains (wanted t) pair ≡ nat_lt 0 (claims t pair) }
