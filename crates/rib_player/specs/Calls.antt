@@ -14,7 +14,7 @@ use Rattle.rib_player.specs.Marks.{sides_at, sides_across, AreDistinct, Mark, ma
 use Rattle.mrt_events.specs.declared.event.Event.{Event}
 use Rattle.rib_player.specs.Timeline.{Timeline, after_play, after_undo, after_redo, after_forget}
 
--- ---- steps that can be undone and redone, and the claims that a player holds with them
+-- ---- the parts of a player between calls: table, claims, cursor and steps
 
 -- a table, the claims beyond its keys, a cursor and steps fit together: the cursor is within the steps; each
 -- step names a pair once, and marks it as the tables before and after the step have it; and each pair has as

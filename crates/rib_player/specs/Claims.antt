@@ -36,7 +36,7 @@ coded_timeline =
     (coded× coded_ℕ (coded× coded_ℕ (coded× (coded_list (finite.code coded_pair coded_route)) (coded_list (set.code coded_pair)))))
     (λ t. (t.floor, (t.cursor, (t.tables, t.steps)))) (λ p. record { floor = p.0; cursor = p.1.0; tables = p.1.1.0; steps = p.1.1.1 }) (λ _. refl)
 
--- ---- how often a player's timeline claims a pair: the pair is wanted exactly where it is claimed
+-- ---- how many claims a pair has in a timeline; it is a key of the table exactly if it has one
 
 -- 1 for true, 0 for false
 abbrev pub one_if : Bool → ℕ

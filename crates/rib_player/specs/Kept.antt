@@ -25,7 +25,7 @@ use Rattle.std.specs.FinMap as finite
 use Rattle.std.specs.FinSet as set
 use Rattle.prefix_store.specs.Stored as stored
 
--- ---- how the stores of peers are kept, and tables and pairs as plain data
+-- ---- the stores of a table in memory, and tables and pairs as plain data
 
 -- a pair as plain data
 abbrev pub coded_pair : Coded Pair
@@ -63,7 +63,7 @@ pub record IsHeldWhole {S : Type 0} (keys : S → stored.Keys) (routes : S → s
 pub record IsWritten {A : Type 0} (old new : List (Peer × A)) (peer : Peer) (value : Option A) : Type 0 where
   pub each : (p : Peer) → lookup (eq_by_cmp peer_cmp p) new ≡ (if eq_by_cmp peer_cmp peer p then value else lookup (eq_by_cmp peer_cmp p) old)
 
--- ---- how an entry is kept, and what a new one says
+-- ---- an entry in memory, and the entries of new steps
 
 -- the entry of a step that isn't applied yet, which gives its pair this route, or clears it
 abbrev pub new_entry : Pair → Option (Rc Route Global) → Entry

@@ -18,7 +18,7 @@ use Rattle.rib_player.specs.declared.entry.End.TheVariants.{First, Last}
 use Rattle.rib_player.specs.Entries.{Entry}
 use Rattle.rib_player.specs.Claims.{is_routed}
 
--- ---- the sides of steps: each of another pair, which is a key, and as an event makes them
+-- ---- the sides of steps, what they must fulfil, and those that an event makes
 
 -- the sides of a step after it is applied or undone, given the table before that: its pairs, with the routes
 -- that the table had
@@ -54,7 +54,7 @@ pub record IsStepFor (routes : Routes) (event : Event) (sides : List Side) : Typ
   pub after : sides ≡ sides_across (table_after routes event) sides
   pub names : from_list (pairs_in sides) ≡ named_pairs routes event
 
--- ---- on which sides of their steps pairs have a route, by what entries say
+-- ---- on which sides of its step each pair has a route, as entries are marked
 
 -- a pair, and whether it has a route before a step and after it
 pub record Mark : Type 0 where

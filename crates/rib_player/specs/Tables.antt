@@ -70,7 +70,7 @@ is_named before effect = not (is_keep effect) && (is_some before || is_some (rou
 unfoldable pub named_pairs : Routes → Event → Pairs
 named_pairs routes event = from_list (filter (λ pair. is_named (get routes pair) (effect pair event)) (concerned_pairs routes event))
 
--- ---- what a table holds: its keys, and the routes that some of them have; and how it holds them, in one store for each peer
+-- ---- what a table contains: its keys, the routes that some of them have, and the store of each peer
 
 -- a table as contracts see it
 pub record Contents : Type 0 where

@@ -49,7 +49,7 @@ pub record IsWellFormed (t : Timeline) : Type 0 where
   pub cursor : t.cursor ≤ end_of t
   pub tables : length t.tables ≡ length t.steps + 1
 
--- ---- what calls do to it
+-- ---- what calls do to a player
 
 -- a new player: no steps, and an empty table at position 0
 abbrev pub fresh : Timeline
