@@ -1,5 +1,5 @@
 -- Private.
--- How tables and entries are kept.
+-- How the memory of tables and entries stands for what contracts see of them.
 use Rattle.std.specs.Prelude.{◌≡◌, ℕ, Bool, ◌<◌, nat_lt, List, option_map, filter, Option, IfSome, if◌then◌else◌, refl, true, false, [], ◌∷◌, Some, None}
 use Rattle.std.specs.Map.{lookup}
 use Rattle.std.specs.Ordering.{eq_by_cmp}
@@ -25,11 +25,13 @@ use Rattle.std.specs.FinMap as finite
 use Rattle.std.specs.FinSet as set
 use Rattle.prefix_store.specs.Stored as stored
 
--- ---- how the stores of peers are kept, and tables and pairs as plain data
+-- ---- the stores of a table in memory, and tables and pairs as plain data
 
+-- a pair as plain data
 abbrev pub coded_pair : Coded Pair
 coded_pair = code_by (Peer × Network) (coded× coded_peer coded_network) (λ p. (p.peer, p.prefix)) (λ p. record { peer = p.0; prefix = p.1 }) (λ _. refl)
 
+-- the contents of a table as plain data
 abbrev pub coded_contents : Coded Contents
 coded_contents =
     code_by (Pairs × Routes) (coded× (set.code coded_pair) (finite.code coded_pair coded_route))
@@ -39,7 +41,7 @@ coded_contents =
 abbrev pub routed_stores : {S : Type 0} → (S → stored.Routes (Rc Route Global)) → Stores S → Stores S
 routed_stores routes stores = filter (λ entry. nat_lt 0 (finite.len (routes entry.1))) stores
 
--- a store's peer, and what the store's count of routes answers
+-- a peer, and the number of routes that its store returns
 abbrev pub peer_count : {S : Type 0} → (S → stored.Routes (Rc Route Global)) → Peer × S → Peer × ℕ
 peer_count routes entry = (entry.0, stored.counted (finite.len (routes entry.1)))
 
@@ -47,39 +49,41 @@ peer_count routes entry = (entry.0, stored.counted (finite.len (routes entry.1))
 abbrev pub IsHeld : {S : Type 0} → (S → stored.Keys) → Stores S → Type 0
 IsHeld keys stores = (p : Peer) → IfSome (store_at stores p) (λ store. 0 < set.len (keys store))
 
--- whether a store, if there is one, has a route
+-- whether a store has a route; `None` if there is no store
 abbrev pub have_route : {S : Type 0} → (S → stored.Routes (Rc Route Global)) → Option S → Option Bool
 have_route routes store = option_map (λ s. nat_lt 0 (finite.len (routes s))) store
 
--- and it is noted of each whether it has a route
+-- each store has a key, and `routed` has, for each peer with a store, whether the store has a route
 pub record IsHeldWhole {S : Type 0} (keys : S → stored.Keys) (routes : S → stored.Routes (Rc Route Global)) (stores : Stores S) (routed : List (Peer × Bool)) : Type 0 where
   pub held : IsHeld keys stores
   pub noted : (p : Peer) → lookup (eq_by_cmp peer_cmp p) routed ≡ have_route routes (store_at stores p)
 
--- this stands for a peer, or nothing, and for all others what stood for them
+-- two association lists agree at all peers but one, at which the new one has this value, or nothing for
+-- `None`
 pub record IsWritten {A : Type 0} (old new : List (Peer × A)) (peer : Peer) (value : Option A) : Type 0 where
   pub each : (p : Peer) → lookup (eq_by_cmp peer_cmp p) new ≡ (if eq_by_cmp peer_cmp peer p then value else lookup (eq_by_cmp peer_cmp p) old)
 
--- ---- how an entry is kept, and what a new one says
+-- ---- an entry in memory, and the entries of new steps
 
--- one that wasn't put yet, with the route behind the step
+-- the entry of a step that isn't applied yet, which gives its pair this route, or clears it
 abbrev pub new_entry : Pair → Option (Rc Route Global) → Entry
 new_entry pair other = record { pair = pair; other = other; before = false; behind = false }
 
--- one of a pair that has this route before the step and none behind it
+-- the entry, as one of an applied step that clears its pair, which has this route before the step
 abbrev pub cleared_entry : Entry → Rc Route Global → Entry
 cleared_entry entry route = record { pair = entry.pair; other = Some route; before = true; behind = false }
 
--- entries of pairs that have these routes, in turn, before the step and none behind it
+-- entries as those of an applied step that clears their pairs, which have these routes, in turn, before the
+-- step
 abbrev pub cleared_entries : List Entry → List (Rc Route Global) → List Entry
 cleared_entries (entry ∷ entries) (route ∷ routes) = cleared_entry entry route ∷ cleared_entries entries routes
 cleared_entries entries routes = entries
 
--- what is said by these
+-- the entry of a pair with these marks and this route, if any
 abbrev pub entry_of : Pair → Marks → Option (Rc Route Global) → Entry
 entry_of pair marks other = record { pair = pair; other = other; before = marks.before; behind = marks.behind }
 
--- what is said by what is kept
+-- the entry that its memory stands for; for memory without contents, an arbitrary entry
 abbrev pub entry_kept : Kept → Entry
 entry_kept (V4Absent marks prefix peer) = entry_of (pair_of peer.value (v4_network prefix)) marks None
 entry_kept (V4Present marks prefix peer route) = entry_of (pair_of peer.value (v4_network prefix)) marks (Some route)
@@ -87,7 +91,7 @@ entry_kept (V6Absent marks pair) = entry_of (pair_of pair.value.peer.value pair.
 entry_kept (V6Present marks pair route) = entry_of (pair_of pair.value.peer.value pair.value.prefix) marks (Some route)
 entry_kept Taken = new_entry (pair_of (record { addr = record { family = V4; bits = [] }; asn = 0 }) (record { family = V4; bits = [] })) None
 
--- there is one
+-- the memory of an entry has contents
 abbrev pub IsWhole : Kept → Type 0
 IsWhole Taken = ⊥
 IsWhole other = Unit {0}

@@ -1,5 +1,5 @@
-//! The changes that an event makes to pairs of a peer and a prefix. `steps.rt` calls
-//! [`changes_of`], and makes the entries of a step from them. Read [`Changes`] first.
+//! The changes that the items of an event make to pairs of a peer and a prefix. `steps.rt` calls
+//! [`changes_of`], and makes the entries of a step from the result. Read [`Changes`] first.
 
 ghost use Rattle.std.specs.Prelude.{◌≡◌, [], ◌∷◌, ◌≢◌, IfOk, IfSome, IfNone, OnOk, map, slice_get};
 ghost use Rattle.std.specs.List.{AllByRecursion, list_any};
@@ -23,21 +23,22 @@ use std::alloc::{AllocError, Global};
 use std::collections::BTreeSet;
 use std::rc::Rc;
 
-/// The changes of the last items of an event.
+/// What the last items of an event do: the announcements and withdrawals that no later loss of
+/// their peer's session undoes, and the lost sessions.
 #[derive(Drop)]
 pub(crate) struct Changes {
-    // Of the items of a pair the last one decides, so items are noted from the last to the first.
-    // Those before the loss of their peer aren't noted.
+    // The last item of a pair decides, so items are noted from the last to the first, and those
+    // before the loss of their peer's session aren't noted.
     pub(crate) alloc: Global,
-    /// An entry for each noted item that announces or withdraws, with the route that its pair has
-    /// after the item. Of the entries of a pair, the first counts.
+    /// An entry for each noted announcement and withdrawal, with the route that it gives the pair,
+    /// the last item first. Of the entries of a pair, the first counts.
     pub(crate) entries: Vec<Entry>,
-    /// The peers whose session is lost, before all items that `entries` has of them.
+    /// The peers whose session is lost. Their items in `entries` are after the loss.
     pub(crate) lost: BTreeSet<Peer>,
 }
 
 impl Changes {
-    /// Returns whether the peer is in `lost`.
+    /// Returns `true` if the session of `peer` is lost by a noted item.
     #[inline]
     fn has_lost(&self, peer: &Peer) -> bool
         ensures { result ≡ list_any (eq_by_cmp peer_cmp peer.now) self.now.lost.keys }
@@ -45,8 +46,9 @@ impl Changes {
         !self.lost.is_empty() && self.lost.contains(peer)
     }
 
-    /// Notes that the pair of `peer` and `prefix` has this route after an item, or none. If a later
-    /// item loses the peer's session, nothing is noted.
+    /// Notes an item that gives the pair of `peer` and `prefix` this route, or withdraws it for
+    /// `None`. Does nothing if a later item loses the peer's session. On an error, which means that
+    /// memory allocation failed, nothing is noted.
     fn note_route<S: PrefixStore<Rc<Route>>>(
         &mut self,
         table: &Table<S>,
@@ -67,9 +69,9 @@ impl Changes {
         Ok(())
     }
 
-    /// Notes what `items` do, all of which are before the items noted so far. If `shared` is there,
-    /// it is taken as the route of each announcement; else each route is looked up by
-    /// [`KnownRoutes::known_if_short`].
+    /// Notes all of `items`, the last first. They must be before the items noted so far. If
+    /// `shared` is given, it must equal the route of each announcement, and is taken for it; else
+    /// each route is replaced by an equal one of `known`, unless it is long and has many owners.
     fn note_each<S: PrefixStore<Rc<Route>>>(
         &mut self,
         table: &Table<S>,
@@ -104,8 +106,8 @@ impl Changes {
         Ok(())
     }
 
-    /// Notes what `items` do, which announce prefixes of one peer with one route, and are before
-    /// the items noted so far. The route is looked up in `known` once.
+    /// Notes all of `items`, the last first. They must be before the items noted so far, and
+    /// announce prefixes of one peer with one route, which is looked up in `known` once.
     fn note_shared<S: PrefixStore<Rc<Route>>>(
         &mut self,
         table: &Table<S>,
@@ -124,7 +126,8 @@ impl Changes {
     }
 }
 
-/// Returns the changes that the event makes, with routes of `known` in place of equal ones.
+/// Returns the changes that `event` makes. Its routes are replaced by equal ones of `known`, which
+/// gets those that it hasn't. An error means that memory allocation failed.
 pub(crate) fn changes_of<S: PrefixStore<Rc<Route>>>(
     alloc: Global,
     event: &Event,
@@ -150,8 +153,8 @@ pub(crate) fn changes_of<S: PrefixStore<Rc<Route>>>(
     Ok(changes)
 }
 
-/// Returns a pointer to the peer: the one of the entry `last` if that is of this peer, or the one
-/// of the table, or else a new one.
+/// Returns a pointer to `peer` with the number of its store, to be shared by entries: the one of
+/// the entry `last` if that is of this peer, else the one of the table, else a new one.
 pub(crate) fn shared_peer<S: PrefixStore<Rc<Route>>>(
     alloc: Global,
     table: &Table<S>,

@@ -1,6 +1,6 @@
-//! A set of numbers, as a list of them in which the chosen ones come first, so that these are
-//! listed without a look at the others. `stores.rt` keeps by it which stores have a route. Read
-//! [`Chosen`] first.
+//! A sparse set: the numbers below a bound in a list in which the members come first, so that they
+//! are listed without a look at the others. `stores.rt` keeps in it which stores have a route. Read
+//! [`SparseSet`] first.
 
 ghost use Rattle.std.specs.Prelude.{◌≡◌, ◌<◌, ◌≤◌, ◌++◌, ◌∷◌, ℕ, [], false, not, Some, length, OnOk, slice_get, vec_len, vec_capacity};
 ghost use Rattle.rib_player.specs.Places.{AreInverse, IsReplaced, IsSwapped, ListsAll, changed_place};
@@ -9,21 +9,23 @@ ghost use Rattle.std.proofs.Props.{props};
 use crate::room::give_back_room;
 use std::alloc::{AllocError, Global};
 
-/// The numbers from 0 up to a count, some of which are chosen.
+/// A set of some of the numbers below a bound, which grows by [`add`](SparseSet::add) and shrinks
+/// by [`remove`](SparseSet::remove). Making a number a member or not takes constant time, and no
+/// memory.
 #[derive(Drop)]
 pub(crate) struct Chosen {
-    /// The numbers, the chosen ones first.
+    /// All numbers below the bound, the members first.
     numbers: Vec<usize>,
     /// The index of each number in `numbers`.
     places: Vec<usize>,
-    /// The number of chosen ones.
+    /// The number of members.
     count: usize,
     ghost inverse: { AreInverse numbers.items places.items } by { Prim.hlevel props },
     ghost within: { count ≤ vec_len numbers },
 }
 
-/// Swaps the numbers at the indices `one` and `other`, and their indices in `places`, which is the
-/// inverse of `numbers`.
+/// Swaps the numbers at the indices `one` and `other` of `numbers`, and their indices in `places`,
+/// which is the inverse of `numbers`.
 fn exchange(numbers: &mut Vec<usize>, places: &mut Vec<usize>, one: usize, other: usize)
     requires inverse { AreInverse numbers.old.items places.old.items }
     requires one { one < vec_len numbers.old }
@@ -45,7 +47,7 @@ fn exchange(numbers: &mut Vec<usize>, places: &mut Vec<usize>, one: usize, other
 impl Chosen {
     ghost use Rattle.rib_player.specs.Chosen.{HasRoom, choices};
 
-    /// Returns an empty set, without allocating memory.
+    /// Returns a set with the bound 0, without allocating memory.
     pub(crate) fn new(alloc: Global) -> Chosen
         ensures { choices result ≡ [] }
     {
@@ -56,7 +58,8 @@ impl Chosen {
         }
     }
 
-    /// Reserves capacity for one more number. On an error, the set is unchanged.
+    /// Reserves capacity for one more number. On an error, which means that memory allocation
+    /// failed, the set is unchanged.
     pub(crate) fn reserve(&mut self) -> Result<(), AllocError>
         ensures room { OnOk result (HasRoom self.new) }
         ensures kept { choices self.new ≡ choices self.old }
@@ -65,8 +68,8 @@ impl Chosen {
         self.places.reserve(1)
     }
 
-    /// Adds the next number, which isn't chosen. There must be capacity for it
-    /// ([`Chosen::reserve`]).
+    /// Raises the bound by one; the new number isn't a member. There must be capacity for it
+    /// ([`SparseSet::reserve`]).
     pub(crate) fn add(&mut self)
         requires { HasRoom self.old }
         ensures { choices self.new ≡ choices self.old ++ false ∷ [] }
@@ -76,7 +79,8 @@ impl Chosen {
         self.places.push_reserved(number);
     }
 
-    /// Makes `number` chosen or not, as `is` says, without allocating memory.
+    /// Makes `number`, which must be below the bound, a member if `is` is true, or else no member.
+    /// Allocates no memory.
     #[inline]
     pub(crate) fn choose(&mut self, number: usize, is: bool)
         requires { number < length (choices self.old) }
@@ -87,7 +91,7 @@ impl Chosen {
         }
     }
 
-    /// Makes `number` chosen or not, as `is` says, where it isn't so yet.
+    /// Makes `number` a member if `is` is true, or else no member. It must be the opposite before.
     fn turn(&mut self, number: usize, is: bool)
         requires { slice_get (choices self.old) number ≡ Some (not is) }
         ensures { IsReplaced (choices self.old) (choices self.new) number is }
@@ -102,8 +106,8 @@ impl Chosen {
         }
     }
 
-    /// Removes `number`, and renumbers the last number to it, as [`Vec::swap_remove`] does. It
-    /// allocates no memory.
+    /// Lowers the bound by one: `number` is taken out, and the last number becomes `number`, member
+    /// or not as it was; compare [`Vec::swap_remove`]. Allocates no memory.
     pub(crate) fn remove(&mut self, number: usize)
         requires { number < length (choices self.old) }
         ensures { IsSwapped (choices self.old) (choices self.new) number }
@@ -117,14 +121,14 @@ impl Chosen {
         self.places.pop();
     }
 
-    /// Returns the chosen numbers. Their order is unspecified.
+    /// Returns the members, in unspecified order.
     pub(crate) fn numbers(&self) -> &[usize]
         ensures { ListsAll (choices self.now) result.now }
     {
         &self.numbers[..self.count]
     }
 
-    /// Shrinks the lists if they have far more capacity than numbers (`room.rt`).
+    /// Shrinks the lists if they have far more capacity than numbers (`spare_capacity.rt`).
     pub(crate) fn give_back_room(&mut self)
         ensures { choices self.new ≡ choices self.old }
     {

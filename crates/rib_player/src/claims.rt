@@ -1,7 +1,8 @@
-//! The claims of pairs of a peer and a prefix; a pair is a key of the table while it has one. It has
-//! a claim if it has a route at the floor, before all kept steps, and one for each kept step that
-//! brings it: it has no route before the step and one after it. The key stands for the first claim,
-//! and the others are counted here. `journal.rt` calls [`put_entry`] and [`give_up_claims`].
+//! The claims of pairs of a peer and a prefix, which tell how long a pair stays a key of the table:
+//! as long as it has a claim. A pair has one claim if it has a route at the floor, before all kept
+//! steps, and one for each kept step before which it has no route and after which it has one. The
+//! key stands for the first claim; the others are counted here. `journal.rt` calls [`apply_entry`]
+//! and [`release_claims`].
 
 ghost use Rattle.std.specs.Prelude.{◌≡◌, ◌+◌, ◌<◌, ◌≤◌, ◌||◌, ◌&&◌, true, false, is_some, length, nat_lt, [], ◌∷◌, None, OnOk, OnErr};
 ghost use Rattle.std.specs.FinMap as finite;
@@ -33,8 +34,8 @@ use std::collections::BTreeMap;
 use std::mem::size_of;
 use std::rc::Rc;
 
-/// The number of claims of pairs beyond the first, which the key stands for. Only pairs that were
-/// withdrawn and announced again in the kept steps have any.
+/// The number of claims of each pair beyond the first, for which the key stands. Only pairs that
+/// were withdrawn and announced again in the kept steps have any.
 #[derive(Drop)]
 pub(crate) struct Claims {
     // The counts of a peer are boxed, so that free slots of the map take little memory.
@@ -54,7 +55,8 @@ impl Claims {
         }
     }
 
-    /// Adds a claim of the pair. On an error, the counts are unchanged.
+    /// Adds a claim of `pair` to those counted here. On an error, which means that memory
+    /// allocation failed, the counts are unchanged.
     fn add(&mut self, pair: &Pair) -> Result<(), AllocError>
         requires { claims_beyond self.old pair.now < GREATEST_COUNT }
         ensures counted { OnOk result ((q : Pair) → claims_beyond self.new q
@@ -72,7 +74,8 @@ impl Claims {
         Ok(())
     }
 
-    /// Gives up a claim of the pair that is counted here, and returns whether there was one.
+    /// Removes a claim of `pair`, if one is counted here, and returns `true` if it did. Allocates
+    /// no memory.
     fn take(&mut self, pair: &Pair) -> bool
         ensures some { result ≡ nat_lt 0 (claims_beyond self.old pair.now) }
         ensures counted { (q : Pair) → claims_beyond self.new q
@@ -89,8 +92,9 @@ impl Claims {
     }
 }
 
-/// Applies one entry of a new step to the table, and adds a claim if the step brings the pair: it
-/// becomes a key or, if it is one, gets a claim beyond the key. On an error, table and claims are
+/// Applies the entry of a new step to the table, and adds a claim if the step gives its pair a
+/// route and the pair had none: the pair becomes a key or, if it is one already, gets a claim
+/// beyond the key. On an error, which means that memory allocation failed, table and claims are
 /// unchanged, and the entry is unspecified.
 pub(crate) fn put_entry<S: PrefixStore<Rc<Route>>>(
     table: &mut Table<S>,
@@ -123,8 +127,9 @@ pub(crate) fn put_entry<S: PrefixStore<Rc<Route>>>(
     Ok(())
 }
 
-/// Gives up the claims that go with a step at this end (`Entry::gives_up`): of each pair one beyond
-/// the key or, if there is none, the key. It allocates no memory.
+/// Releases the claims that go when a step with these entries is removed at `end`
+/// ([`Entry::releases_claim`]): for each such pair, one claim beyond the key or, if it has none,
+/// the key itself, which must have no route then. Allocates no memory.
 pub(crate) fn give_up_claims<S: PrefixStore<Rc<Route>>>(
     table: &mut Table<S>,
     claims: &mut Claims,
@@ -153,28 +158,29 @@ pub(crate) fn give_up_claims<S: PrefixStore<Rc<Route>>>(
     }
 }
 
-/// The number of addresses of IPv4, so that each address is a number below it. One that were above
-/// it would be counted as one of the prefixes that are longer.
+/// The number of IPv4 addresses: each address, as a number, is below it. With a smaller one,
+/// prefixes of different lengths would get the same number.
 const ADDRESSES: u64 = 1 << 32;
 
-/// The number of bits after an address of IPv4 in the first half of a prefix, which begins with it.
+/// The number of bits below the IPv4 address in the high half of a prefix, of 64 bits.
 const BELOW: u32 = 32;
 
-/// The number of claims of the prefixes of a peer beyond the keys, for each family.
+/// The number of claims of each prefix of one peer beyond the key.
 #[derive(Drop)]
 pub(crate) struct Counts {
+    /// The counts of IPv4 prefixes, each as a number ([`v4_prefix_number`]).
     v4: FewCounts<u64>,
+    /// The counts of IPv6 prefixes.
     v6: FewCounts<Prefix>,
 }
 
-/// The number of octets that the counts of a peer take at most, besides the lists and maps that a
-/// family gets once two of its prefixes are counted. With one octet more, the check of the crate
-/// fails.
+/// The largest size of [`PeerClaims`] in octets, without the lists and maps that a family gets once
+/// two of its prefixes are counted. A larger one fails the check of the crate, by the next line.
 const COUNTS_OCTETS: usize = 72;
 
 const _: () = prove!(size_of::<Counts>() <= COUNTS_OCTETS);
 
-/// Returns a prefix of IPv4 as a number: 2^32 times its length, plus its least address.
+/// Returns an IPv4 prefix as a number: 2^32 times its length, plus its address as a number.
 #[inline]
 fn v4_key(prefix: &Prefix) -> u64
     requires { prefix.now.family ≡ V4 }
@@ -195,14 +201,15 @@ impl Counts {
         }
     }
 
-    /// Returns whether no prefix is counted.
+    /// Returns `true` if no prefix has a claim counted here.
     fn is_empty(&self) -> bool
         ensures { result ≡ true → (n : Network) → count_of self.now n ≡ 0 }
     {
         self.v4.is_empty() && self.v6.is_empty()
     }
 
-    /// Adds a claim of the prefix. On an error, the counts are unchanged.
+    /// Adds a claim of `prefix`. On an error, which means that memory allocation failed, the counts
+    /// are unchanged.
     fn more(&mut self, alloc: Global, prefix: &Prefix) -> Result<(), AllocError>
         requires { count_of self.old prefix.now < GREATEST_COUNT }
         ensures counted { OnOk result ((n : Network) → count_of self.new n
@@ -216,7 +223,7 @@ impl Counts {
         }
     }
 
-    /// Gives up a claim of the prefix that is counted here, and returns whether there was one.
+    /// Removes a claim of `prefix`, if one is counted here, and returns `true` if it did.
     fn less(&mut self, prefix: &Prefix) -> bool
         ensures some { result ≡ nat_lt 0 (count_of self.old prefix.now) }
         ensures counted { (n : Network) → count_of self.new n

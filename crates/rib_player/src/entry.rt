@@ -1,7 +1,6 @@
-//! The entries of steps, in little memory. An entry has a pair of a peer and a prefix, the route
-//! that the pair has on the other side of the step, and two marks: whether the pair has a route
-//! before the step, and after it. `entry/crossing.rt` swaps the routes of entries and table. Read
-//! [`Entry`] first.
+//! The entries of steps, in three words each. An entry has a pair of a peer and a prefix, the route
+//! that the pair has on the other side of the step, and whether the pair has a route before the
+//! step and after it. `entry/swaps.rt` swaps the routes of entries and table. Read [`Entry`] first.
 
 ghost use Rattle.std.specs.Prelude.{◌≡◌, None, IfOk, option_copied};
 ghost use Rattle.rib_player.specs.History.{pair_of};
@@ -20,14 +19,16 @@ use std::marker::Model;
 use std::mem::size_of;
 use std::rc::Rc;
 
-/// An entry of a step: a pair that the step names, and its route on the other side of the step, or
-/// none. That side is before the step while it is applied, and after it while it is undone.
+/// What one step does to one pair of a peer and a prefix: the pair, and its route on the other side
+/// of the step, if any. While the step is applied, that is the route before it; while it isn't, the
+/// route after it. The table has the route on this side.
 #[derive(Drop)]
 pub(crate) struct Entry {
     kept: Kept,
 }
 
-/// The marks of an entry: whether its pair has a route before the step, and after it.
+/// Whether the pair of an entry has a route before the step, and after it. Set when the step is
+/// first applied; false before.
 #[derive(Clone, Copy)]
 struct Marks {
     /// Whether the pair has a route before the step.
@@ -36,31 +37,32 @@ struct Marks {
     behind: bool,
 }
 
-/// A step: one entry for each pair that it names.
+/// A step of the journal, which one event made.
 #[derive(Drop)]
 pub(crate) struct Step {
+    /// One entry for each pair that the step names, in unspecified order.
     pub(crate) entries: Vec<Entry>,
 }
 
-/// An end of the list of kept steps, at which one of them goes.
+/// The end of the journal at which a step is removed.
 #[derive(Clone, Copy)]
 pub(crate) enum End {
-    /// The end of the first step, which is forgotten.
+    /// The oldest step is removed: it is forgotten, while it is applied.
     First,
-    /// The end of the last step, which is dropped.
+    /// The newest step is removed: it is dropped, while it isn't applied.
     Last,
 }
 
-/// The contents of an entry: its marks, its pair, and its route if there is one.
+/// The memory layout of an entry, by the family of its prefix and by whether it has a route.
 #[derive(Drop)]
 enum Kept {
-    // An IPv4 prefix is beside the marks, so that an entry takes three words; an IPv6 prefix is
-    // boxed with its peer. The entries of a peer share it.
+    // An IPv4 prefix is stored beside the two flags, so that an entry takes three words; an IPv6
+    // prefix is boxed with its peer. The entries of a peer share the peer.
     V4Absent(Marks, V4Prefix, Rc<NumberedPeer>),
     V4Present(Marks, V4Prefix, Rc<NumberedPeer>, Rc<Route>),
     V6Absent(Marks, Box<V6Pair>),
     V6Present(Marks, Box<V6Pair>, Rc<Route>),
-    /// No contents, while an entry is changed. No caller finds an entry so.
+    /// No contents. Only in use while an entry is changed.
     Taken,
 }
 
@@ -71,8 +73,8 @@ struct V6Pair {
     peer: Rc<NumberedPeer>,
 }
 
-/// The number of octets that an entry takes at most, besides an IPv6 prefix. With one octet more,
-/// the check of the crate fails.
+/// The largest size of an [`Entry`] in octets, without the box of an IPv6 prefix. A larger one
+/// fails the check of the crate, by the next line.
 const ENTRY_OCTETS: usize = 24;
 
 const _: () = prove!(size_of::<Entry>() <= ENTRY_OCTETS);
@@ -89,8 +91,9 @@ impl Model for Entry {
 }
 
 impl Entry {
-    /// Returns an entry of a step that isn't applied yet. `other` is the route that the pair has
-    /// after the step.
+    /// Returns an entry of a step that isn't applied yet, for the pair of `peer` and `prefix`.
+    /// `other` is the route that the step gives the pair, or `None` if it clears the pair. An error
+    /// means that memory allocation failed, as it may for IPv6.
     pub(crate) fn new(
         alloc: Global,
         peer: Rc<NumberedPeer>,
@@ -119,7 +122,7 @@ impl Entry {
         })
     }
 
-    /// Returns the peer and the prefix of the pair.
+    /// Returns the peer and the prefix of the entry's pair.
     #[inline]
     fn parts(&self) -> (&Rc<NumberedPeer>, Prefix)
         ensures peer { result.0.now.value ≡ self.now.pair.peer }
@@ -146,7 +149,8 @@ impl Entry {
         }
     }
 
-    /// Returns a pointer to the peer of the pair, which other entries may share.
+    /// Returns the peer of the pair with the number of its store, as the pointer that entries
+    /// share.
     #[inline]
     pub(crate) fn shared_peer(&self) -> &Rc<NumberedPeer>
         ensures { result.now.value ≡ self.now.pair.peer }
@@ -170,7 +174,8 @@ impl Entry {
         self.parts().1
     }
 
-    /// Returns the route on the other side of the step, or `None` if the pair has none there.
+    /// Returns the route that the pair has on the other side of the step, or `None` if it has none
+    /// there: before the step while it is applied, after it while it isn't.
     #[inline]
     pub(crate) fn route(&self) -> Option<&Rc<Route>>
         ensures { option_copied result ≡ self.now.other }
@@ -182,9 +187,9 @@ impl Entry {
         }
     }
 
-    /// Returns whether a claim of the pair is given up as the step goes at this end: at the first
-    /// end if the step clears the pair, which has a route before it and none after it; at the last
-    /// end if the step brings the pair, which has none before it and one after it.
+    /// Returns `true` if removing the step at `end` releases a claim of the pair (`claims.rt`): at
+    /// the first end if the step clears the pair, so that it has a route before the step and none
+    /// after it; at the last end if it has none before the step and one after it.
     #[inline]
     pub(crate) fn gives_up(&self, end: End) -> bool
         ensures { result ≡ gives_up end (mark_of self.now) }
@@ -202,7 +207,7 @@ impl Entry {
         }
     }
 
-    /// Sets the marks: whether the pair has a route before the step, and after it.
+    /// Sets whether the pair has a route before the step, and after it.
     #[inline]
     fn set_marks(&mut self, new: Marks)
         ensures { self.new ≡ record {
@@ -223,7 +228,8 @@ impl Entry {
 }
 
 impl Kept {
-    /// Splits contents into those without a route, and the route if there is one.
+    /// Splits contents into those without a route, and the route, if there is one. `self` must not
+    /// be `Taken`.
     #[inline]
     fn without_route(self) -> (Kept, Option<Rc<Route>>)
         requires { IsWhole self }
@@ -240,7 +246,8 @@ impl Kept {
         }
     }
 
-    /// Returns the contents with `other` as their route. They must have none.
+    /// Returns the contents with `other` as their route. `self` must have no route, and not be
+    /// `Taken`.
     #[inline]
     fn with_route(self, other: Option<Rc<Route>>) -> Kept
         requires whole { IsWhole self }

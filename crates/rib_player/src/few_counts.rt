@@ -1,5 +1,5 @@
-//! Counts of keys, in little memory while there are few of them. `claims.rt` counts the claims of
-//! the prefixes of a peer by them. Read [`FewCounts`] first.
+//! A multiset of keys in little memory: in place for one key, in a list for a few, and in a map for
+//! more. `claims.rt` counts the claims of a peer's prefixes in it. Read [`KeyCounts`] first.
 
 ghost use Rattle.std.specs.Prelude.{◌≡◌, [], ◌∷◌, ◌+◌, ◌<◌, ◌&&◌, true, nat_lt, length, take, drop, Some, None, IfOk, IfSome, IfNone, OnOk, OnErr};
 ghost use Rattle.std.specs.Map.{lookup};
@@ -12,27 +12,29 @@ ghost use Rattle.rib_player.specs.FewCounts.{count_at, count_in, IsFirst};
 use std::alloc::{AllocError, Global};
 use std::collections::BTreeMap;
 
-/// The number of keys that a list has at most. Adding to a list of so many, be it another key or
-/// one of these, moves all counts to a map. Its first node has room for fifteen: 248 octets for
-/// numbers, where the list has 128, and 488 for prefixes, where it has 256.
+/// The largest number of keys in a list. When one is added to a full list, all counts move to a
+/// map, also if the key is in the list. Measured: the first node of the map takes 248 octets for
+/// numbers, where the list has 128, and 488 for prefixes, where it has 256; it has room for fifteen
+/// keys.
 const FEW: usize = 8;
 
-/// A count for each key. One key takes no memory besides this value, which has 32 octets for
-/// numbers and 40 for prefixes. A list has 16 octets, or 32, for each key, of as many as there were
-/// at most; a map of several nodes has at most 39, or 74, for each key.
+/// A count for each key. This value has 32 octets for keys that are numbers, and 40 for prefixes,
+/// and one key takes no more. A list takes another 16 octets, or 32, for each of the most keys that
+/// it had; a map of several nodes takes at most 39, or 74, for each key.
 #[derive(Drop)]
 pub(crate) enum FewCounts<K: Ord> {
     /// No key.
     None,
-    /// One key, and its count.
+    /// One key and its count.
     One(K, u64),
-    /// A few keys and their counts, with capacity for as many as there were at most.
+    /// A few keys and their counts, each once, in unspecified order.
     Few(Vec<(K, u64)>),
-    /// More keys and their counts, or what is left of more.
+    /// The keys and their counts, once there were more than a list holds. Stays a map until it is
+    /// empty.
     Many(BTreeMap<K, u64>),
 }
 
-/// Returns the index of the first item of the list with this key, or `None` if there is none.
+/// Returns the index of the first entry of `counts` with this key, or `None` if there is none.
 fn find_place<K: Ord + Copy>(counts: &[(K, u64)], key: &K) -> Option<usize>
     ensures some { IfSome result (λ place. IsFirst K.cmp key.now counts.now place) }
     ensures none { IfNone result (lookup (tree.is_at (K.cmp key.now)) counts.now ≡ None) }
@@ -45,7 +47,8 @@ fn find_place<K: Ord + Copy>(counts: &[(K, u64)], key: &K) -> Option<usize>
     None
 }
 
-/// Adds one to the count of the key in the list. On an error, the counts are unchanged.
+/// Adds one to the count of `key` in the list, where a missing key counts 0. On an error, which
+/// means that memory allocation failed, the list is unchanged.
 fn add_to_list<K: Ord + Copy>(counts: &mut Vec<(K, u64)>, key: K) -> Result<(), AllocError>
     requires { count_in K.cmp counts.old.items key < GREATEST_COUNT }
     ensures counted { OnOk result ((k : K) → count_in K.cmp counts.new.items k
@@ -61,8 +64,8 @@ fn add_to_list<K: Ord + Copy>(counts: &mut Vec<(K, u64)>, key: K) -> Result<(), 
     Ok(())
 }
 
-/// Subtracts one from the count of the key in the list, and returns whether it was above 0. A key
-/// whose count is 0 then is removed; the list keeps its capacity.
+/// Subtracts one from the count of `key` in the list, unless it is 0, and returns `true` if it did.
+/// A key whose count becomes 0 is removed; the list keeps its capacity.
 fn take_from_list<K: Ord + Copy + Drop>(counts: &mut Vec<(K, u64)>, key: &K) -> bool
     ensures some { result ≡ nat_lt 0 (count_in K.cmp counts.old.items key.now) }
     ensures counted { (k : K) → count_in K.cmp counts.new.items k
@@ -80,7 +83,7 @@ fn take_from_list<K: Ord + Copy + Drop>(counts: &mut Vec<(K, u64)>, key: &K) -> 
     count > 0
 }
 
-/// Returns a map with the counts of the list.
+/// Returns a map with the keys and counts of the list. Of equal keys, the first counts.
 fn copy_to_tree<K: Ord + Copy + Drop>(
     alloc: Global,
     counts: &[(K, u64)],
@@ -98,7 +101,8 @@ fn copy_to_tree<K: Ord + Copy + Drop>(
     Ok(made)
 }
 
-/// Adds one to the count of the key in the map. On an error, the counts are unchanged.
+/// Adds one to the count of `key` in the map, where a missing key counts 0. On an error, which
+/// means that memory allocation failed, the counts are unchanged.
 fn add_to_tree<K: Ord + Copy + Drop>(
     counts: &mut BTreeMap<K, u64>,
     key: K,
@@ -114,8 +118,8 @@ fn add_to_tree<K: Ord + Copy + Drop>(
     Ok(())
 }
 
-/// Subtracts one from the count of the key in the map, and returns whether it was above 0. A key
-/// whose count is 0 then is removed.
+/// Subtracts one from the count of `key` in the map, unless it is 0, and returns `true` if it did.
+/// A key whose count becomes 0 is removed.
 fn take_from_tree<K: Ord + Copy + Drop>(counts: &mut BTreeMap<K, u64>, key: &K) -> bool
     ensures some { result ≡ nat_lt 0 (count_in K.cmp counts.old.entries key.now) }
     ensures counted { (k : K) → count_in K.cmp counts.new.entries k
@@ -133,7 +137,7 @@ fn take_from_tree<K: Ord + Copy + Drop>(counts: &mut BTreeMap<K, u64>, key: &K) 
     some
 }
 
-/// Returns a map with the counts of the list, and one more for the key.
+/// Returns a map with the keys and counts of the list, and one more for `key`.
 fn copy_and_add<K: Ord + Copy + Drop>(
     alloc: Global,
     counts: &[(K, u64)],
@@ -148,8 +152,9 @@ fn copy_and_add<K: Ord + Copy + Drop>(
     Ok(made)
 }
 
-/// Adds one to the count of the key in the list, and returns `None`. If the list is full, it is
-/// unchanged, and a map with the new counts is returned. On an error, the list is unchanged.
+/// Adds one to the count of `key` in the list, and returns `None`; or, if the list is full, leaves
+/// it unchanged and returns a map with the new counts. On an error, which means that memory
+/// allocation failed, the list is unchanged.
 fn add_to_few<K: Ord + Copy + Drop>(
     alloc: Global,
     counts: &mut Vec<(K, u64)>,
@@ -170,8 +175,8 @@ fn add_to_few<K: Ord + Copy + Drop>(
     Ok(Some(copy_and_add(alloc, counts, key)?))
 }
 
-/// Returns the counts of the key `only`, which is counted `count` times, and of one more of `key`,
-/// which may be equal.
+/// Returns the counts of `only`, which is counted `count` times, with one more for `key`, which may
+/// be equal to it.
 fn add_to_one<K: Ord + Copy + Drop>(
     alloc: Global,
     only: K,
@@ -191,8 +196,8 @@ fn add_to_one<K: Ord + Copy + Drop>(
     Ok(FewCounts::Few(both))
 }
 
-/// Returns the count of the key `only`, which is counted `count` times, or one less if `key` is
-/// equal, and whether one was subtracted.
+/// Returns the counts of `only`, which is counted `count` times, with one less for `key`, and
+/// `true` if one was subtracted: `key` equals `only`, and `count` isn't 0.
 fn take_from_one<K: Ord + Copy + Drop>(only: K, count: u64, key: &K) -> (FewCounts<K>, bool)
     ensures some { result.1 ≡ nat_lt 0 (count_in K.cmp ((only, count) ∷ []) key.now) }
     ensures counted { (k : K) → count_at K.cmp result.0 k
@@ -208,14 +213,15 @@ fn take_from_one<K: Ord + Copy + Drop>(only: K, count: u64, key: &K) -> (FewCoun
 }
 
 impl<K: Ord + Copy + Drop> FewCounts<K> {
-    /// Returns whether no key is counted.
+    /// Returns `true` if no key is counted.
     pub(crate) fn is_empty(&self) -> bool
         ensures { result ≡ true → (k : K) → count_at K.cmp self.now k ≡ 0 }
     {
         matches!(self, FewCounts::None)
     }
 
-    /// Adds one to the count of the key. On an error, the counts are unchanged.
+    /// Adds one to the count of `key`, which must be below `u64::MAX`. On an error, which means
+    /// that memory allocation failed, the counts are unchanged.
     pub(crate) fn more(&mut self, alloc: Global, key: K) -> Result<(), AllocError>
         requires { count_at K.cmp self.old key < GREATEST_COUNT }
         ensures counted { OnOk result ((k : K) → count_at K.cmp self.new k
@@ -236,7 +242,8 @@ impl<K: Ord + Copy + Drop> FewCounts<K> {
         Ok(())
     }
 
-    /// Subtracts one from the count of the key, and returns whether it was above 0.
+    /// Subtracts one from the count of `key`, unless it is 0, and returns `true` if it did.
+    /// Allocates no memory.
     pub(crate) fn less(&mut self, key: &K) -> bool
         ensures some { result ≡ nat_lt 0 (count_at K.cmp self.old key.now) }
         ensures counted { (k : K) → count_at K.cmp self.new k

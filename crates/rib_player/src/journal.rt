@@ -1,6 +1,6 @@
-//! The journal of a player: the steps that are kept, so that they can be undone and redone.
-//! `player.rt` applies, undoes, redoes and drops steps by its functions. Read [`Journal`] first,
-//! then `entry.rt` for the entries of a step, and [`put_entries`].
+//! The journal of a player: its steps, which are applied, undone, redone and dropped by the
+//! functions here. `player.rt` calls them. Read [`Journal`] first, then `entry.rt` for the entries
+//! of a step, and [`apply_entries`].
 
 ghost use Rattle.std.specs.Prelude.{◌≡◌, ◌+◌, ◌<◌, ◌≤◌, ◌||◌, true, false, is_some, length, take, IfSome, OnOk, OnErr};
 ghost use Rattle.std.specs.List.{AllByRecursion, sum_by};
@@ -27,19 +27,21 @@ use std::alloc::{AllocError, Global};
 use std::collections::VecDeque;
 use std::rc::Rc;
 
-/// The kept steps, and the cursor between them.
+/// The steps that can be undone or redone, and the position of the cursor among them.
 #[derive(Drop)]
 pub(crate) struct Journal {
-    /// The kept steps, the oldest first.
+    /// The steps that aren't forgotten, the oldest first. Those before the cursor are applied to
+    /// the table.
     pub(crate) steps: VecDeque<Step>,
-    /// The number of kept steps before the cursor.
+    /// The number of steps of `steps` that are before the cursor.
     pub(crate) cursor: usize,
     /// The number of steps that were forgotten.
     pub(crate) floor: u64,
 }
 
-/// Undoes a step that is applied, or redoes one that is undone: swaps the routes of the entries and
-/// the table.
+/// Swaps the route of each entry with the table's route of its pair, which undoes a step that is
+/// applied, and redoes one that isn't. All pairs must be keys, each of one entry. Allocates no
+/// memory.
 pub(crate) fn cross<S: PrefixStore<Rc<Route>>>(table: &mut Table<S>, entries: &mut [Entry])
     requires { IsKept table.old.keys (sides_of entries.old) }
     ensures keys { table.new.keys ≡ table.old.keys }
@@ -55,9 +57,9 @@ pub(crate) fn cross<S: PrefixStore<Rc<Route>>>(table: &mut Table<S>, entries: &m
     table.note_passed(passed);
 }
 
-/// Undoes or redoes the step at the index, and prefetches what the steps around it need. `first` is
-/// the index, among the steps that are prefetched together, of the one that comes first in this
-/// direction.
+/// Undoes the step `steps[index]` if it is applied, or else redoes it. Before, prefetches the nodes
+/// for a group of [`STEPS_TOGETHER`] steps if `index` is the first of its group that the caller
+/// comes to: `first` is the index in the group of that one, 0 for a caller that goes forward.
 pub(crate) fn cross_step<S: PrefixStore<Rc<Route>>>(
     table: &mut Table<S>,
     steps: &mut VecDeque<Step>,
@@ -75,8 +77,9 @@ pub(crate) fn cross_step<S: PrefixStore<Rc<Route>>>(
     cross(table, step.entries.as_mut_slice());
 }
 
-/// Applies a new step that clears all routes of a peer, and does nothing else: moves the routes
-/// from the table to the entries. On an error, the table is unchanged.
+/// Applies a new step that only clears all routes of `peer`: moves them from the table to
+/// `entries`, which must have one entry for each, in the order of prefixes. The keys stay. On an
+/// error, which means that memory allocation failed, the table is unchanged.
 pub(crate) fn take_peer_routes<S: PrefixStore<Rc<Route>>>(
     alloc: Global,
     table: &mut Table<S>,
@@ -90,7 +93,7 @@ pub(crate) fn take_peer_routes<S: PrefixStore<Rc<Route>>>(
         gives_up_by Last (marks_of entries.new) q ≡ false) }
     ensures kept { OnErr result (table.new.routes ≡ table.old.routes) }
 {
-    // So each node of the peer's store is passed once.
+    // All routes are taken in one walk over the store, instead of one search for each.
     let mut routes = Vec::with_capacity(alloc, entries.len())?;
     table.take_routes(peer, &mut routes);
     let mut index = 0;
@@ -101,9 +104,10 @@ pub(crate) fn take_peer_routes<S: PrefixStore<Rc<Route>>>(
     Ok(())
 }
 
-/// Applies a new step to the table, and adds the claims that it makes. `lost` is the peer if all
-/// that the step does is to clear its routes. On an error, table and claims are unchanged; the
-/// entries are unspecified.
+/// Applies a new step to the table, and adds a claim for each pair that gets a route and had none.
+/// `entries` are those of the step, each of another pair, and hold the routes after the step; then
+/// they hold those before it. `lost` is a peer if all that the step does is to clear that peer's
+/// routes. On an error, table and claims are unchanged, and the entries are unspecified.
 pub(crate) fn put_entries<S: PrefixStore<Rc<Route>>>(
     alloc: Global,
     table: &mut Table<S>,
@@ -148,9 +152,11 @@ pub(crate) fn put_entries<S: PrefixStore<Rc<Route>>>(
     Ok(())
 }
 
-/// Drops a step, and notes in `known` that its owners of routes go.
+/// Drops `step` entry by entry, and notes in `known`, before each, that its route is about to lose
+/// an owner.
 pub(crate) fn let_go_of(known: &mut KnownRoutes, step: Step) {
-    // It does so entry by entry, since entries may share a route.
+    // Each entry is dropped before the next is noted, since `known` looks at the number of owners,
+    // and entries may share a route.
     'entries: for entry in step.entries {
         if let Some(route) = entry.route() {
             known.note_gone(route);
@@ -158,8 +164,8 @@ pub(crate) fn let_go_of(known: &mut KnownRoutes, step: Step) {
     }
 }
 
-/// Reserves capacity for one more step, after shrinking a list with far more capacity than steps.
-/// On an error, the steps are unchanged.
+/// Reserves capacity for one more step. Before, shrinks the list if it has far more capacity than
+/// steps (`spare_capacity.rt`). On an error, the steps are unchanged.
 pub(crate) fn make_room(steps: &mut VecDeque<Step>) -> Result<(), AllocError>
     ensures room { OnOk result (deque_len steps.new < deque_capacity steps.new) }
     ensures steps { steps.new.items ≡ steps.old.items }
@@ -171,8 +177,9 @@ pub(crate) fn make_room(steps: &mut VecDeque<Step>) -> Result<(), AllocError>
     steps.reserve(1)
 }
 
-/// Drops the steps after the cursor, from the last on, and gives up their claims. `cursor` is the
-/// number of steps before it.
+/// Drops the steps after the cursor, the last first, and releases their claims. `cursor` is the
+/// number of steps before it, which stay. The steps that are dropped must not be applied. Allocates
+/// no memory.
 pub(crate) fn drop_ahead<S: PrefixStore<Rc<Route>>>(
     steps: &mut VecDeque<Step>,
     cursor: usize,

@@ -1,6 +1,7 @@
-//! A table of routes for each peer of a collector, on which events are played, undone and redone. A
-//! [`Player`] has the table and the steps, and a [`Table`] answers look-ups; `bgpdump_tool` runs
-//! scripts by them. Read `player.rt` first, then `journal.rt`, `steps.rt` and `claims.rt`.
+//! Plays the events of an MRT file on a table of routes for each peer, and undoes and redoes them.
+//! `bgpdump_tool` runs the commands of a script on a [`Player`], which has the steps and the
+//! cursor; its [`Table`] answers look-ups. Read `player.rt` first, then `journal.rt`, `steps.rt`
+//! and `claims.rt`.
 #![tactic(auto)]
 
 mod changes;

@@ -1,5 +1,5 @@
-//! The player: a table of routes for each peer, on which events are played one step each, and from
-//! which the steps are undone and redone. `bgpdump_tool` runs the commands of a script on it. Read
+//! The player: a table of routes for each peer, on which events are played as steps, and from which
+//! the steps are undone and redone. `bgpdump_tool` runs the commands of a script on it. Read
 //! [`Player`] and [`Player::play`] first, then `journal.rt`.
 
 ghost use Rattle.std.specs.Prelude.{◌≡◌, ◌<◌, ◌↔◌, IfOk, OnOk, OnErr, IsOk, sum_by};
@@ -32,26 +32,30 @@ pub enum PlayFault {
     Memory,
 }
 
-/// The error of [`Player::undo`] and [`Player::redo`]: there is no step on that side of the cursor.
+/// The error of [`Player::undo`] and [`Player::redo`]: no step can be undone, or redone.
 #[derive(Clone, Copy, Debug, PartialEq, Eq)]
 pub struct Nothing;
 
-/// A table of routes on which events are played, one step each, and a cursor that moves back and
-/// forth over these steps. Between the calls, the table is the one after the steps before the
-/// cursor. The oldest steps can be forgotten: what they did stays, and their memory is freed.
+/// A routing table for each peer, the steps that led to it, and a cursor among the steps. Each
+/// event that is played is one step. The table is the one after all steps before the cursor;
+/// [`undo`](Player::undo) and [`redo`](Player::redo) move the cursor by one step. The oldest steps
+/// can be forgotten: their effect stays, but they can't be undone any more, and their memory is
+/// freed.
 #[derive(Drop)]
 pub struct Player<S: PrefixStore<Rc<Route>>> {
     alloc: Global,
+    /// The table after the steps before the cursor.
     table: Table<S>,
-    /// The kept steps, and the cursor.
+    /// The steps that aren't forgotten, and the cursor.
     journal: Journal,
-    /// The claims of pairs, besides those that the table's keys stand for.
+    /// The claims of pairs beyond the first, for which the pair's key stands (`claims.rt`).
     claims: Claims,
-    /// The routes that were played, by which equal ones become one.
+    /// The routes that were played, so that equal routes share memory.
     known: KnownRoutes,
-    /// The numbers of the peers of a table's record that is being played.
+    /// The numbers of the peers seen in the event that is being played. Kept so that its memory is
+    /// used again.
     marks: Marks,
-    /// The groups of steps that were prefetched last.
+    /// The groups of steps whose nodes were prefetched last.
     reached: Reached,
 }
 
@@ -78,7 +82,7 @@ impl<S: PrefixStore<Rc<Route>>> Model for Player<S> {
 }
 
 impl<S: PrefixStore<Rc<Route>>> Player<S> {
-    /// Returns a player with an empty table and no steps.
+    /// Returns a player with an empty table and no steps, without allocating memory.
     pub fn new(alloc: Global) -> Self
         ensures { result ≡ fresh }
     {
@@ -100,8 +104,7 @@ impl<S: PrefixStore<Rc<Route>>> Player<S> {
         }
     }
 
-    /// Returns the position of the cursor: the number of steps before it, including the forgotten
-    /// ones.
+    /// Returns the position of the cursor: the number of steps before it, including forgotten ones.
     pub fn at(&self) -> u64
         ensures cursor { result ≡ self.now.cursor }
         ensures well_formed { IsWellFormed self.now }
@@ -109,23 +112,25 @@ impl<S: PrefixStore<Rc<Route>>> Player<S> {
         self.journal.floor + self.journal.cursor as u64
     }
 
-    /// Returns the lowest position that the cursor can go back to: the number of steps that were
-    /// forgotten.
+    /// Returns the number of steps that were forgotten, which is the lowest position that
+    /// [`undo`](Player::undo) can bring the cursor to.
     pub fn floor(&self) -> u64
         ensures { result ≡ self.now.floor }
     {
         self.journal.floor
     }
 
-    /// Returns the number of steps after the cursor.
+    /// Returns the number of steps after the cursor, which can be redone.
     pub fn ahead(&self) -> u64
         ensures { result ≡ ahead_of self.now }
     {
         (self.journal.steps.len() - self.journal.cursor) as u64
     }
 
-    /// Returns the number of pairs of a peer and a prefix that each kept step names, added up, or
-    /// `u64::MAX` if it is larger.
+    /// Returns the total number of pairs of peer and prefix that the kept steps name, or `u64::MAX`
+    /// if it is larger. A step names each pair that it sets or clears and that has a route before
+    /// or after it; a pair counts once for each such step. Takes time linear in the number of
+    /// steps.
     pub fn named(&self) -> u64
         ensures { result ≡ counted (sum_by set.len self.now.steps) }
     {
@@ -137,7 +142,7 @@ impl<S: PrefixStore<Rc<Route>>> Player<S> {
         total
     }
 
-    /// Returns the table at the cursor.
+    /// Returns the table after the steps before the cursor.
     pub fn table(&self) -> &Table<S>
         ensures keys { result.now.keys ≡ wanted self.now }
         ensures routes { result.now.routes ≡ current self.now }
@@ -145,8 +150,9 @@ impl<S: PrefixStore<Rc<Route>>> Player<S> {
         &self.table
     }
 
-    /// Drops the steps after the cursor, plays the event as the next step, and returns the number
-    /// of steps dropped. The cursor must be below `u64::MAX`. On an error, the player is unchanged.
+    /// Drops the steps after the cursor, plays `event` as the next step, and returns the number of
+    /// steps dropped. The position must be below `u64::MAX`. On an error, the player is unchanged,
+    /// including the steps after the cursor.
     pub fn play(&mut self, event: &Event) -> Result<u64, PlayFault>
         requires { self.old.cursor < GREATEST_COUNT }
         ensures after_play { OnOk result (self.new ≡ after_play self.old event.now) }
@@ -162,8 +168,9 @@ impl<S: PrefixStore<Rc<Route>>> Player<S> {
         played
     }
 
-    /// Undoes the step before the cursor, without allocating memory. Fails, and changes nothing, if
-    /// no kept step is there.
+    /// Undoes the step before the cursor, and moves the cursor before it, without allocating
+    /// memory. An error means that the cursor is at the [`floor`](Player::floor); nothing changes
+    /// then.
     pub fn undo(&mut self) -> Result<(), Nothing>
         ensures after_undo { self.new ≡ after_undo self.old }
         ensures can { IsOk result ↔ (self.old.floor < self.old.cursor) }
@@ -182,8 +189,8 @@ impl<S: PrefixStore<Rc<Route>>> Player<S> {
         Ok(())
     }
 
-    /// Redoes the step after the cursor, without allocating memory. Fails, and changes nothing, if
-    /// no step is there.
+    /// Redoes the step after the cursor, and moves the cursor after it, without allocating memory.
+    /// An error means that there is no such step; nothing changes then.
     pub fn redo(&mut self) -> Result<(), Nothing>
         ensures after_redo { self.new ≡ after_redo self.old }
         ensures can { IsOk result ↔ (self.old.cursor < end_of self.old) }
@@ -204,8 +211,9 @@ impl<S: PrefixStore<Rc<Route>>> Player<S> {
 }
 
 impl<S: PrefixStore<Rc<Route>>> Player<S> {
-    /// Plays the event as the next step, and returns the number of steps that were dropped. On an
-    /// error, the player is unchanged, and the caller has to call [`KnownRoutes::note_unused`].
+    /// Plays `event` as the next step, and returns the number of steps dropped. [`Player::play`]
+    /// calls it after freeing spare memory. On an error, the player is unchanged, and the caller
+    /// has to call [`KnownRoutes::note_unused`].
     fn play_step(&mut self, event: &Event) -> Result<u64, PlayFault>
         requires { self.old.cursor < GREATEST_COUNT }
         ensures after_play { OnOk result (self.new ≡ after_play self.old event.now) }
@@ -241,7 +249,8 @@ impl<S: PrefixStore<Rc<Route>>> Player<S> {
         Ok(dropped as u64)
     }
 
-    /// Forgets the first of the kept steps. There must be one before the cursor.
+    /// Forgets the oldest step that isn't forgotten yet, which must be before the cursor. The
+    /// routes and the position stay.
     fn forget_first(&mut self)
         requires { self.old.floor < self.old.cursor }
         ensures { self.new ≡ without_first 1 self.old }
@@ -254,17 +263,18 @@ impl<S: PrefixStore<Rc<Route>>> Player<S> {
         }
     }
 
-    /// Drops the routes that nothing but the table of known routes owns, if they take much memory.
-    /// Call it once the event of a play was dropped, or these routes stay until the next play or
-    /// [`Player::forget`].
+    /// Drops the routes that are kept only to be shared with equal ones, if they take much memory.
+    /// Call it after the event of a [`play`](Player::play) was dropped; without it these routes
+    /// stay until the next play or [`forget`](Player::forget).
     pub fn give_back_routes(&mut self)
         ensures { self.new ≡ self.old }
     {
         self.known.let_go();
     }
 
-    /// Forgets the oldest steps, so that at most `keep` are kept before the cursor, and returns the
-    /// number of steps forgotten. The steps after the cursor stay.
+    /// Forgets the oldest steps, so that at most `keep` are left before the cursor, and returns how
+    /// many it forgot. The steps after the cursor, the position and the routes stay. Allocates no
+    /// memory.
     pub fn forget(&mut self, keep: u64) -> u64
         ensures after_forget { self.new ≡ after_forget self.old keep }
         ensures forgotten { result ≡ forgettable self.old keep }

@@ -2,9 +2,9 @@
 //! table's, so that the processor waits for the nodes of several pairs at once. They change
 //! nothing. `journal.rt` calls [`reach_entries`] and [`reach_steps`].
 //!
-//! The nodes for the entries of a step are prefetched if these are of one peer, as in a message,
-//! and its store has many keys. A record of a table names one prefix of many peers, and needs nodes
-//! that the record before mostly needed too; the nodes of few keys are in the cache anyway.
+//! Nodes are prefetched only for entries of one peer, as those of a message, whose store has many
+//! keys. A RIB record names one prefix of many peers, and needs nodes that the record before mostly
+//! needed too; the nodes of few keys are in the cache anyway.
 
 ghost use Rattle.std.specs.Prelude.{◌<◌, ◌≤◌, length};
 
@@ -15,26 +15,25 @@ use prefix_store::{PLACES_AT_ONCE, Places, PrefixStore};
 use std::collections::VecDeque;
 use std::rc::Rc;
 
-/// The number of entries whose nodes are prefetched at once. One more is left to the next ones.
+/// The number of entries of one step whose nodes are prefetched at once.
 const ENTRIES_AT_ONCE: usize = PLACES_AT_ONCE as usize;
 
-/// The number of steps, of fewer entries each, whose nodes are prefetched together. One more is
-/// left to the next ones.
+/// The number of steps of a group, whose nodes are prefetched at once. A group begins at a multiple
+/// of it. Only steps of fewer than [`ENTRIES_AT_ONCE`] entries are prefetched so.
 pub(crate) const STEPS_TOGETHER: usize = 8;
 
-/// The smallest number of keys of a store whose nodes are prefetched. With one key less they
-/// aren't.
+/// The smallest number of keys of a store whose nodes are prefetched.
 const LEAST_KEYS: u64 = 4096;
 
-/// Prefetches the nodes for the prefixes in `places`, empties it, and returns the number of nodes
-/// passed.
+/// Prefetches the nodes for the prefixes in `places`, empties `places`, and returns the number of
+/// nodes visited.
 fn reach_places<S: PrefixStore<Rc<Route>>>(places: &mut Places<'_, S>) -> u64 {
     let added = places.take_all();
     S::reach(&added)
 }
 
-/// Adds the prefixes of entries to `places`, prefetches their nodes each time there are eight, and
-/// returns the number of nodes passed.
+/// Adds the prefixes of `entries`, all of which are looked up in `store`, to `places`. Prefetches
+/// the nodes and empties `places` whenever it is full, and returns the number of nodes visited.
 fn add_entries<'a, S: PrefixStore<Rc<Route>>>(
     places: &mut Places<'a, S>,
     store: &'a S,
@@ -49,13 +48,13 @@ fn add_entries<'a, S: PrefixStore<Rc<Route>>>(
     passed
 }
 
-/// Returns the store of the entries' peer, if the first and the last of them are of one peer, and
-/// its store has many keys.
+/// Returns the store of the entries' peer, or `None` if the first and the last entry are of
+/// different peers, or if the store has fewer than [`LEAST_KEYS`] keys.
 fn only_store<'a, S: PrefixStore<Rc<Route>>>(
     table: &'a Table<S>,
     entries: &[Entry],
 ) -> Option<&'a S> {
-    // Entries of a message are of one peer. Where others are between, too much is prefetched.
+    // The entries of a message are of one peer. If others are between, too much is prefetched.
     let peer = entries.first()?.shared_peer();
     if entries.last()?.peer() != peer.peer() {
         return None;
@@ -67,9 +66,9 @@ fn only_store<'a, S: PrefixStore<Rc<Route>>>(
     Some(store)
 }
 
-/// Prefetches the nodes for the next entries of a step from the index on, and returns the number of
-/// nodes passed. Does nothing unless the index is a multiple of [`ENTRIES_AT_ONCE`], and the step
-/// has at least so many entries.
+/// Prefetches the nodes for the next [`ENTRIES_AT_ONCE`] entries of a step, from `index` on, and
+/// returns the number of nodes visited. Does nothing unless `index` is a multiple of
+/// [`ENTRIES_AT_ONCE`] and the step has at least so many entries, of one peer with many keys.
 #[inline]
 pub(crate) fn reach_entries<S: PrefixStore<Rc<Route>>>(
     table: &Table<S>,
@@ -91,20 +90,21 @@ pub(crate) fn reach_entries<S: PrefixStore<Rc<Route>>>(
 }
 
 /// The two groups of steps whose nodes were prefetched last, each as the index of its first step,
-/// or `usize::MAX`.
+/// or `usize::MAX` for none.
 #[derive(Clone, Copy)]
 pub(crate) struct Reached {
-    // So going back and forth over a position doesn't prefetch their nodes each time.
-    /// The group of the last time.
+    // Two are kept, so that going back and forth over a position doesn't prefetch their nodes each
+    // time.
+    /// The group that was prefetched last.
     pub(crate) last: usize,
-    /// The group of the time before.
+    /// The group that was prefetched before that.
     pub(crate) before: usize,
 }
 
 /// Prefetches the nodes for the group of [`STEPS_TOGETHER`] steps that has the step `next`, and
-/// returns the number of nodes passed. Does nothing unless `first` is the index of that step in its
-/// group, the step names a pair, and the group isn't in `reached`. Steps of many entries are left
-/// to [`reach_entries`].
+/// returns the number of nodes visited. Does nothing unless `first` is the index of this step in
+/// its group, the step has entries, and the group isn't in `reached`, to which it is added. Steps
+/// of many entries are left to [`reach_entries`].
 pub(crate) fn reach_steps<S: PrefixStore<Rc<Route>>>(
     table: &Table<S>,
     steps: &VecDeque<Step>,

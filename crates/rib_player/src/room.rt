@@ -1,18 +1,20 @@
-//! Bounds of the capacity of lists, which are shrunk where it is far more than their length. A play
-//! shrinks so the lists of steps, of stores and of marks.
+//! Shrinks lists whose capacity is far more than their length. Each call of `Player::play` shrinks
+//! the lists of steps, of stores and of seen numbers with the bounds below, so that memory follows
+//! a table that gets smaller.
 
 ghost use Rattle.std.specs.Prelude.{◌≡◌};
 
-/// The largest factor by which the capacity of a list may exceed its length. A list whose capacity
-/// divided by it, rounded down, is above the length is shrunk.
+/// The largest factor by which the capacity of a list may exceed its length. A list is shrunk if
+/// its capacity divided by this factor, rounded down, is above its length.
 pub(crate) const MOST_TIMES: usize = 4;
 
-/// The number that is taken for the length of shorter lists. A list of one element more may have
-/// capacity for [`MOST_TIMES`] times its own length.
+/// The length, in elements, that is assumed for shorter lists when their capacity is judged: lists
+/// of up to so many elements may have capacity for [`MOST_TIMES`] times as many.
 pub(crate) const LEAST_ROOM: usize = 1024;
 
-/// Shrinks a list that has far more capacity than elements, unless memory allocation for the
-/// smaller block fails.
+/// Shrinks the capacity of `list` to its length, or to [`LEAST_ROOM`] if that is greater, if it has
+/// far more ([`MOST_TIMES`]). The elements stay. Does nothing if memory allocation for the smaller
+/// block fails.
 pub(crate) fn give_back_room<T>(list: &mut Vec<T>)
     ensures { list.new.items ≡ list.old.items }
 {

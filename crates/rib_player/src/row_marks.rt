@@ -1,6 +1,6 @@
-//! Marks of the numbers of peers that were seen in a row of entries, as of a table's record, so
-//! that a number that comes again is found. `stores.rt` sees by them whether the entries are of
-//! different peers.
+//! A set of the numbers of peers seen so far in one list of entries, such as those of a RIB record.
+//! `stores.rt` uses it to see whether all entries are of different peers. Emptying it takes
+//! constant time.
 
 ghost use Rattle.std.specs.Prelude.{◌≡◌, ℕ, true, false, IsTrue, IfOk};
 ghost use Rattle.rib_player.specs.Numbered.{is_marked};
@@ -8,12 +8,14 @@ ghost use Rattle.rib_player.specs.Numbered.{is_marked};
 use crate::room::give_back_room;
 use std::alloc::{AllocError, Global};
 
-/// A set of the numbers that were seen in the current row.
+/// A set of the numbers that were seen since the last [`begin_row`](SeenNumbers::begin_row). A
+/// number is in the set if the row that it was last seen in is the current one.
 #[derive(Drop)]
 pub(crate) struct Marks {
-    /// The last row in which each number was seen.
+    /// The last row in which each number was seen. Numbers past the end weren't seen in the current
+    /// row.
     pub(crate) rows: Vec<u64>,
-    /// The current row.
+    /// The current row, which wraps around at 2^64.
     pub(crate) row: u64,
 }
 
@@ -26,16 +28,16 @@ impl Marks {
         }
     }
 
-    /// Begins a new row, in which no number was seen, of peers whose numbers are below `count`. The
-    /// list is shrunk if it has far more capacity than that (`room.rt`).
+    /// Empties the set, and forgets numbers of `count` and above. Shrinks the list if it has far
+    /// more capacity than elements (`spare_capacity.rt`).
     pub(crate) fn begin(&mut self, count: usize) {
         self.row = self.row.wrapping_add(1);
         self.rows.truncate(count);
         give_back_room(&mut self.rows);
     }
 
-    /// Marks the number as seen in this row, and returns `true` if it wasn't seen before.
-    /// `usize::MAX` isn't marked, and `false` is returned for it.
+    /// Adds `number` to the set, and returns `true` if it wasn't in it. Returns `false`, and adds
+    /// nothing, for `usize::MAX`. An error means that memory allocation failed.
     pub(crate) fn is_new(&mut self, number: usize) -> Result<bool, AllocError>
         ensures new { IfOk result (λ is_new. IsTrue is_new → is_marked self.old number ≡ false) }
         ensures marked { IfOk result (λ is_new. IsTrue is_new →

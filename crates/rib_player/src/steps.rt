@@ -1,5 +1,6 @@
-//! The entries of a step: one for each pair that has a route before or after the event. `player.rt`
-//! calls [`step_for`]; read that first, then `changes.rt`.
+//! The entries of the step that an event makes: one for each pair that the event sets or clears and
+//! that has a route before or after it. `player.rt` calls [`entries_for_event`]; read that first,
+//! then `changes.rt`.
 
 ghost use Rattle.std.specs.Prelude.{◌≡◌, ◌++◌, IsTrue, IfOk, OnOk, IfSome, None, false, map};
 ghost use Rattle.std.specs.List.{AllByRecursion};
@@ -22,11 +23,12 @@ use prefix_store::PrefixStore;
 use std::alloc::{AllocError, Global};
 use std::rc::Rc;
 
-/// The number of routes of a lost session that are read from the store at once. One more is read
-/// with the next ones.
+/// The largest number of routes of a lost session that are read from the store in one call.
 const MANY: usize = 64;
 
-/// Appends an entry, with no route after the step, for each prefix of `found` and the peer.
+/// Appends, for each prefix of `found`, an entry of the pair of `peer` and this prefix, which has
+/// no route after the step. The routes of `found` aren't used. An error means that memory
+/// allocation failed; `entries` is unspecified then.
 fn add_cleared(
     alloc: Global,
     peer: &Rc<NumberedPeer>,
@@ -42,8 +44,9 @@ fn add_cleared(
     Ok(())
 }
 
-/// Returns an entry, with no route after the step, for each prefix to which the peer has a route,
-/// in order. The routes are read from the store, [`MANY`] at a time.
+/// Returns the entries of a step that clears all routes of `peer`: one for each prefix to which it
+/// has a route, in their order. The table isn't changed. An error means that memory allocation
+/// failed.
 fn lost_entries<S: PrefixStore<Rc<Route>>>(
     alloc: Global,
     peer: &Peer,
@@ -70,8 +73,8 @@ fn lost_entries<S: PrefixStore<Rc<Route>>>(
     }
 }
 
-/// Returns the entries of the pairs that the event may name, with the route after it: those of the
-/// changes, then those of lost peers. Of the entries of a pair, the first counts.
+/// Returns the entries of `changes`, followed by those that clear the routes of each lost peer. Of
+/// the entries of a pair, the first counts. An error means that memory allocation failed.
 fn entries_then<S: PrefixStore<Rc<Route>>>(
     changes: Changes,
     table: &Table<S>,
@@ -94,10 +97,10 @@ fn entries_then<S: PrefixStore<Rc<Route>>>(
     Ok(entries)
 }
 
-/// The number of entries that are compared with each other at most. With one more they are sorted.
+/// The largest number of entries that are compared each with each for equal pairs. More are sorted.
 const FEW: usize = 8;
 
-/// Returns whether one of the entries is of the pair of `entry`.
+/// Returns `true` if one of `entries` is of the pair of `entry`.
 fn has_pair(entries: &[Entry], entry: &Entry) -> bool
     ensures { result ≡ false → AllByRecursion
         (λ side. eq_by_cmp pair_cmp side.0 entry.now.pair ≡ false) (sides_of entries.now) }
@@ -110,7 +113,7 @@ fn has_pair(entries: &[Entry], entry: &Entry) -> bool
     false
 }
 
-/// Returns whether all entries are of different pairs.
+/// Returns `true` if no two entries are of one pair. Takes time quadratic in their number.
 fn are_different(entries: &[Entry]) -> bool
     ensures { IsTrue result → AreDistinct (sides_of entries.now) }
 {
@@ -122,12 +125,12 @@ fn are_different(entries: &[Entry]) -> bool
     true
 }
 
-/// Returns whether all entries are of one peer, each of a lesser prefix than the one before.
+/// Returns `true` if all entries are of one peer, and each is of a lesser prefix than the one
+/// before it.
 fn are_falling(entries: &[Entry]) -> bool
     ensures { IsTrue result → AreDistinct (sides_of entries.now) }
 {
-    // The entries of a message whose prefixes are in order are so, since the last item is noted
-    // first.
+    // This holds of a message whose prefixes are in order, since the last item is noted first.
     let Some((first, rest)) = entries.split_first() else {
         return true;
     };
@@ -141,7 +144,8 @@ fn are_falling(entries: &[Entry]) -> bool
     true
 }
 
-/// Returns the first entry of each pair, in unspecified order.
+/// Returns the first entry of each pair, in unspecified order, and drops the others. `marks` is
+/// memory for the numbers of peers seen. An error means that memory allocation failed.
 fn each_once<S: PrefixStore<Rc<Route>>>(
     entries: Vec<Entry>,
     table: &Table<S>,
@@ -151,7 +155,7 @@ fn each_once<S: PrefixStore<Rc<Route>>>(
     ensures found { IfOk result (λ once. (q : Pair) →
         found (sides_of once.items) q ≡ found (sides_of entries.items) q) }
 {
-    // They are sorted where two may be of one pair. In a table's record mostly no peer comes twice;
+    // The entries are sorted if two may be of one pair. In a RIB record mostly no peer comes twice;
     // in a message, whose first and last entry are of one peer, mostly no prefix does.
     let is_known = match (entries.first(), entries.last()) {
         (Some(first), Some(last)) if entries.len() == 1 || same_peer(first.peer(), last.peer()) => {
@@ -168,9 +172,11 @@ fn each_once<S: PrefixStore<Rc<Route>>>(
     Ok(ordered)
 }
 
-/// Returns the entries of the event's step on the table: one for each pair that it sets or clears
-/// and that has a route before or after it. Returns a peer if clearing its routes is all that the
-/// step does.
+/// Returns the entries of the step that `event` makes on `table`, which aren't applied yet: one for
+/// each pair that the event sets or clears and that has a route before or after it. Returns a peer
+/// with them if all that the step does is to clear that peer's routes. Equal routes are shared by
+/// `known`; `marks` is memory for the numbers of peers seen. An error means that memory allocation
+/// failed.
 pub(crate) fn step_for<S: PrefixStore<Rc<Route>>>(
     alloc: Global,
     event: &Event,
@@ -183,7 +189,7 @@ pub(crate) fn step_for<S: PrefixStore<Rc<Route>>>(
     ensures cleared { IfOk result (λ new. IfSome new.1 (λ peer.
         ClearAllOf table.now.routes peer (sides_of new.0.items))) }
 {
-    // The entries of such a step, which may be many, are read from the peer's store, and aren't
+    // The entries of a lost session, which may be many, are read from the peer's store and aren't
     // copied.
     let changes = changes_of(alloc, event, table, known)?;
     if changes.entries.is_empty() && changes.lost.len() == 1 {

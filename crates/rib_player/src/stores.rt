@@ -1,6 +1,6 @@
-//! The stores of the peers that have one. Each such peer has a number, by which its store is found;
-//! the number may change when another store is removed. `table.rt` keeps its routes here. Read
-//! [`Stores`] first.
+//! The stores of the peers that have a key. Each such peer has a number, by which its store is
+//! found; the number may change when another peer's store is removed. `table.rt` keeps its routes
+//! here. Read [`Stores`] first.
 
 ghost use Rattle.std.specs.Prelude.{◌≡◌, ◌≤◌, [], Some, None, true, false, IsTrue, IsSome, IfSome, IfOk, slice_get, length, ◌<◌, nat_lt, OnOk, OnErr, vec_len};
 ghost use Rattle.std.specs.Option.{option_copied, option_copied_mut, option_map};
@@ -28,16 +28,16 @@ use std::alloc::{AllocError, Global};
 use std::collections::BTreeMap;
 use std::rc::Rc;
 
-/// The number of slots for the numbers of peers, one for each value of [`place_of`]. With one peer
-/// more than slots, two have the same slot, and one of them is found in the ordered map, which
-/// takes longer.
+/// The number of slots for numbers of peers, one for each value of [`slot_of`]. With one peer more
+/// than slots, two share a slot, and one of the two is looked up in the ordered map, which takes
+/// longer.
 const PLACES: usize = 4096;
 
-/// The number of low bits of a hash that [`place_of`] drops. The other 12 select one of the 4,096
-/// slots.
+/// The number of low bits of a 64-bit hash that [`slot_of`] drops. The other 12 select one of the
+/// 4,096 slots.
 const LOWEST_BITS: u32 = 52;
 
-/// The stores of peers, at most one for each.
+/// A map from peers to stores, in which a peer is looked up by a number, by a hash, or in order.
 #[derive(Drop)]
 pub(crate) struct Stores<S> {
     alloc: Global,
@@ -45,21 +45,22 @@ pub(crate) struct Stores<S> {
     pub(crate) order: BTreeMap<Peer, usize>,
     /// The stores. The index of a store is the number of its peer.
     pub(crate) held: Vec<S>,
-    /// The peers. The index of a peer is its number.
+    /// The peers, as the entries of steps share them. The index of a peer is its number.
     pub(crate) names: Vec<Rc<NumberedPeer>>,
-    /// The numbers whose store was noted to have a route ([`Stores::note_routes`]).
+    /// The numbers of the stores that have a route. The caller keeps it right by
+    /// [`Stores::set_routed`].
     pub(crate) routed: Chosen,
-    /// The number that was noted last for a peer of each slot, or 0. It may be of another peer, so
-    /// whoever reads it compares the peer; the peers not found here are in `order`. Empty until the
+    /// The number that was set last for a peer of each slot, or 0. It may be another peer's, so a
+    /// reader checks which peer has it; a peer that isn't found here is in `order`. Empty until the
     /// first store is added.
     places: Vec<u32>,
-    // What stands behind `by` shows that it has at most one proof, as a ghost field must.
+    // The proof after `by` shows that the claim has at most one proof, as a ghost field must.
     ghost numbered: { AreNumbered held.items (peers_in names.items) order.entries } by { Prim.hlevel props },
     ghost few: { vec_len places ≤ PLACES },
     ghost each: { length (choices routed) ≡ length held.items },
 }
 
-/// Returns the index in `Stores::places` of the slot of `peer`.
+/// Returns the index in `Stores::places` of the slot for `peer`: the highest 12 bits of its hash.
 #[inline]
 fn place_of(peer: &Peer) -> usize {
     (peer_hash(peer) >> LOWEST_BITS) as usize
@@ -70,7 +71,7 @@ impl<S> Stores<S> {
     ghost use Rattle.rib_player.specs.Noted.{routed_in};
     ghost use Rattle.rib_player.specs.Lent.{lends_store};
 
-    /// Returns an empty set of stores, without allocating memory.
+    /// Returns a map without stores, without allocating memory.
     pub(crate) fn new(alloc: Global) -> Self
         ensures stores { stores_in result ≡ [] }
         ensures routed { routed_in result ≡ [] }
@@ -97,8 +98,8 @@ impl<S> Stores<S> {
         }
     }
 
-    /// Returns the number of `peer`, or `None` if it has no store. Looks in the slot of the peer,
-    /// and then in the ordered map.
+    /// Returns the number of `peer`, or `None` if it has no store. Looks in the peer's slot first,
+    /// then in the ordered map.
     fn sought_number(&self, peer: &Peer) -> Option<usize>
         ensures { result ≡ lookup (eq_by_cmp peer_cmp peer.now) self.now.order.entries }
     {
@@ -111,8 +112,7 @@ impl<S> Stores<S> {
         self.order.get(peer).copied()
     }
 
-    /// Returns the number of `peer`, or `None` if it has no store. `number` is a guess, which is
-    /// tried first.
+    /// Returns the number of `peer`, or `None` if it has no store. Tries the hint `number` first.
     #[inline]
     fn number_of(&self, number: usize, peer: &Peer) -> Option<usize>
         ensures { result ≡ lookup (eq_by_cmp peer_cmp peer.now) self.now.order.entries }
@@ -123,8 +123,8 @@ impl<S> Stores<S> {
         self.sought_number(peer)
     }
 
-    /// Returns the shared value of `peer`, or `None` if it has no store. `number` is a guess of its
-    /// number, which is tried first.
+    /// Returns the peer with its number, as the pointer that entries share, or `None` if it has no
+    /// store. Tries the hint `number` first.
     #[inline]
     pub(crate) fn shared_peer(&self, number: usize, peer: &Peer) -> Option<&Rc<NumberedPeer>>
         ensures { IfSome result (λ shared. shared.now.value ≡ peer.now) }
@@ -133,7 +133,8 @@ impl<S> Stores<S> {
     }
 
     /// Returns `true` if all entries are of peers that have stores, and no two are of one peer.
-    /// Marks their numbers in `marks` for this. Fails if memory allocation fails.
+    /// `marks` is memory for the numbers seen; what it held is replaced. An error means that memory
+    /// allocation failed.
     pub(crate) fn are_of_different_peers(
         &self,
         entries: &[Entry],
@@ -176,8 +177,7 @@ impl<S> Stores<S> {
         Some((name.peer(), store))
     }
 
-    /// Returns the store of `peer`, or `None` if it has none. `number` is a guess of its number,
-    /// which is tried first.
+    /// Returns the store of `peer`, or `None` if it has none. Tries the hint `number` first.
     #[inline]
     pub(crate) fn get(&self, number: usize, peer: &Peer) -> Option<&S>
         ensures { option_copied result ≡ store_at (stores_in self.now) peer.now }
@@ -185,8 +185,8 @@ impl<S> Stores<S> {
         self.at(self.number_of(number, peer)?)
     }
 
-    /// Returns a mutable reference to the store of `peer`, or `None` if it has none. `number` is a
-    /// guess of its number, which is tried first, and is set to its number.
+    /// Returns a mutable reference to the store of `peer`, or `None` if it has none. Tries the hint
+    /// `number` first, and sets it to the peer's number.
     #[inline]
     pub(crate) fn get_mut(&mut self, number: &mut usize, peer: &Peer) -> Option<&mut S>
         ensures* writes_back { sem 𝓛 (lends_store S.row self.entry peer.now result) }
@@ -199,7 +199,8 @@ impl<S> Stores<S> {
         self.held.get_mut(found)
     }
 
-    /// Notes whether the store with this number has a route, which `has` is. Allocates no memory.
+    /// Records whether the store with this number has a route. The number must be that of a store.
+    /// Allocates no memory.
     #[inline]
     pub(crate) fn note_routes(&mut self, number: usize, has: bool)
         requires { number < length self.old.held.items }
@@ -211,9 +212,9 @@ impl<S> Stores<S> {
         self.routed.choose(number, has);
     }
 
-    /// Notes whether the store with this number has a route, given the number `count` of its
-    /// routes. If it has two or more, it must be noted already that it has one. Allocates no
-    /// memory.
+    /// Records whether the store with this number has a route, given the number `count` of its
+    /// routes now. If `count` is two or more, it must be on record already that the store has one.
+    /// Allocates no memory.
     #[inline]
     pub(crate) fn note_count(&mut self, number: usize, count: u64)
         requires within { number < length self.old.held.items }
@@ -229,8 +230,8 @@ impl<S> Stores<S> {
         self.note_routes(number, count > 0);
     }
 
-    /// Shrinks the lists of stores and of peers if they have far more capacity than elements
-    /// (`room.rt`).
+    /// Shrinks the lists of stores, of peers and of numbers if they have far more capacity than
+    /// elements (`spare_capacity.rt`).
     pub(crate) fn give_back_room(&mut self)
         ensures stores { stores_in self.new ≡ stores_in self.old }
         ensures routed { routed_in self.new ≡ routed_in self.old }
@@ -245,9 +246,9 @@ impl<S: Drop> Stores<S> {
     ghost use Rattle.rib_player.specs.StoresByPeer.{stores_in};
     ghost use Rattle.rib_player.specs.Noted.{routed_in};
 
-    /// Adds `store` for `peer`, which must have none, and notes that it has no route. On error,
-    /// which means that memory allocation fails, there is no store for the peer, and `store` is
-    /// dropped.
+    /// Adds `store` for `peer`, which must have none, under the next number, and records that it
+    /// has no route. On an error, which means that memory allocation failed, nothing is added, and
+    /// `store` is dropped.
     pub(crate) fn insert(&mut self, peer: Peer, store: S) -> Result<(), AllocError>
         requires { store_at (stores_in self.old) peer ≡ None }
         ensures added { OnOk result
@@ -273,8 +274,8 @@ impl<S: Drop> Stores<S> {
         Ok(())
     }
 
-    /// Removes and drops the store of `peer`, if it has one. The peer with the last number gets the
-    /// number of `peer`, as in [`Vec::swap_remove`]. Allocates no memory.
+    /// Removes and drops the store of `peer`, if it has one. The last store gets the number of the
+    /// removed one, as in [`Vec::swap_remove`]. Allocates no memory.
     pub(crate) fn remove(&mut self, peer: &Peer)
         ensures stores { IsWritten (stores_in self.old) (stores_in self.new) peer.now None }
         ensures routed { IsWritten (routed_in self.old) (routed_in self.new) peer.now None }
@@ -303,8 +304,8 @@ fn renumber(order: &mut BTreeMap<Peer, usize>, peer: &Peer, number: usize)
     }
 }
 
-/// Sets the slot of `peer` in `places` to `number`, or to `u32::MAX` if `number` is greater. Does
-/// nothing if there are no slots.
+/// Sets the slot for `peer` in `places` to `number`, or to `u32::MAX` if `number` is greater. Does
+/// nothing if `places` is empty.
 fn note_place(places: &mut Vec<u32>, peer: &Peer, number: usize)
     requires { vec_len places.old ≤ PLACES }
     ensures { vec_len places.new ≤ PLACES }

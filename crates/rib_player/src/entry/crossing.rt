@@ -1,5 +1,5 @@
-//! Swaps of the routes of an entry and the table, by which steps are applied, undone and redone.
-//! `journal.rt` and `claims.rt` call them.
+//! Swaps of the route of an entry and the route of its pair in the table, by which steps are
+//! applied, undone and redone. `journal.rt` and `claims.rt` call them.
 
 ghost use Rattle.std.specs.Prelude.{◌≡◌, [], ◌∷◌, true, not, is_some, IfOk, OnOk, OnErr};
 ghost use Rattle.std.specs.FinMap as finite;
@@ -18,7 +18,7 @@ use std::mem::replace;
 use std::rc::Rc;
 
 impl Entry {
-    /// Returns whether the pair has a route in the table.
+    /// Returns `true` if the table has a route of the entry's pair.
     #[inline]
     pub(crate) fn is_routed<S: PrefixStore<Rc<Route>>>(&self, table: &Table<S>) -> bool
         ensures { result ≡ is_some (finite.get table.now.routes self.now.pair) }
@@ -29,8 +29,8 @@ impl Entry {
             .is_some()
     }
 
-    /// Swaps the route of the entry and the table's route of the pair, either of which may be none.
-    /// The pair must be a key.
+    /// Swaps the route of the entry and the table's route of its pair, either of which may be none.
+    /// The pair must be a key. Doing so twice changes nothing.
     #[inline(always)]
     pub(crate) fn exchange<S: PrefixStore<Rc<Route>>>(&mut self, table: &mut Table<S>)
         requires { set.contains table.old.keys self.old.pair ≡ true }
@@ -49,8 +49,8 @@ impl Entry {
         self.kept = absent.with_route(other);
     }
 
-    /// Sets `route` as the one that the pair has before the step, which clears it. The table isn't
-    /// changed.
+    /// Makes the entry that of an applied step that clears the pair: `route` is the one before the
+    /// step. The table isn't changed; the caller took `route` from it.
     #[inline]
     pub(crate) fn note_cleared(&mut self, route: Rc<Route>)
         ensures { self.new ≡ cleared_entry self.old route }
@@ -63,9 +63,10 @@ impl Entry {
         });
     }
 
-    /// Applies the entry of a new step: makes the pair a key if it is none, swaps the routes of
-    /// entry and table, and sets the marks. Returns whether the key is new. On an error, entry and
-    /// table are unchanged.
+    /// Applies the entry of a new step: makes its pair a key, swaps the routes of entry and table,
+    /// and sets whether the pair has a route before and after the step. Returns `true` if the key
+    /// is new. On an error, which means that memory allocation failed, entry and table are
+    /// unchanged.
     #[inline]
     pub(crate) fn put<S: PrefixStore<Rc<Route>>>(
         &mut self,
