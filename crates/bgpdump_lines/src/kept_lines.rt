@@ -49,7 +49,9 @@ const PAUSE_TIMES: usize = 32;
 /// The printed line of a peer's route in a table, without its prefix.
 #[derive(Drop)]
 struct KeptLine {
+    /// The peer that the line was printed for.
     peer: Peer,
+    /// The route that the line was printed for.
     route: Rc<Route>,
     /// The fields before the prefix, followed by the fields after it.
     octets: Vec<u8>,
