@@ -1,5 +1,6 @@
-//! Runs over devices in memory, through all layers that the program puts between a run and its devices.
-//! The program calls none of them. Their proofs show that no layer loses, changes or hides an octet.
+//! Runs over readers and writers in memory, through all layers that the program puts between a run and
+//! its devices. The program calls none of these functions: their proofs show that no layer loses, changes
+//! or hides an octet. Read [`dump_in_memory`] first.
 
 ghost use Rattle.std.specs.Prelude.{◌≡◌, [], Some, IfOk};
 ghost use Rattle.bgpdump_tool.specs.Run.{dump_texts};
@@ -13,7 +14,8 @@ use std::alloc::{AllocError, Global};
 use std::collections::VecDeque;
 use std::io::{Read, Write};
 
-/// Writes the lines and reports of an MRT file in memory, and returns the outcome of the run.
+/// Prints the MRT file `octets` to writers in memory, and returns the outcome of the run. Fails if memory
+/// allocation fails before the run begins.
 pub fn dump_octets(alloc: Global, stamp: Stamp, octets: &[u8]) -> Result<Outcome, AllocError> {
     let mut held = Vec::new(alloc);
     held.extend_from_slice(octets)?;
@@ -24,8 +26,8 @@ pub fn dump_octets(alloc: Global, stamp: Stamp, octets: &[u8]) -> Result<Outcome
     Ok(ended.outcome)
 }
 
-/// Writes the replies to a script over an MRT file in memory, and the reports, and returns the outcome of
-/// the run.
+/// Runs `script` over the MRT file `octets` with writers in memory, and returns the outcome of the run.
+/// Fails if memory allocation fails before the run begins.
 pub fn play_octets(
     alloc: Global,
     stamp: Stamp,
@@ -41,7 +43,8 @@ pub fn play_octets(
     Ok(ended.outcome)
 }
 
-/// Writes the lines and reports of a reader that has just `octets` to writers that hold nothing yet.
+/// Prints the MRT file in `devices.reader`, which must hold just `octets`, to the writers in `devices`,
+/// which must be empty. Fails if memory allocation fails before the run begins.
 fn dump_known<R: Read + Drop, O: Write + Drop, E: Write + Drop>(
     alloc: Global,
     stamp: Stamp,
@@ -57,8 +60,8 @@ fn dump_known<R: Read + Drop, O: Write + Drop, E: Write + Drop>(
     Ok(dump(alloc, stamp, noted.devices))
 }
 
-/// Writes the replies to a script over a reader that has just `octets`, and the reports, to writers that
-/// hold nothing yet.
+/// Runs `script` over the MRT file in `devices.reader`, which must hold just `octets`. The writers in
+/// `devices` must be empty. Fails if memory allocation fails before the run begins.
 fn play_known<R: Read + Drop, O: Write + Drop, E: Write + Drop>(
     alloc: Global,
     stamp: Stamp,

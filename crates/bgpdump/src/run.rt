@@ -1,4 +1,5 @@
 //! The two runs of the program, [`dump`] and [`play`], over any reader and writers, through buffers.
+//! `main.rt` and `in_memory.rt` call them; read [`dump`] first.
 
 ghost use Rattle.std.specs.Prelude.{◌≡◌, ◌≤◌, ◌<◌, ◌⊎◌, ℕ, List, false, length, Some, None, IfSome, IfOk, IfErr, IsNone};
 ghost use Rattle.std.specs.Io.Buffered.{writer_contents};
@@ -15,15 +16,15 @@ use std::alloc::Global;
 use std::io::{BufReader, BufWriter, Read, Write};
 use std::rc::Rc;
 
-/// The number of octets of each buffer.
+/// The size of each buffer, in octets.
 const BUFFER_SIZE: usize = 65_536;
 
-/// The store of the player, which isn't freed when it is dropped. The program ends soon after a run, and
-/// freeing node by node would take as long as the run. During a run the player drops a store only when it
-/// has no keys, and so no memory.
+/// The store of the player. It isn't freed when it is dropped.
+// The program ends soon after a run, and freeing node by node would take as long as the run. During a run
+// the player drops a store only when it has no keys, and so no memory.
 type Routes = LeftStore<RadixStore<Rc<Route>>>;
 
-/// The reader of a run, and its writers.
+/// The reader and the writers of a run.
 #[derive(Drop)]
 pub struct Devices<R, O, E> {
     /// The reader of the MRT file.
@@ -37,12 +38,13 @@ pub struct Devices<R, O, E> {
 /// The outcome of a run, with its input and its writers.
 #[derive(Drop)]
 pub struct Ended<R, O, E> {
-    /// The outcome.
+    /// How the run ended.
     pub outcome: Outcome,
-    /// The input, after what the run has read. `None` if memory allocation failed before the run began.
+    /// The input after the octets that the run read, or `None` if memory allocation failed before the run
+    /// began.
     pub input: Option<BufferedInput<R>>,
-    /// The writers of lines or replies and of reports, with all that the run wrote. `None` also if a
-    /// writer failed at the end.
+    /// The writer of lines or replies and the writer of reports, with all that the run wrote, or `None`
+    /// if the run didn't begin or a writer failed at the end.
     pub writers: Option<(O, E)>,
 }
 
@@ -54,27 +56,29 @@ struct Streams<R, O: Write + Drop, E: Write + Drop> {
     err: BufferedOutput<E>,
 }
 
-/// Writes the lines of an MRT file to `devices.out`, and the reports to `devices.err`.
+/// Prints the MRT file in `devices.reader`: its lines to `devices.out`, and reports of its faulty records
+/// to `devices.err`. `stamp` selects the time that the routes of tables get.
 pub fn dump<R: Read + Drop, O: Write + Drop, E: Write + Drop>(
     alloc: Global,
     stamp: Stamp,
     devices: Devices<R, O, E>,
 ) -> Ended<R, O, E>
-    // Of a reader that tells its octets: their lines and reports are what the writers have got, or
-    // fronts of them.
+    // If the reader shows its octets, the writers have got the lines and reports of the records in
+    // them, or prefixes of these texts.
     ensures text { LeavesSo R.remaining O.contents E.contents stamp dump_texts devices result }
 
-    // Where the reader failed, or has too much: just those of the records read whole.
+    // If the reader failed or has too many octets, the writers have got exactly the lines and reports
+    // of the whole records read.
     ensures whole_records { LeavesWhole R.remaining O.contents E.contents
         stamp dump_texts devices result }
 
-    // What was read.
+    // The octets that are read.
     ensures taken { HasTaken R.remaining (λ left left'. (taken : List ℕ)
         × Consumes left left' taken) devices.reader result.input }
     ensures too_long { result.outcome ≡ Outcome.InputTooLong →
         HasTaken R.remaining TookMost devices.reader result.input }
 
-    // Which runs end by a read fault, which aren't begun, and which leave no writers.
+    // Which runs end with a read fault, which don't begin, and which leave no writers.
     ensures read_fault { result.outcome ≡ Outcome.ReadFault → IfSome result.input has_failed }
     ensures failed { IfSome result.input (λ input. has_failed input →
         (result.outcome ≡ Outcome.ReadFault) ⊎ IsNone result.writers) }
@@ -96,24 +100,25 @@ pub fn dump<R: Read + Drop, O: Write + Drop, E: Write + Drop>(
     close(streams, outcome)
 }
 
-/// Writes the replies to a script over an MRT file to `devices.out`, and the reports to `devices.err`.
+/// Runs `script` over the MRT file in `devices.reader`, with its replies to `devices.out`, and reports of
+/// faulty records and bad lines to `devices.err`. `stamp` selects the time that the routes of tables get.
 pub fn play<R: Read + Drop, O: Write + Drop, E: Write + Drop>(
     alloc: Global,
     stamp: Stamp,
     script: &[u8],
     devices: Devices<R, O, E>,
 ) -> Ended<R, O, E>
-    // Of a reader that tells its octets: the replies to the script over them, and its reports, are
-    // what the writers have got, or fronts of them.
+    // If the reader shows its octets, the writers have got the replies and reports of the script over
+    // the records in them, or prefixes of these texts.
     ensures text { length script.now ≤ LONGEST_SCRIPT → OverLines script.now (λ lines.
         LeavesSo R.remaining O.contents E.contents stamp (play_texts lines) devices result) }
 
-    // Where the reader failed, or has too much: just those of the commands that ended, and the
-    // reports of the records read whole and of the lines before.
+    // If the reader failed or has too many octets, the writers have got exactly the replies to the
+    // completed commands, and the reports of the whole records read and of the bad lines before.
     ensures whole_records { OverLines script.now (λ lines.
         LeavesWhole R.remaining O.contents E.contents stamp (cut_texts lines) devices result) }
 
-    // What was read.
+    // The octets that are read.
     ensures taken { length script.now ≤ LONGEST_SCRIPT → HasTaken R.remaining
         (λ left left'. (taken : List ℕ) × Consumes left left' taken) devices.reader result.input }
     ensures too_long { result.outcome ≡ Outcome.InputTooLong →
@@ -125,7 +130,7 @@ pub fn play<R: Read + Drop, O: Write + Drop, E: Write + Drop>(
     ensures untouched { LONGEST_SCRIPT < length script.now →
         Leaves O.contents E.contents KeepsBoth devices result }
 
-    // Which runs end by a read fault, which aren't begun, and which leave no writers.
+    // Which runs end with a read fault, which don't begin, and which leave no writers.
     ensures read_fault { result.outcome ≡ Outcome.ReadFault → IfSome result.input has_failed }
     ensures failed { IfSome result.input (λ input. has_failed input →
         (result.outcome ≡ Outcome.ReadFault) ⊎ IsNone result.writers) }
@@ -148,7 +153,7 @@ pub fn play<R: Read + Drop, O: Write + Drop, E: Write + Drop>(
     close(streams, outcome)
 }
 
-/// Returns the devices with a buffer for each. Fails with [`Outcome::Memory`].
+/// Puts a buffer over each of `devices`. Fails with [`Outcome::Memory`].
 fn through_buffers<R: Read + Drop, O: Write + Drop, E: Write + Drop>(
     alloc: Global,
     devices: Devices<R, O, E>,
@@ -182,7 +187,7 @@ fn through_buffers<R: Read + Drop, O: Write + Drop, E: Write + Drop>(
     })
 }
 
-/// Returns the end of a run that failed before it began.
+/// Returns the result of a run that failed with `refusal` before it began.
 fn not_begun<R, O, E>(refusal: Outcome) -> Ended<R, O, E>
     ensures outcome { result.outcome ≡ refusal }
     ensures input { result.input ≡ None }
@@ -195,7 +200,8 @@ fn not_begun<R, O, E>(refusal: Outcome) -> Ended<R, O, E>
     }
 }
 
-/// Flushes the buffers after a run with this outcome, and takes the devices out of them.
+/// Flushes the buffers of a run that ended with `outcome`, and takes the writers out of them. If a writer
+/// fails, there are none, and the outcome is [`outcome_without_writers`].
 fn close<R: Read + Drop, O: Write + Drop, E: Write + Drop>(
     streams: Streams<R, O, E>,
     outcome: Outcome,
@@ -223,8 +229,8 @@ fn close<R: Read + Drop, O: Write + Drop, E: Write + Drop>(
     }
 }
 
-/// Returns the outcome of a run with this outcome whose writers failed at the end: a write fault, unless
-/// the run was out of memory.
+/// Returns the outcome of a run that ended with `outcome`, and whose writers then failed: a write fault,
+/// unless the run was out of memory.
 fn lost_outcome(outcome: Outcome) -> Outcome
     ensures { result ≡ lost_outcome outcome }
 {
@@ -234,7 +240,7 @@ fn lost_outcome(outcome: Outcome) -> Outcome
     }
 }
 
-/// Flushes a buffer and returns its writer. `None` means that the writer failed.
+/// Flushes a buffer and returns its writer, or `None` if the writer fails.
 fn flushed<W: Write + Drop>(mut buffer: BufWriter<W>) -> Option<W>
     ensures { IfSome result (λ writer.
         Keeps (writer_contents W.contents buffer) (W.contents writer)) }

@@ -1,4 +1,6 @@
-//! Hints on how the program ended and on its input, which are written after the last message.
+//! Hints on how the program ended and on its input, which are written to standard error after the last
+//! message. `main.rt` calls [`write_ending_hint`] and [`write_input_hints`]; what these can't write is
+//! lost.
 
 use crate::command_words::{FileWord, PipedCommand};
 use crate::ending::{Ending, Instructions, OpenFailure};
@@ -7,23 +9,22 @@ use bgpdump_tool::{LONGEST_SCRIPT, Outcome, STANDARD_INPUT, Settings, UsageFault
 use mrt_frames::LONGEST_BODY;
 use std::io::{self, ErrorKind};
 
-/// The options of the C program `bgpdump` that choose other lines.
+/// The options of the C program `bgpdump` that select other lines.
 const OPTIONS_OF_LINES: [&str; 6] = ["-H", "-M", "-T", "-l", "-p", "-u"];
 
-/// The options of the C program `bgpdump` that choose where it reports to.
+/// The options of the C program `bgpdump` that select where it reports to.
 const OPTIONS_OF_REPORTS: [&str; 3] = ["-q", "-s", "-v"];
 
-/// The text of `clap` before an option that it doesn't know.
+/// The text of `clap` before an argument that it doesn't know.
 const BEFORE_OPTION: &str = "unexpected argument '";
 
-/// The text of `clap` after such an option.
+/// The text of `clap` after an argument that it doesn't know.
 const BEHIND_OPTION: &str = "' found";
 
 /// The start of `clap`'s advice to write an option as a value.
 const VALUE_ADVICE: &str = "use '-- ";
 
-/// Writes a hint on how the program ends, if there is more to say than the last message does. What can't
-/// be written is lost.
+/// Writes a hint on how the program ends, if there is more to say than the last message does.
 pub fn write_ending_hint(rt: &HostRuntime, ending: &Ending<'_>) {
     let _ = match ending {
         Ending::Usage(UsageFault::Words(text)) => write_option_hint(rt, text.as_str()),
@@ -45,8 +46,8 @@ pub fn write_ending_hint(rt: &HostRuntime, ending: &Ending<'_>) {
     };
 }
 
-/// Writes hints on what seems to be wrong with the input, by its first octets and its error. What can't be
-/// written is lost.
+/// Writes hints on what seems to be wrong with the input of `settings`: the error of its reader, and the
+/// format or the length that its first octets suggest.
 pub fn write_input_hints(rt: &HostRuntime, settings: &Settings, notes: &InputNotes) {
     if let Some(error) = &notes.error {
         let _ = write_error(rt, "the input", error);
@@ -60,7 +61,7 @@ pub fn write_input_hints(rt: &HostRuntime, settings: &Settings, notes: &InputNot
     };
 }
 
-/// Writes the command that reads an input which seems to be compressed.
+/// Writes a hint with the command that unpacks an input of this format for a run with `settings`.
 fn write_format(rt: &HostRuntime, settings: &Settings, form: CompressedFormat) -> io::Result<()> {
     let CompressedFormat {
         name: form,
@@ -76,7 +77,8 @@ fn write_format(rt: &HostRuntime, settings: &Settings, form: CompressedFormat) -
     eprintln!(rt; "bgpdump: {name} looks like {form}; try {printer} {name} | {command}")
 }
 
-/// Writes a hint on an unknown option, by the text of `clap`.
+/// Writes a hint on the unknown argument that `text`, an error of `clap`, names. Writes nothing if it
+/// names none, or an unknown option without more to say.
 fn write_option_hint(rt: &HostRuntime, text: &str) -> io::Result<()> {
     let Some(option) = find_option(text) else {
         return Ok(());
@@ -98,14 +100,14 @@ fn write_option_hint(rt: &HostRuntime, text: &str) -> io::Result<()> {
     }
 }
 
-/// Returns the unknown argument in a text of `clap`.
+/// Returns the unknown argument that `text`, an error of `clap`, names, or `None` if it names none.
 fn find_option(text: &str) -> Option<&str> {
     let (_, behind) = text.split_once(BEFORE_OPTION)?;
     let (option, _) = behind.split_once(BEHIND_OPTION)?;
     Some(option)
 }
 
-/// Returns the first of these options that the argument begins with.
+/// Returns the first of `options` that `argument` begins with, or `None` if it begins with none.
 fn find_front(argument: &str, options: &[&'static str]) -> Option<&'static str> {
     options
         .iter()
@@ -113,7 +115,7 @@ fn find_front(argument: &str, options: &[&'static str]) -> Option<&'static str> 
         .find(|option| argument.starts_with(*option))
 }
 
-/// Writes why a file isn't opened.
+/// Writes a hint on why the file `name` isn't opened.
 fn write_open_failure(rt: &HostRuntime, name: &str, cause: &OpenFailure) -> io::Result<()> {
     match cause {
         OpenFailure::IsRead => eprintln!(rt;
@@ -132,7 +134,7 @@ fn write_open_failure(rt: &HostRuntime, name: &str, cause: &OpenFailure) -> io::
     }
 }
 
-/// Writes why `what` can't be read. A closed standard stream is read as a folder.
+/// Writes a hint on why `what` can't be read. A closed standard stream is read as a folder.
 fn write_error(rt: &HostRuntime, what: &str, error: &io::Error) -> io::Result<()> {
     match error.kind() {
         ErrorKind::IsADirectory => eprintln!(rt; "bgpdump: {what} is a folder or a closed stream"),

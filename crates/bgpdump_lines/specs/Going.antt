@@ -1,5 +1,5 @@
 -- Private.
--- What a run has taken and written so far, where it stopped, and how it ends.
+-- What a run has taken and written so far, where it stopped, and how it ends. Read `WrittenSoFar` first.
 use Rattle.std.specs.Prelude.{◌≡◌, ℕ, List, ◌++◌, Result, OnOk, OnErr, ◌⊎◌, Bool, true, false, [], ◌∷◌, Option, Ok, Err, ◌+◌, ◌≤◌, length}
 use Rattle.bgp_wire.specs.Readers.{StillBegins}
 use Rattle.std.specs.Io.KnownBytes.{Appends, Consumes}
@@ -18,96 +18,109 @@ use Rattle.mrt_wire.specs.declared.SourceFault.TheVariants as source
 use Rattle.bgpdump_lines.specs.declared.fault.WriteFault.TheVariants as write
 use Rattle.bgpdump_lines.specs.declared.outcome.Outcome.TheVariants as outcome
 
--- ---- what printing does to a text, what was written of it or of what was found, and whether a fault is among it
+-- ---- what a call that prints does to a text, and what a call that writes gives to an output
 
--- this came behind it; refused, it still stands in front
+-- A call that prints `text` to a buffer, whose octets are `old` before it and `new` after it, appends all of
+-- it if the result is Ok. On Err, `old` is still a prefix of `new`.
 abbrev pub Prints : {A E : Type 0} → List ℕ → List ℕ → List ℕ → Result A E → Type 0
 Prints old new text result = OnOk result (new ≡ old ++ text) × OnErr result (StillBegins old new)
 
--- a text was written; or a front of it, where the output failed; or none of it, for want of memory
+-- A call that writes `text` to an output, whose octets are `old` before it and `new` after it where they are
+-- known, writes all of it if the result is Ok, a prefix of it if the output fails, and nothing if memory
+-- allocation fails.
 abbrev pub Puts : {A : Type 0} → Option (List ℕ) → Option (List ℕ) → List ℕ → Result A WriteFault → Type 0
 Puts old new text (Ok done) = Appends old new text
 Puts old new text (Err Write) = AppendsFront old new text
 Puts old new text (Err Memory) = new ≡ old
 
--- a text was written; or a front of it, where a fault came
+-- A call that writes `text` to an output, whose octets are `old` before it and `new` after it where they are
+-- known, writes all of it if the result is Ok, and a prefix of it on Err.
 abbrev pub PutsPart : {A : Type 0} → Option (List ℕ) → Option (List ℕ) → List ℕ → Result A WriteFault → Type 0
 PutsPart old new text (Ok done) = Appends old new text
 PutsPart old new text (Err fault) = AppendsFront old new text
 
--- more came behind a text; a front of both was written, and the text is what follows it now
+-- The octets `more` went through a buffer that held `before` and then holds `after`: a prefix of `before ++
+-- more` was written to an output, whose octets are `old` before that and `new` after it where they are known,
+-- and the buffer holds the rest.
 pub record Passes (old new : Option (List ℕ)) (before after more : List ℕ) : Type 0 where
   pub front : List ℕ
   pub appended : Appends old new front
   pub whole : front ++ after ≡ before ++ more
 
--- the same; or a front of both was written, where a fault came
+-- A call passes `more` through a buffer to an output as `PutsThroughBuffer` says, if the result is Ok. On Err
+-- a prefix of `before ++ more` was written.
 abbrev pub PassesPart : {A : Type 0} → Option (List ℕ) → Option (List ℕ) → List ℕ → List ℕ → List ℕ → Result A WriteFault → Type 0
 PassesPart old new before after more (Ok done) = Passes old new before after more
 PassesPart old new before after more (Err fault) = AppendsFront old new (before ++ more)
 
--- what was found was written; or a front of each of its texts, where an output failed; or for want of memory none of them, or a front of an event's lines
+-- A call that writes the texts of the findings `found` to both outputs writes all of them if the result is
+-- Ok, and a prefix of each if an output fails. If memory allocation fails, it writes nothing, or for a single
+-- event a prefix of its lines.
 abbrev pub PutsFound : {A : Type 0} → List Finding → Outputs → Outputs → Result A WriteFault → Type 0
 PutsFound found old new (Ok done) = Writes (dump_texts found) old new
 PutsFound found old new (Err Write) = WritesFronts (dump_texts found) old new
 PutsFound found old new (Err Memory) = (new ≡ old) ⊎ ((event : Event) × (found ≡ Found event ∷ []) × WritesFronts (dump_texts found) old new)
 
--- the writing ended by a fault of the output
+-- Whether the result is the error of an output.
 abbrev pub is_write : {A : Type 0} → Result A WriteFault → Bool
 is_write (Err Write) = true
 is_write other = false
 
--- whether a fault is among what was found
+-- Whether there is a faulty record among the findings.
 abbrev pub is_any_bad : List Finding → Bool
 is_any_bad [] = false
 is_any_bad (Found event ∷ found) = is_any_bad found
 is_any_bad (Bad fault ∷ found) = true
 
--- ---- how a run ends at a fault, and its exit status
+-- ---- the outcome of a run that an error ends, and exit statuses
 
--- 0 where all went well, 1 where something was reported, 3 where a device or a limit stopped the run, 4 for want of memory
+-- The exit status of an outcome: 0 for Done, 1 for Reported, 4 for Memory, 3 for all others.
 abbrev pub status_of : Outcome → ℕ
 status_of Done = 0
 status_of Reported = 1
 status_of outcome.Memory = 4
 status_of other = 3
 
--- by a fault of the source
+-- The outcome of a run that a fault of its source ends. A spent source, which no run reads on, counts as out
+-- of memory.
 abbrev pub source_outcome : SourceFault → Outcome
 source_outcome source.Read = outcome.ReadFault
 source_outcome source.InputTooLong = outcome.InputTooLong
 source_outcome source.Memory = outcome.Memory
 source_outcome source.Spent = outcome.Memory
 
--- by one of the writing
+-- The outcome of a run that an error of writing ends.
 abbrev pub write_outcome : WriteFault → Outcome
 write_outcome write.Write = outcome.WriteFault
 write_outcome write.Memory = outcome.Memory
 
--- the same for what was answered
+-- A result of writing, with the outcome of the run in place of its error.
 abbrev pub outcome_result : {A : Type 0} → Result A WriteFault → Result A Outcome
 outcome_result (Ok done) = Ok done
 outcome_result (Err fault) = Err (write_outcome fault)
 
--- how a run ends that came to its end, by whether an output failed at last and whether something was reported
+-- The outcome of a run that came to its end, by whether an output failed as it was finished, and whether
+-- something was reported.
 abbrev pub outcome_of : Bool → Bool → Outcome
 outcome_of true reported = outcome.WriteFault
 outcome_of false true = outcome.Reported
 outcome_of false false = outcome.Done
 
--- the run ended by a read fault
+-- Whether the result is an error with the outcome ReadFault.
 abbrev pub is_read_fault : {A : Type 0} → Result A Outcome → Bool
 is_read_fault (Err outcome.ReadFault) = true
 is_read_fault other = false
 
--- the run ended by a write fault
+-- Whether the result is an error with the outcome WriteFault.
 abbrev pub is_write_fault : {A : Type 0} → Result A Outcome → Bool
 is_write_fault (Err outcome.WriteFault) = true
 is_write_fault other = false
 
 -- ---- what a run has taken and written so far, and where it stopped
 
--- all that was found was written
+-- All that a run found, while its source went from the state `p` to `q` and what is left in the input from
+-- `left` to `left'`, is written: the octets of its outputs are `old` before that and `new` after it.
+-- `reported` is whether a faulty record is among what it found.
 pub record Going (p q : Place) (left left' : Option (List ℕ)) (old new : Outputs) (reported : Bool) : Type 0 where
   pub found : List Finding
   pub so_far : SoFar p q left left' found
@@ -115,7 +128,7 @@ pub record Going (p q : Place) (left left' : Option (List ℕ)) (old new : Outpu
   pub reported_is : reported ≡ is_any_bad found
   pub within : q.offset ≤ p.limit
 
--- behind all that was found, octets were taken of which nothing is told
+-- From the state `p` of its source on, a run found `found` and then took octets that gave no result.
 pub record Untold (p : Place) (left left' : Option (List ℕ)) (found : List Finding) : Type 0 where
   pub place : Place
   pub mid : Option (List ℕ)
@@ -125,25 +138,26 @@ pub record Untold (p : Place) (left left' : Option (List ℕ)) (found : List Fin
   pub consumed : Consumes mid left' octets
   pub within : place.offset + length octets ≤ p.limit
 
--- they are what the source left at its fault
+-- From the state `p` of its source on, a run found `found`, and then the source failed with `fault` and left
+-- octets that it had taken without a result.
 pub record IsFaulty (p : Place) (left left' : Option (List ℕ)) (found : List Finding) (fault : SourceFault) : Type 0 where
   pub untold : Untold p left left' found
   pub left_over : IsLeft fault untold.octets
   pub full : Stops fault (untold.place.offset + length untold.octets) p.limit
 
--- all that was found was written, and nothing of octets that were taken behind it
+-- A run has written the texts of all that it found, and then took octets of which nothing is written.
 pub record StopsUnwritten (p : Place) (left left' : Option (List ℕ)) (old new : Outputs) : Type 0 where
   pub found : List Finding
   pub untold : Untold p left left' found
   pub written : Writes (dump_texts found) old new
 
--- the source stopped, behind all that was written
+-- The source of a run failed with `fault`, after the run had written the texts of all that it found.
 pub record StopsAtSource (p : Place) (left left' : Option (List ℕ)) (old new : Outputs) (fault : SourceFault) : Type 0 where
   pub found : List Finding
   pub faulty : IsFaulty p left left' found fault
   pub written : Writes (dump_texts found) old new
 
--- the writing stopped behind fronts of what was found
+-- Writing stopped a run: of each text of what it found, a prefix is written.
 pub record StopsAtFronts (p : Place) (left left' : Option (List ℕ)) (old new : Outputs) : Type 0 where
   pub place : Place
   pub found : List Finding
@@ -151,14 +165,17 @@ pub record StopsAtFronts (p : Place) (left left' : Option (List ℕ)) (old new :
   pub within : place.offset ≤ p.limit
   pub fronts : WritesFronts (dump_texts found) old new
 
--- the writing stopped at this fault; for want of memory, behind a record or a rest of which nothing is written, or behind a record of which a front is
+-- Writing stopped a run with this fault. If memory allocation failed, the last octets taken are a record or a
+-- rest of which nothing is written; or they are a record, and a prefix of each text is written.
 abbrev pub StopsAtWriting : Place → Option (List ℕ) → Option (List ℕ) → Outputs → Outputs → WriteFault → Type 0
 StopsAtWriting p left left' old new Write = StopsAtFronts p left left' old new
 StopsAtWriting p left left' old new Memory =
     ((stop : StopsUnwritten p left left' old new) × IsLast outcome.Memory stop.untold.octets)
     ⊎ ((stop : StopsAtFronts p left left' old new) × (stop.so_far.rest ≡ []))
 
--- how a run ended before its outputs were finished
+-- How a run ended, from the state `p` of its source on, before its outputs are finished: with the input, and
+-- all that was found is written, if the result is Ok; or else with a fault of the source or of writing, which
+-- has this outcome.
 abbrev pub Ends : Place → Result Bool Outcome → Option (List ℕ) → Option (List ℕ) → Outputs → Outputs → Type 0
 Ends p (Ok reported) left left' old new = (q : Place) × (q.phase ≡ Ended) × Going p q left left' old new reported
 Ends p (Err outcome) left left' old new =

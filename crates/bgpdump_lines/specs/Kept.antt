@@ -1,5 +1,6 @@
 -- Private.
--- What stands in the lines of a table's routes, but for the prefix, and where a line's prefix stands.
+-- The lines of a table's routes without their prefixes, as the cache holds them, and the prefix of a line in
+-- a text.
 use Rattle.std.specs.Prelude.{ℕ, List, ◌∷◌, ◌++◌, decimal, ◌≡◌, ◌≤◌, length, take}
 use Rattle.mrt_events.specs.declared.peer.Peer.{Peer}
 use Rattle.mrt_events.specs.declared.event.Route.{Route}
@@ -10,22 +11,23 @@ use Rattle.bgpdump_lines.specs.declared.heading.Heading.{Heading}
 use Rattle.bgpdump_lines.specs.declared.route_line.LastLine.{LastLine}
 use Rattle.bgpdump_lines.specs.Heading.{peer_fields, prefix_field, route_tail, prefix_at}
 
--- a heading of the records of tables: when these were written doesn't matter to a route's line
+-- The heading is of TABLE_DUMP_V2 records, at any time: the line of a route doesn't depend on it.
 abbrev pub IsOfTables : Heading → Type 0
 IsOfTables heading = (heading.first ≡ Record) × (heading.tag ≡ TableDump2)
 
--- the first three fields of a route's line under it
+-- The first three fields of a route's line in a TABLE_DUMP_V2 record.
 abbrev pub table_head : Route → List ℕ
 table_head route = word TableDump2 ++ bar ∷ (decimal route.time ++ bar ∷ route_letter TableDump2)
 
--- this stands in front of the prefix in the line of a peer's route, whose first three fields end there, and this behind it
+-- The line of this peer's route in a TABLE_DUMP_V2 record is `in_front`, the prefix, and `behind`. Its first
+-- three fields end at the offset `end` of `in_front`.
 pub record AreEnds (in_front : List ℕ) (end : ℕ) (behind : List ℕ) (peer : Peer) (route : Route) : Type 0 where
   pub within : end ≤ length in_front
   pub head : take end in_front ≡ table_head route
   pub front : in_front ≡ table_head route ++ peer_fields peer
   pub tail : behind ≡ route_tail route
 
--- the prefix of the line stands at its places in the text
+-- The text has the prefix of the line, as a field, at the offsets of the line.
 pub record HasPrefix (line : LastLine) (text : List ℕ) : Type 0 where
   pub ordered : line.places.front ≤ line.places.tail
   pub within : line.places.tail ≤ length text

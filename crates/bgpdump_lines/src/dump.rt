@@ -1,4 +1,5 @@
-//! The run of `bgpdump -m`: reads records until the input ends, and writes their lines and reports.
+//! The run of `bgpdump -m`: reads records until the input ends, and prints each of them. The program
+//! calls [`run_dump`]; read it first, then `write.rt`, which prints a record.
 
 ghost use Rattle.std.specs.Prelude.{◌≡◌, ◌≢◌, ◌↔◌, ◌||◌, ℕ, List, false, IsTrue, length};
 ghost use Rattle.std.specs.Io.KnownBytes.{Consumes};
@@ -16,13 +17,16 @@ use ip_prefix::Text;
 use mrt_wire::{Input, Next, Source, Stamp};
 use std::alloc::Global;
 
-/// The largest number of octets that a run reads.
+/// The largest number of octets that a run takes from its input: 2^40.
 pub const LIMIT: u64 = 1 << 40;
 
-/// Reads an input of MRT records (RFC 6396) to its end, or to a record whose header states a length
-/// above the limit. The lines of all events go to `out`, and the reports of all faulty records to `err`.
-/// The text of a record is written before the next one is read, and both outputs are flushed before a
-/// read that may wait. If nothing fails, both are flushed at the end, `out` first.
+/// Prints the MRT records (RFC 6396) in `input`: the lines of events to `out`, and the reports of faulty
+/// records to `err`. Each record is printed before the next one is read, and both outputs are flushed
+/// before a read that may wait. `stamp` selects the time that
+/// the routes of tables get.
+///
+/// The run ends with the input, after a header with a length above 16,777,216 octets, or at the first
+/// error. If nothing fails, it finishes `out` and then `err`.
 pub fn run_dump<I: Input, O: Output, E: Output>(
     alloc: Global,
     input: &mut I,
@@ -34,18 +38,20 @@ pub fn run_dump<I: Input, O: Output, E: Output>(
     requires out_sound { O.failed out.old ≡ false }
     requires err_sound { E.failed err.old ≡ false }
 
-    // Of an input that shows its octets: the lines and reports of what is found in them were
-    // written, or fronts of them.
+    // If the input shows its octets, the lines and reports of the records in them are written, or
+    // prefixes of these texts.
     ensures octets { EndsOnOctets stamp result dump_texts (I.left input.old)
         (outputs_of O.written E.written out.old err.old)
         (outputs_of O.written E.written out.new err.new) }
 
-    // Of any input, by what was taken: the same, whatever octets it may hold on the whole.
+    // The lines and reports of the whole input are written, or prefixes of them, whatever octets may
+    // follow those taken. None follow if the run has met the end of the input.
     ensures text { OverDevices I.left O.written E.written
         (EndsOverAll stamp result (SawEnd result) dump_texts)
         (input.old, out.old, err.old) (input.new, out.new, err.new) }
 
-    // A run that the input ended has written all that the records taken whole give, and no more.
+    // A run that ends as the input fails or is too long has written exactly the lines and reports of
+    // the whole records taken.
     ensures whole_records { OverDevices I.left O.written E.written
         (WritesWhole stamp result dump_texts)
         (input.old, out.old, err.old) (input.new, out.new, err.new) }
@@ -54,12 +60,12 @@ pub fn run_dump<I: Input, O: Output, E: Output>(
     // a read failed, as any read may that asks the device.
     ensures flushed { LeavesFlushed result (O.pending out.new) (E.pending err.new) }
 
-    // At most 2^40 octets are taken: those of frames, and then what stands behind them, none of it
-    // behind a header that states too much.
+    // At most 2^40 octets are taken: whole records, and then the octets after them, but none after a
+    // header with a length that is too great.
     ensures taken { (taken : List ℕ) × Consumes (I.left input.old) (I.left input.new) taken
         × IsTaken stamp result taken }
 
-    // When each fault comes.
+    // The faults with which the run ends, and when.
     ensures read_fault { (result ≡ Outcome.ReadFault) ↔ IsTrue (I.failed input.new) }
     ensures write_fault { (result ≡ Outcome.WriteFault)
         ↔ IsTrue (O.failed out.new || E.failed err.new) }
@@ -73,8 +79,8 @@ pub fn run_dump<I: Input, O: Output, E: Output>(
     }
 }
 
-/// Reads records and writes their text to the end of the input, and returns whether a record was
-/// reported.
+/// Reads records and prints them until the input ends. Returns `true` if a record was reported. Fails
+/// with the outcome that ends the run.
 fn dump_all<I: Input, O: Output, E: Output>(
     alloc: Global,
     input: &mut I,

@@ -1,5 +1,6 @@
-//! Appends the lines of events to a text, one for each item. [`put_lines`] is for users of the library; runs
-//! use the parts of it, to write long texts in between.
+//! Appends the lines of events to a text, one for each item. [`put_lines`] is for users of the library;
+//! `write.rt` calls the parts of it, and writes a text that gets long before it goes on. On error, each
+//! function but `append_lines` and `put_lines` may have appended a part. Read [`put_item_line`] first.
 
 ghost use Rattle.std.specs.Prelude.{◌≡◌, ◌++◌, ◌∷◌, [], map, All, OnOk, OnErr, IfOk, IfSome, IfNone};
 ghost use Rattle.mrt_events.specs.Event.{Announced, saying};
@@ -17,8 +18,8 @@ use ip_prefix::Text;
 use mrt_wire::{Event, Item};
 use std::alloc::AllocError;
 
-/// Appends the line of an item, and returns it if the item is an announcement. `last` is the line that the
-/// text ends in, if that is of a route: what both lines have is copied.
+/// Appends the line of `item`, and returns it if the item is an announcement. `last` is the last line of
+/// `text`, if that prints a route under this heading: what both lines have in common is copied.
 #[inline(always)]
 pub(crate) fn put_item<'a>(
     heading: &Heading,
@@ -59,7 +60,7 @@ pub(crate) fn put_item<'a>(
     }
 }
 
-/// Appends the lines of items. What a line has in common with the one before is copied.
+/// Appends the lines of `items`, or nothing if there are none.
 #[inline(always)]
 fn put_each(heading: &Heading, items: &[Item], text: &mut Text) -> Result<(), AllocError>
     ensures { Prints text.old text.new (headed_lines heading.now (map saying items.now)) result }
@@ -70,12 +71,12 @@ fn put_each(heading: &Heading, items: &[Item], text: &mut Text) -> Result<(), Al
     put_some(heading, items, text)
 }
 
-/// Appends the lines of at least one item, for [`put_each`].
+/// Appends the lines of `items`. What a line has in common with the one before it is copied.
 #[inline(never)]
 fn put_some(heading: &Heading, items: &[Item], text: &mut Text) -> Result<(), AllocError>
     ensures { Prints text.old text.new (headed_lines heading.now (map saying items.now)) result }
 {
-    // It is out of line, since of most events all items share a route, or none do.
+    // This is out of line, since in most events all items share a route or none do.
     let mut last = None;
     'items: for item in items {
         last = put_item(heading, item, last, text)?;
@@ -83,8 +84,9 @@ fn put_some(heading: &Heading, items: &[Item], text: &mut Text) -> Result<(), Al
     Ok(())
 }
 
-/// Appends the line of one more announcement of the route `first`, whose line the text ends in, at the
-/// offsets `last`. Returns the offsets of the new line.
+/// Appends the line of `item`, which must announce the route of `first`. `last` are the offsets of the
+/// fields of the last line of `text`, which prints that route: all but the prefix is copied. Returns the
+/// offsets of the new line's fields.
 #[inline(always)]
 pub(crate) fn put_other(
     heading: &Heading,
@@ -106,8 +108,8 @@ pub(crate) fn put_other(
     }
 }
 
-/// Appends the lines of further announcements of the route `first`, whose line the text ends in, at the
-/// offsets `places`.
+/// Appends the lines of `items`, which must announce the route of `first`. `offsets` are those of the
+/// fields of the last line of `text`, which prints that route.
 #[inline(always)]
 fn put_others(
     heading: &Heading,
@@ -127,7 +129,8 @@ fn put_others(
     Ok(())
 }
 
-/// Returns the first of several announcements, and the items after it. `None` means that there are none.
+/// Returns the first of several announcements of one route, and the items after it, or `None` if `items`
+/// is empty.
 #[inline(always)]
 pub(crate) fn split_shared(items: &[Item]) -> Option<(Announcement<'_>, &[Item])>
     requires { AreOfOneRoute (map saying items.now) }
@@ -146,7 +149,7 @@ pub(crate) fn split_shared(items: &[Item]) -> Option<(Announcement<'_>, &[Item])
     Some((first, rest))
 }
 
-/// Appends the lines of announcements that all have the same peer and route.
+/// Appends the lines of `items`, which must be announcements of one route of a peer.
 #[inline(always)]
 fn put_shared(heading: &Heading, items: &[Item], text: &mut Text) -> Result<(), AllocError>
     requires { AreOfOneRoute (map saying items.now) }
@@ -159,7 +162,7 @@ fn put_shared(heading: &Heading, items: &[Item], text: &mut Text) -> Result<(), 
     put_others(heading, first, places, rest, text)
 }
 
-/// Appends the lines of an event. On error, a part may have been appended.
+/// Appends the lines of `event`, one for each item.
 #[inline(always)]
 fn put_items(event: &Event, text: &mut Text) -> Result<(), AllocError>
     ensures { Prints text.old text.new (event_lines event.now) result }
@@ -173,7 +176,7 @@ fn put_items(event: &Event, text: &mut Text) -> Result<(), AllocError>
     Ok(())
 }
 
-/// Appends the lines of an event, one for each item. On error, `text` is unchanged.
+/// Appends the lines of `event` to `text`, one for each item. On error, `text` is unchanged.
 #[inline(always)]
 pub(crate) fn append_lines(event: &Event, text: &mut Text) -> Result<(), AllocError>
     ensures appended { OnOk result (text.new ≡ text.old ++ event_lines event.now) }
@@ -187,8 +190,8 @@ pub(crate) fn append_lines(event: &Event, text: &mut Text) -> Result<(), AllocEr
     result
 }
 
-/// Appends the lines of an event to the octets of a vector, one for each item. On error, `text` is
-/// unchanged.
+/// Appends the lines of `event` to `text`, one for each item, as `bgpdump -m` prints them. On error,
+/// `text` is unchanged.
 pub fn put_lines(event: &Event, text: &mut Vec<u8>) -> Result<(), AllocError>
     ensures appended { OnOk result (text.new.items ≡ text.old.items ++ event_lines event.now) }
     ensures unchanged { OnErr result (text.new.items ≡ text.old.items) }

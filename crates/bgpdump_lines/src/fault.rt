@@ -1,4 +1,5 @@
-//! Errors of writing a text, and the [`Outcome`] of a run that an error ends.
+//! Errors of printing, and the [`Outcome`] of a run that an error ends. All functions of `write.rt` fail
+//! with a [`WriteFault`]; runs convert it, and the faults of a `Source`, by `?`.
 
 ghost use Rattle.std.specs.Prelude.{◌≡◌};
 ghost use Rattle.bgpdump_lines.specs.declared.fault.WriteFault.TheVariants.{Write, Memory};
@@ -9,7 +10,7 @@ use crate::output::OutFault;
 use mrt_wire::SourceFault;
 use std::alloc::AllocError;
 
-/// An error of writing a text.
+/// An error of writing a text to an output.
 #[derive(Clone, Copy, Debug, PartialEq, Eq)]
 pub enum WriteFault {
     /// The output failed.

@@ -1,4 +1,6 @@
-//! Appends the first fields of a line: the kind of record, the time and the letter of what it says.
+//! Appends the first fields of a line: the kind of the record, the time, and the letter of a route.
+//! `event_lines.rt` and `route_line.rt` call these functions with the [`Heading`] of an event or of a
+//! table; read that type first. On error, each function may have appended a part.
 
 ghost use Rattle.std.specs.Prelude.{◌≡◌, ◌∷◌, ◌++◌};
 ghost use Rattle.bgpdump_lines.specs.Going.{Prints};
@@ -16,13 +18,13 @@ use ip_prefix::Text;
 use mrt_wire::{Event, Route, Tag, Time};
 use std::alloc::AllocError;
 
-/// The number of digits of microseconds, with leading zeros.
+/// The least number of digits that microseconds are printed with.
 const MICROS_DIGITS: usize = 6;
 
-/// What the first field of a line is.
+/// The first field of a line.
 #[derive(Clone, Copy)]
 pub(crate) enum First {
-    /// The kind of the record that the line is from.
+    /// The kind of the record that the line is from, such as `BGP4MP`.
     Record,
     /// `RIB`, for a route in the table of a peer.
     Rib,
@@ -31,16 +33,16 @@ pub(crate) enum First {
 /// What all lines of an event, or of a peer's table, have in common.
 #[derive(Clone, Copy)]
 pub(crate) struct Heading {
-    /// What the first field is.
+    /// The first field.
     pub(crate) first: First,
-    /// The time of the record.
+    /// The time of the record. It isn't printed in the lines of a table, whose routes have a time each.
     pub(crate) time: Time,
     /// The kind of the record.
     pub(crate) tag: Tag,
 }
 
 impl Heading {
-    /// Returns the heading of an event's lines.
+    /// Returns the heading of the lines of `event`.
     #[inline(always)]
     pub(crate) fn of(event: &Event) -> Heading
         ensures line { headed_line result ≡ item_line event.now.time event.now.tag }
@@ -53,8 +55,8 @@ impl Heading {
         }
     }
 
-    /// Returns the heading of the lines of a peer's table: but for the first field, they are those of
-    /// entries of a TABLE_DUMP_V2 record.
+    /// Returns the heading of the lines of a peer's table: `RIB`, and then the fields of an entry of a
+    /// TABLE_DUMP_V2 record.
     #[inline(always)]
     pub(crate) fn of_table() -> Heading
         ensures { (peer : Peer) (prefix : Network) (route : Route) →
@@ -71,7 +73,7 @@ impl Heading {
     }
 }
 
-/// Appends the first field of a line, the kind of record.
+/// Appends the first field of a line, without a bar: `RIB`, or the kind of the record.
 #[inline(always)]
 fn put_word(heading: &Heading, text: &mut Text) -> Result<(), AllocError>
     ensures { Prints text.old text.new (first_field heading.now) result }
@@ -85,7 +87,7 @@ fn put_word(heading: &Heading, text: &mut Text) -> Result<(), AllocError>
     }
 }
 
-/// Appends microseconds in six digits, with leading zeros.
+/// Appends microseconds in decimal, with leading zeros up to [`MICROS_DIGITS`] digits.
 fn put_micros(micros: u32, text: &mut Text) -> Result<(), AllocError>
     ensures { Prints text.old text.new (micros_text micros) result }
 {
@@ -99,7 +101,8 @@ fn put_micros(micros: u32, text: &mut Text) -> Result<(), AllocError>
     Ok(())
 }
 
-/// Appends a bar and the time of a record, in seconds since 1970, and for BGP4MP_ET with microseconds.
+/// Appends the field of a record's time: a bar and the seconds since 1970, and for BGP4MP_ET a dot and
+/// the microseconds (RFC 6396, section 3), which count as 0 if `heading` has none.
 #[inline(always)]
 fn put_time(heading: &Heading, text: &mut Text) -> Result<(), AllocError>
     ensures { Prints text.old text.new (bar ∷ time_text heading.now.tag heading.now.time) result }
@@ -112,7 +115,8 @@ fn put_time(heading: &Heading, text: &mut Text) -> Result<(), AllocError>
     Ok(())
 }
 
-/// Appends the first two fields of a line: the kind of record, and its time.
+/// Appends the first two fields of a withdrawal's or a state change's line: the kind of the record, and
+/// its time.
 #[inline(always)]
 pub(crate) fn put_head(heading: &Heading, text: &mut Text) -> Result<(), AllocError>
     ensures { Prints text.old text.new
@@ -122,8 +126,9 @@ pub(crate) fn put_head(heading: &Heading, text: &mut Text) -> Result<(), AllocEr
     put_time(heading, text)
 }
 
-/// Appends the first three fields of a route's line: the kind of record, the time, and `B` or `A`. An
-/// entry of a table has the time of `route`, an announcement that of its record.
+/// Appends the first three fields of a route's line: the kind of the record, a time, and `B` for an entry
+/// of a table or `A` for an announcement. The time is `route.time` for an entry, and the time of the
+/// record for an announcement.
 #[inline(always)]
 pub(crate) fn put_route_head(
     heading: &Heading,

@@ -1,5 +1,7 @@
-//! Lines of TABLE_DUMP_V2 records that are kept for later records, one for each peer. Mostly a peer has a
-//! route with the same attributes in the next record, so that all of its line but the prefix is copied.
+//! A cache of printed lines of TABLE_DUMP_V2 records (RFC 6396, section 4.3), one for each peer. Mostly a
+//! peer has a route with equal attributes in the next record, so that all of its line but the prefix is
+//! copied. `table_lines.rt` looks lines up and inserts them, and `write.rt` counts records; read
+//! [`LineCache`] first.
 
 ghost use Rattle.std.specs.Prelude.{◌≡◌, ◌≤◌, ◌+◌, true, take, drop, length, IfSome, IsTrue, vec_len};
 ghost use Rattle.std.proofs.Props.{props};
@@ -13,58 +15,61 @@ use mrt_wire::{Event, Peer, Route, Tag, same_peer, same_route};
 use std::alloc::{AllocError, Global};
 use std::rc::Rc;
 
-/// The largest number of lines that are kept. Those of further peers are printed each time.
+/// The largest number of lines in the cache. The lines of further peers are printed each time.
 const MOST_LINES: usize = 512;
 
-/// The largest number of octets of a line that is kept, without its prefix. A longer one is printed each
-/// time.
+/// The largest size of a cached line without its prefix, in octets. A longer one is printed each time.
 const LONGEST_LINE: usize = 512;
 
-/// The largest number of segments of the path of a line that is kept, so that its route takes little more
-/// memory than the line. A line with more is printed each time.
+/// The largest number of AS_PATH segments of a route whose line is cached. The line of one with more is
+/// printed each time.
+// With so few segments, a route takes little more memory than its line.
 const MOST_SEGMENTS: usize = 2;
 
-/// The number of hashes of peers. Two peers of one hash replace each other's line.
+/// The number of hashes of peers. Two peers with one hash replace each other's line.
 const PLACES: usize = 1 << 12;
 
-/// The number of low bits of the product that a hash leaves out.
+/// The number of low bits of the 32-bit product that a hash leaves out.
 const LOWEST_BITS: u32 = 20;
 
 /// The factor of a hash: the odd number next to 2^32 divided by the golden ratio.
 const MULTIPLIER: u32 = 0x9E37_79B9;
 
-/// The index of no line, for hashes without one.
+/// The index of a hash without a line.
 const NO_LINE: u16 = u16::MAX;
 
-/// The number of lines after which it is judged whether keeping them has paid. Of tables as routers send
-/// them, of which three of five lines are copied, 512 lines in a row may be mostly new ones; 4,096 aren't.
+/// The number of lines after which a trial of the cache ends, see [`LineCache::end_trial`].
+// Of tables as routers send them, of which three of five lines are copied, 512 lines in a row may be
+// mostly new ones; 4,096 aren't.
 const TRIAL: usize = 1 << 12;
 
-/// How many times as many lines are printed without keeping them, after a trial that didn't pay.
+/// The number of lines in a pause of the cache, as a multiple of the lines of the trial before it.
 const PAUSE_TIMES: usize = 32;
 
-/// The line of a peer's route in a table, without its prefix.
+/// The printed line of a peer's route in a table, without its prefix.
 #[derive(Drop)]
 struct KeptLine {
+    /// The peer that the line was printed for.
     peer: Peer,
+    /// The route that the line was printed for.
     route: Rc<Route>,
-    /// The fields before the prefix, followed by those after it.
+    /// The fields before the prefix, followed by the fields after it.
     octets: Vec<u8>,
-    /// The end of the first three fields in `octets`.
+    /// The end of the first three fields, in octets from the start of `octets`.
     head: usize,
-    /// The end of the fields before the prefix in `octets`.
+    /// The end of the fields before the prefix, in octets from the start of `octets`.
     front: usize,
-    /// Whether `octets` are of that route. It is false after an error.
+    /// Whether `octets` is the line of `peer` and `route`. It is `false` after an error.
     known: bool,
     ghost short: { vec_len octets ≤ LONGEST_LINE },
-    // What stands behind `by` shows that it has at most one proof, as a ghost field must.
+    // The term after `by` shows that the statement has at most one proof, as a ghost field must.
     ghost within: { known ≡ true → front ≤ length octets.items } by { Prim.hlevel props },
     ghost ends: { known ≡ true → AreEnds (take front octets.items) head (drop front octets.items)
         peer route.value } by { Prim.hlevel props },
 }
 
 impl KeptLine {
-    /// Returns a line of these fields, which are of this peer's route.
+    /// Returns a line with the fields `ends`, which must be those printed for `peer` and `route`.
     fn of(
         alloc: Global,
         peer: &Peer,
@@ -86,8 +91,8 @@ impl KeptLine {
         Ok(line)
     }
 
-    /// Replaces the line by one of these fields, which are of this peer's route. On error, it is of no
-    /// route.
+    /// Replaces the line by one with the fields `ends`, which must be those printed for `peer` and
+    /// `route`. On error, [`find_line`](CachedLine::find_line) returns `None` from then on.
     fn replace(
         &mut self,
         peer: &Peer,
@@ -109,7 +114,8 @@ impl KeptLine {
         Ok(())
     }
 
-    /// Returns the fields, if they are of this peer's route with the same attributes and time.
+    /// Returns the fields of the line, if it was printed for this peer and for a route with equal
+    /// attributes and an equal time. `None` also after an error of [`replace`](CachedLine::replace).
     #[inline(always)]
     fn ends_of(&self, said: Announcement<'_>) -> Option<LineEnds<'_>>
         ensures { IfSome result (λ ends. AreEnds ends.front.now ends.head ends.tail.now
@@ -127,7 +133,7 @@ impl KeptLine {
     }
 }
 
-/// Returns the last two octets of an address as a number in network byte order.
+/// Returns the last two octets of an address as a big-endian number.
 #[inline(always)]
 fn last_octets(addr: &Addr) -> u32 {
     match addr.family() {
@@ -136,43 +142,47 @@ fn last_octets(addr: &Addr) -> u32 {
     }
 }
 
-/// Returns a hash of the peer, below [`PLACES`].
+/// Returns a hash of a peer's address and AS number, below [`HASH_COUNT`].
 #[inline(always)]
 fn place_of(peer: &Peer) -> usize {
     let first = last_octets(&peer.addr).wrapping_add(peer.asn);
     (first.wrapping_mul(MULTIPLIER) >> LOWEST_BITS) as usize
 }
 
-/// Returns whether the line of a route may be kept: its path is short, and its time is `time`, that of its
-/// record.
+/// Returns `true` if the line of `route` may be cached: its path has at most [`MOST_SEGMENTS`] segments,
+/// and its time is `time`, the time of its record in seconds.
 #[inline]
 fn may_be_kept(route: &Route, time: u32) -> bool {
-    // With a time of its own, a route is kept in vain: in the next record it mostly has another time. And
-    // the reader can give the same attributes another time only in a route that nobody else holds.
+    // The line of a route with a time of its own would be cached in vain: in the next record the time is
+    // mostly another one. And the reader reuses a route for another time only if nothing else holds it.
     route.time == time && route.attrs.path.segments.as_slice().len() <= MOST_SEGMENTS
 }
 
-/// Lines of tables, at most one for each peer. They take memory for at most [`MOST_LINES`] lines of
-/// [`LONGEST_LINE`] octets, and for their routes.
+/// A cache of the lines of tables, at most one for each peer. It takes memory for at most [`MOST_LINES`]
+/// lines of [`LONGEST_LINE`] octets, and holds their routes. It pauses for a while after a trial in which
+/// it saved little.
 #[derive(Drop)]
 pub(crate) struct KeptLines {
+    /// The allocator of the lines.
     alloc: Global,
+    /// The cached lines.
     lines: Vec<KeptLine>,
-    /// The index of a line in `lines`, by the hash of its peer.
+    /// The index in `lines` for each hash of a peer: [`NO_LINE`] for a hash without a line. Empty until
+    /// the first line is inserted.
     numbers: Vec<u16>,
-    /// The number of lines since the last judgement.
+    /// The number of lines in the trial so far.
     printed: usize,
-    /// The number of these that weren't copied, although a line of their peer was kept, or that may not
-    /// be kept.
+    /// The number of lines in the trial that were neither copied nor inserted as the first one of their
+    /// hash.
     missed: usize,
-    /// The number of lines that are still printed before lines are kept again.
+    /// The number of lines that are still printed without the cache, or 0 if it is in use.
     pause: usize,
     ghost few: { vec_len lines ≤ MOST_LINES },
     ghost spread: { vec_len numbers ≤ PLACES },
 }
 
 impl KeptLines {
-    /// Returns an empty set of lines, without allocating memory.
+    /// Returns an empty cache, without allocating memory.
     pub(crate) fn new(alloc: Global) -> KeptLines {
         KeptLines {
             alloc,
@@ -184,8 +194,9 @@ impl KeptLines {
         }
     }
 
-    /// Returns whether the lines of the event are to be copied and kept: it is of a TABLE_DUMP_V2 record
-    /// (RFC 6396, section 4.3), and there is no pause.
+    /// Returns `true` if the lines of `event` are to be copied from the cache and inserted into it: the
+    /// event was made from a TABLE_DUMP_V2 record (RFC 6396, section 4.3), and the cache doesn't pause.
+    /// In a pause, counts the lines of such an event.
     #[inline(always)]
     pub(crate) fn serve(&mut self, event: &Event) -> bool
         ensures { IsTrue result → event.now.tag ≡ TableDump2 }
@@ -196,7 +207,8 @@ impl KeptLines {
         }
     }
 
-    /// Counts the lines of a record towards the end of a pause, and returns whether there is none.
+    /// Returns `true` if the cache doesn't pause. In a pause, counts `lines` printed lines, at least one,
+    /// and returns `false`.
     #[inline(always)]
     fn begin(&mut self, lines: usize) -> bool {
         if self.pause == 0 {
@@ -206,8 +218,7 @@ impl KeptLines {
         false
     }
 
-    /// Counts the lines of a record that were copied or kept, and judges whether that has paid after each
-    /// [`TRIAL`] lines: if more than half of them missed, all lines are dropped, and a pause begins.
+    /// Counts the `lines` of a record that used the cache. After [`TRIAL_LINES`] lines, ends the trial.
     #[inline(always)]
     pub(crate) fn end(&mut self, lines: usize) {
         self.printed = self.printed.saturating_add(lines);
@@ -216,7 +227,7 @@ impl KeptLines {
         }
     }
 
-    /// Drops all lines and begins a pause, if more than half of the last lines missed.
+    /// Ends a trial. If more than half of its lines missed, drops all cached lines and begins a pause.
     #[inline(never)]
     fn judge(&mut self) {
         if self.missed > self.printed / 2 {
@@ -228,7 +239,7 @@ impl KeptLines {
         self.missed = 0;
     }
 
-    /// Returns the fields of the line of this peer's route, if it is kept.
+    /// Returns the fields of the cached line of this peer and route, or `None` if it isn't in the cache.
     #[inline(always)]
     pub(crate) fn ends_of(&self, said: Announcement<'_>) -> Option<LineEnds<'_>>
         ensures { IfSome result (λ ends. AreEnds ends.front.now ends.head ends.tail.now
@@ -238,8 +249,10 @@ impl KeptLines {
         self.lines.get(usize::from(*number))?.ends_of(said)
     }
 
-    /// Keeps a line of these fields, which are of this peer's route, if it may be kept and there is room.
-    /// `time` is that of the record.
+    /// Inserts the line of `peer` and `route` with the fields `ends`, which must be those printed for
+    /// them. A line of the same hash is replaced. Does nothing if the line may not be cached, or if the
+    /// cache is full. `time` is the time of the record in seconds.
+    /// On error, the line isn't in the cache.
     #[inline(never)]
     pub(crate) fn keep(
         &mut self,

@@ -1,4 +1,5 @@
-//! Prints the report of a faulty record, a line of text for standard error.
+//! Prints the report of a faulty record, a line for standard error. `write.rt` calls [`put_report`]. On
+//! error, each function may have appended a part.
 
 ghost use Rattle.std.specs.Prelude.{◌≡◌, ◌++◌, OnOk, decimal};
 ghost use Rattle.bgpdump_lines.specs.Run.{kind_text, fault_report};
@@ -7,7 +8,7 @@ use ip_prefix::Text;
 use mrt_wire::{RecordFault, RecordKind};
 use std::alloc::AllocError;
 
-/// Appends a word and a decimal number. On error, a part may have been appended.
+/// Appends `word` and then `number` in decimal.
 fn put_labelled(word: &[u8], number: u64, text: &mut Text) -> Result<(), AllocError>
     ensures { OnOk result (text.new ≡ text.old ++ (word.now ++ decimal number)) }
 {
@@ -16,7 +17,7 @@ fn put_labelled(word: &[u8], number: u64, text: &mut Text) -> Result<(), AllocEr
     Ok(())
 }
 
-/// Appends what is wrong with a record. On error, a part may have been appended.
+/// Appends what is wrong with a record, such as `cut record`.
 fn put_kind(kind: RecordKind, text: &mut Text) -> Result<(), AllocError>
     ensures { OnOk result (text.new ≡ text.old ++ kind_text kind) }
 {
@@ -37,7 +38,8 @@ fn put_kind(kind: RecordKind, text: &mut Text) -> Result<(), AllocError>
     Ok(())
 }
 
-/// Appends the report of a faulty record, with a line feed. On error, a part may have been appended.
+/// Appends the report of a faulty record to `text`: its number, counted from 1, the offset of its header
+/// in octets from the start of the input, what is wrong with it, and a line feed.
 pub(crate) fn put_report(fault: RecordFault, text: &mut Text) -> Result<(), AllocError>
     ensures { OnOk result (text.new ≡ text.old ++ fault_report fault) }
 {

@@ -1,5 +1,6 @@
-//! Appends the lines of routes to a text. What a line has in common with the last one, or with one that
-//! was kept, is copied instead of printed.
+//! Appends the lines of routes to a text. What a line has in common with the last line of the text, or
+//! with a cached one, is copied instead of printed. `event_lines.rt`, `table_lines.rt` and `write.rt`
+//! call these functions; on error, each may have appended a part. Read [`put_route_line`] first.
 
 ghost use Rattle.std.specs.Prelude.{◌≡◌, ◌≤◌, ◌++◌, take, length, IfOk, IfSome};
 ghost use Rattle.mrt_events.specs.Event.{Announced};
@@ -13,7 +14,7 @@ use ip_prefix::{Prefix, Text};
 use mrt_wire::{Peer, Route, same_peer, same_prefix, same_route};
 use std::alloc::AllocError;
 
-/// A peer's route to a prefix, as a line prints it.
+/// A peer's route to a prefix, as a line prints it: an announcement or an entry of a table.
 #[derive(Clone, Copy)]
 pub(crate) struct Announcement<'a> {
     pub(crate) peer: &'a Peer,
@@ -21,29 +22,29 @@ pub(crate) struct Announcement<'a> {
     pub(crate) route: &'a Route,
 }
 
-/// The offsets of the parts of a route's line, in octets from the start of the text.
+/// The offsets of the fields of a route's line, in octets from the start of its text.
 #[derive(Clone, Copy)]
 pub(crate) struct Places {
     /// The start of the line.
     start: usize,
-    /// The end of its first three fields, where those of the peer begin.
+    /// The end of the first three fields, where the peer's fields begin.
     head: usize,
-    /// The end of the peer's fields, where the prefix begins.
+    /// The end of the peer's fields, where the prefix's field begins.
     front: usize,
-    /// The end of the prefix, where the attributes begin.
+    /// The end of the prefix's field, where the attributes' fields begin.
     tail: usize,
 }
 
-/// The last line of a text, which is of a route.
+/// The last line of a text, which prints a route.
 #[derive(Clone, Copy)]
 pub(crate) struct LastLine<'a> {
-    /// The route that it prints.
+    /// The peer, the prefix and the route that it prints.
     pub(crate) said: Announcement<'a>,
-    /// The offsets of its parts.
+    /// The offsets of its fields in the text.
     pub(crate) places: Places,
 }
 
-/// Appends the line of a route, of which each part is printed. Returns the offsets of its parts.
+/// Appends the line of a route, and copies none of it. Returns the offsets of its fields.
 #[inline(always)]
 pub(crate) fn put_route_anew(
     heading: &Heading,
@@ -71,7 +72,8 @@ pub(crate) fn put_route_anew(
     })
 }
 
-/// Appends the last line of the text once more, with another prefix. Returns the offsets of its parts.
+/// Appends the last line of `text` once more, with `prefix` in place of its prefix. `last` are the
+/// offsets of that line's fields. Returns the offsets of the new line's fields.
 #[inline(always)]
 pub(crate) fn put_route_again(
     last: Places,
@@ -100,8 +102,8 @@ pub(crate) fn put_route_again(
     })
 }
 
-/// Appends the last line of the text once more, with another peer and other attributes. Returns the
-/// offsets of its parts.
+/// Appends the last line of `text` once more, with `peer` and the attributes of `route` in place of its
+/// own. `last` are the offsets of that line's fields. Returns the offsets of the new line's fields.
 #[inline(always)]
 fn put_route_beside(
     last: Places,
@@ -132,16 +134,19 @@ fn put_route_beside(
     })
 }
 
-/// A route's line without its prefix: the fields before it and the fields after it.
+/// The fields of a route's line without its prefix.
 #[derive(Clone, Copy)]
 pub(crate) struct LineEnds<'a> {
+    /// The fields before the prefix.
     pub(crate) front: &'a [u8],
-    /// The end of the first three fields in `front`.
+    /// The end of the first three fields, in octets from the start of `front`.
     pub(crate) head: usize,
+    /// The fields after the prefix, with the line feed.
     pub(crate) tail: &'a [u8],
 }
 
-/// Returns the fields of the last line of the text, without its prefix.
+/// Returns the fields of the last line of `text` without its prefix. `last` are the offsets of that
+/// line's fields.
 #[inline(always)]
 pub(crate) fn ends_in(text: &Text, last: Places) -> LineEnds<'_>
     requires { AreOrdered last text.now }
@@ -158,7 +163,7 @@ pub(crate) fn ends_in(text: &Text, last: Places) -> LineEnds<'_>
     }
 }
 
-/// Appends a bar and the prefix, which is copied from the last line if that has it too.
+/// Appends the field of a prefix. It is copied if `last`, the last line of `text`, has an equal prefix.
 #[inline(always)]
 fn put_prefix_again(
     prefix: &Prefix,
@@ -176,7 +181,8 @@ fn put_prefix_again(
     }
 }
 
-/// Appends a line of these fields and this prefix. Returns the offsets of its parts.
+/// Appends a line that has the fields `ends` before and after `prefix`. The prefix is copied if `last`,
+/// the last line of `text`, has an equal one. Returns the offsets of the new line's fields.
 #[inline(always)]
 pub(crate) fn put_between(
     ends: LineEnds<'_>,
@@ -207,7 +213,8 @@ pub(crate) fn put_between(
     })
 }
 
-/// Appends the line of a route. What it has in common with `last`, the last line of the text, is copied.
+/// Appends the line of a route, and returns it. `last` is the last line of `text`, if that prints a route
+/// under the same heading: what both lines have in common is copied.
 #[inline(always)]
 pub(crate) fn put_route<'a>(
     heading: &Heading,

@@ -1,5 +1,6 @@
-//! Appends the lines of TABLE_DUMP_V2 records (RFC 6396, section 4.3), which are mostly copied from lines
-//! that [`KeptLines`] keeps.
+//! Appends the lines of TABLE_DUMP_V2 records (RFC 6396, section 4.3) to a text, mostly copied from a
+//! [`LineCache`]. `write.rt` calls [`put_table_item_line`]; read that first. On error, each function may
+//! have appended a part.
 
 ghost use Rattle.std.specs.Prelude.{◌≡◌, IfOk, IfSome};
 ghost use Rattle.mrt_events.specs.Event.{Announced, saying};
@@ -16,7 +17,8 @@ use mrt_wire::{Item, Route};
 use std::alloc::AllocError;
 use std::rc::Rc;
 
-/// Appends the line of a route, and keeps it for later records.
+/// Appends the line of a route, inserts it into the cache `kept`, and returns it. `route` must equal
+/// `announcement.route`. `last` is the last line of `text`, if that prints a route under this heading.
 #[inline(always)]
 fn put_and_keep<'a>(
     heading: &Heading,
@@ -43,8 +45,9 @@ fn put_and_keep<'a>(
     Ok(line)
 }
 
-/// Appends the line of a route. If the line kept of its peer has the same route, all but the prefix is
-/// copied from it.
+/// Appends the line of a route, and returns it. If the cache `kept` has the line of this peer and route,
+/// all but the prefix is copied from it; otherwise the line is inserted there. `route` must equal
+/// `announcement.route`. `last` is the last line of `text`, if that prints a route under this heading.
 #[inline(always)]
 fn put_entry<'a>(
     heading: &Heading,
@@ -68,7 +71,9 @@ fn put_entry<'a>(
     put_and_keep(heading, said, route, last, kept, text)
 }
 
-/// Appends the line of an item of a table's record, and returns it if the item is an announcement.
+/// Appends the line of `item`, which is from a record of a table, and returns it if the item is an
+/// announcement. What the cache `kept` or `last` has of it is copied. `last` is the last line of `text`,
+/// if that prints a route under this heading.
 #[inline(always)]
 pub(crate) fn put_table_item<'a>(
     heading: &Heading,

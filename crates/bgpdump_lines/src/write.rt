@@ -1,5 +1,6 @@
-//! Writes the lines and reports of records, and the lines of peers' tables, to outputs. Each function
-//! has a text as scratch memory, which is written and cleared when it gets long.
+//! Writes the lines and reports of records, and the lines of peers' tables, to outputs. Runs call these
+//! functions. `text` is their buffer: lines are appended to it, and it is written and cleared when it
+//! gets long. Read [`write_next`] first.
 
 ghost use Rattle.std.specs.Prelude.{◌≡◌, ◌||◌, ◌≤◌, [], false, All, map, take, drop, length, IfOk, OnOk, flat_map};
 ghost use Rattle.mrt_events.specs.declared.event.Route.{Route};
@@ -27,11 +28,12 @@ use ip_prefix::{Prefix, Text};
 use mrt_wire::{Event, Item, Next, Peer, RecordFault, Route};
 use std::rc::Rc;
 
-/// The number of octets of a text up to which another line is appended to it. A longer text is written
-/// first, so that it has this many octets and two lines at most.
+/// The size of a text in octets up to which another line is appended to it. A longer text is written
+/// first, so that it has at most this many octets and two lines.
 const ENOUGH: usize = 1 << 16;
 
-/// Writes the text and clears it if it is long, and returns whether it was.
+/// Writes `text` to `out` and clears it, if it has more than [`LONG_TEXT`] octets. Returns `true` if it
+/// had.
 #[inline(always)]
 fn write_long<O: Output>(out: &mut O, text: &mut Text) -> Result<bool, WriteFault>
     ensures text { PassesPart (O.written out.old) (O.written out.new) text.old text.new [] result }
@@ -46,7 +48,8 @@ fn write_long<O: Output>(out: &mut O, text: &mut Text) -> Result<bool, WriteFaul
     Ok(true)
 }
 
-/// Appends the lines of items. Whenever the text is long, it is written before the next line.
+/// Appends the lines of `items` to `text`. Whenever `text` is long, it is written to `out` before the
+/// next line.
 #[inline(never)]
 fn write_some<O: Output>(
     out: &mut O,
@@ -68,7 +71,8 @@ fn write_some<O: Output>(
     Ok(())
 }
 
-/// Appends the lines of items, or does nothing without any, before it calls [`write_some`].
+/// Appends the lines of `items` to `text`, as [`write_nonempty_item_lines`] does, or does nothing if
+/// there are none.
 #[inline(always)]
 fn write_items<O: Output>(
     out: &mut O,
@@ -80,16 +84,17 @@ fn write_items<O: Output>(
         (headed_lines heading.now (map saying items.now)) result }
     ensures failed { O.failed out.new ≡ (O.failed out.old || is_write result) }
 {
-    // Of most events either all items share a route or none do, so that there are often none of these.
+    // In most events all items share a route or none do, so that `items` is often empty.
     if items.is_empty() {
         return Ok(());
     }
     write_some(out, heading, items, text)
 }
 
-/// Writes what follows the first `end` octets of the text and truncates it to these, if what follows is
-/// long. The first `end` octets are a line at the offsets `kept`, and `last` are the offsets of the last
-/// line. Returns the offsets of the line that is the last one then.
+/// Writes the octets of `text` from offset `end` on to `out` and truncates `text` to `end`, if they are
+/// more than [`LONG_TEXT`]. The first `end` octets must be a line whose fields are at the offsets `kept`,
+/// and `last` must be the offsets of the last line. Returns the offsets of the line that is the last one
+/// afterwards.
 fn write_behind<O: Output>(
     out: &mut O,
     kept: Places,
@@ -116,7 +121,8 @@ fn write_behind<O: Output>(
     Ok(kept)
 }
 
-/// Writes the text and the lines of further announcements of the first one's route, and clears the text.
+/// Writes `text` and then the lines of `items`, which must announce the route of `first`, to `out`, and
+/// clears `text`.
 #[cold]
 #[inline(never)]
 fn write_long_others<O: Output>(
@@ -133,8 +139,8 @@ fn write_long_others<O: Output>(
 {
     put_all(out, text.as_slice())?;
     text.clear();
-    // The line of the first one is kept at the start of the text, so that after each write the next line
-    // has one to be copied from.
+    // The line of `first` stays at the start of the text and isn't written, so that after each write the
+    // next line has one to be copied from.
     let kept = put_route_anew(heading, first, text)?;
     let end = text.len();
     let mut last = kept;
@@ -147,8 +153,9 @@ fn write_long_others<O: Output>(
     Ok(())
 }
 
-/// Appends the lines of further announcements of the route `first`, whose line the text ends in, at the
-/// offsets `places`. If the text gets long, it is written, with all lines that follow.
+/// Appends the lines of `items`, which must announce the route of `first`, to `text`. `offsets` are those
+/// of the fields of its last line, which prints that route. If `text` gets long, it is written to `out`
+/// with all lines that follow, and cleared.
 #[inline(always)]
 fn write_others<O: Output>(
     out: &mut O,
@@ -174,8 +181,8 @@ fn write_others<O: Output>(
     Ok(())
 }
 
-/// Appends the lines of announcements that all have the same peer and route. Whenever the text is long,
-/// it is written before the next line.
+/// Appends the lines of `items`, which must be announcements of one route of a peer, to `text`. Whenever
+/// `text` is long, it is written to `out` before the next line.
 #[inline(always)]
 fn write_shared<O: Output>(
     out: &mut O,
@@ -196,7 +203,8 @@ fn write_shared<O: Output>(
     write_others(out, heading, first, places, rest, text)
 }
 
-/// Writes the lines of an event. `text` is scratch memory.
+/// Writes the lines of `event` to `out`. Overwrites `text`. On error, a prefix of the lines may have been
+/// written.
 #[inline(always)]
 fn write_lines<O: Output>(out: &mut O, text: &mut Text, event: &Event) -> Result<(), WriteFault>
     ensures text { PutsPart (O.written out.old) (O.written out.new) (event_lines event.now) result }
@@ -213,8 +221,9 @@ fn write_lines<O: Output>(out: &mut O, text: &mut Text, event: &Event) -> Result
     Ok(())
 }
 
-/// Appends the lines of the items of a table's record. Whenever the text is long, it is written before
-/// the next line.
+/// Appends the lines of `items`, from a record of a table, to `text`. Whenever `text` is long, it is
+/// written to `out` before the next line. Lines are copied from the cache `kept` if it has them, and
+/// inserted there if not.
 #[inline(never)]
 fn write_entries<O: Output>(
     out: &mut O,
@@ -238,8 +247,9 @@ fn write_entries<O: Output>(
     Ok(())
 }
 
-/// Writes the lines of a table's record. Lines that are kept of earlier records are copied where they
-/// have the same route, and new ones are kept. `text` is scratch memory.
+/// Writes the lines of `event`, which must be made from a TABLE_DUMP_V2 record, to `out`. Lines are
+/// copied from the cache `kept` if it has them, and inserted there if not. Overwrites `text`. On error, a
+/// prefix of the lines may have been written.
 #[inline(always)]
 fn write_table<O: Output>(
     out: &mut O,
@@ -260,7 +270,9 @@ fn write_table<O: Output>(
     Ok(())
 }
 
-/// Writes the lines of an event, by [`write_table`] unless keeping lines is paused or doesn't apply.
+/// Writes the lines of `event` to `out`, by [`write_table_event`] if the cache `kept` accepts the event,
+/// or else by [`write_event_lines`]. Overwrites `text`. On error, a prefix of the lines may have been
+/// written.
 #[inline(always)]
 fn write_event<O: Output>(
     out: &mut O,
@@ -278,7 +290,8 @@ fn write_event<O: Output>(
     }
 }
 
-/// Writes the lines of routes in the table of a peer, which begin with `RIB`. `text` is scratch memory.
+/// Writes the lines of `routes`, which are from the table of `peer`, to `out`. Each begins with `RIB`.
+/// Overwrites `text`. On error, a prefix of the lines may have been written.
 pub fn write_rib_lines<O: Output>(
     out: &mut O,
     peer: &Peer,
@@ -307,7 +320,9 @@ pub fn write_rib_lines<O: Output>(
     Ok(())
 }
 
-/// Writes the line of a route in the table of a peer, which begins with `RIB`. `text` is scratch memory.
+/// Writes the line of the route of `peer` to `prefix` to `out`. It begins with `RIB`. Overwrites `text`.
+/// If memory allocation fails, nothing is written; if `out` fails, a prefix of the line may have been
+/// written.
 pub fn write_rib_line<O: Output>(
     out: &mut O,
     peer: &Peer,
@@ -330,7 +345,8 @@ pub fn write_rib_line<O: Output>(
     Ok(())
 }
 
-/// Writes the report of a faulty record. `text` is scratch memory.
+/// Writes the report of a faulty record to `err`. Overwrites `text`. If memory allocation fails, nothing
+/// is written; if `err` fails, a prefix of the report may have been written.
 pub fn write_report<E: Output>(
     err: &mut E,
     text: &mut Text,
@@ -345,8 +361,9 @@ pub fn write_report<E: Output>(
     Ok(())
 }
 
-/// Writes the lines of an event to `out`, or the report of a faulty record to `err`, and returns whether
-/// it was a report. `text` is scratch memory.
+/// Writes the lines of an event to `out`, or the report of a faulty record to `err`, or nothing at the
+/// end of the input. Returns `true` if it was a report. Overwrites `text`. On error, a prefix of the
+/// lines or of the report may have been written.
 #[inline(always)]
 pub(crate) fn write_next<O: Output, E: Output>(
     out: &mut O,

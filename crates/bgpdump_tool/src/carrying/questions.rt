@@ -129,8 +129,7 @@ pub(crate) fn table<S: PrefixStore<Rc<Route>>, O: Output>(
     write_numbers(&[(b"routes ", count)], b"\n", out, text)
 }
 
-/// Writes the route that the peer has to the prefix. The text is scratch.
-/// Without such a route, writes `none`.
+/// Writes to `out` the route of `peer` to `prefix`, or `none` if it has none. Overwrites `text`.
 pub(crate) fn route<S: PrefixStore<Rc<Route>>, O: Output>(
     table: &Table<S>,
     peer: &Peer,
