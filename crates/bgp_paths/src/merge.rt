@@ -1,5 +1,6 @@
-//! The merge of an AS_PATH of two-octet AS numbers with the AS4_PATH beside it (RFC 6793, section
-//! 4.2.3). `bgp_wire` calls [`merge_paths`] for the attributes of a route; read that first.
+//! The merge of an AS_PATH with AS numbers of two octets and the AS4_PATH sent with it (RFC 6793,
+//! section 4.2.3). `bgp_wire` calls [`merge_paths`] for the attributes of a route; read that
+//! function first.
 
 ghost use Rattle.std.specs.Prelude.{◌≡◌, ℕ, ◌≤◌, List, ◌++◌, IfOk, OnOk, sum_by};
 ghost use Rattle.bgp_paths.specs.Merge.{IsMerge, IsLongest, path_weight, segment_weight, Hop, hops_from, segments_of};

@@ -60,8 +60,8 @@ fn frame_message(octets: &[u8]) -> Option<FramedMessage<'_>>
 }
 
 /// Parses `octets` as a message, with AS numbers of `width` in AS_PATH. Fails with `Malformed` if
-/// `octets` isn't one message, with a well-formed body if it is an UPDATE, and with `Memory` if
-/// memory allocation fails.
+/// `octets` isn't one message of the length in its header, or if it is an UPDATE whose body is
+/// malformed, and with `Memory` if memory allocation fails. The marker isn't checked.
 pub fn read_message(alloc: Global, width: AsWidth, octets: &[u8]) -> Result<Message, WireFault>
     ensures { Reads (SpellsMessage width) octets.now result }
 {

@@ -44,8 +44,9 @@ fn fill_rib_attrs(
 
 /// Parses `octets` as the path attributes of a RIB entry for a prefix of `family`, with AS numbers
 /// of `width` in AS_PATH (RFC 6396, section 4.3.4). Fails with `Malformed` if `octets` isn't a list
-/// of well-formed attributes, or has MP_REACH_NLRI twice, and with `Memory` if memory allocation
-/// fails.
+/// of attributes, if the first value of a type doesn't have the form of the type (but AS4_PATH and
+/// AS4_AGGREGATOR are then ignored), or if MP_REACH_NLRI is there twice. Fails with `Memory` if
+/// memory allocation fails.
 pub fn read_rib_attrs(
     alloc: Global,
     family: Family,

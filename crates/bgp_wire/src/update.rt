@@ -35,10 +35,11 @@ fn split_sized(octets: &[u8]) -> Option<(&[u8], &[u8])>
 }
 
 /// Parses `octets` as the path attributes of an UPDATE into `parts`: its attributes, with AS
-/// numbers of `width` in AS_PATH, and the prefixes of MP_REACH_NLRI and MP_UNREACH_NLRI. The two
-/// lists of IPv4 prefixes are unchanged. Fails with `Malformed` if `octets` isn't a list of
-/// well-formed attributes, or has one of these two twice, and with `Memory` if memory allocation
-/// fails. On error, `parts` is unspecified.
+/// numbers of `width` in AS_PATH, and the prefixes of MP_REACH_NLRI and MP_UNREACH_NLRI. The other
+/// two lists of prefixes are unchanged. Fails with `Malformed` if `octets` isn't a list of
+/// attributes, if the first value of a type doesn't have the form of the type (but AS4_PATH and
+/// AS4_AGGREGATOR are then ignored), or if MP_REACH_NLRI or MP_UNREACH_NLRI is there twice, and
+/// with `Memory` if memory allocation fails. On error, `parts` is unspecified.
 #[inline]
 fn fill_said(
     alloc: Global,
@@ -63,8 +64,9 @@ fn fill_said(
 }
 
 /// Parses `body` as the body of an UPDATE into `parts`, with AS numbers of `width` in AS_PATH (RFC
-/// 4271, section 4.3). Fails with `Malformed` if it has another form, and with `Memory` if memory
-/// allocation fails. On error, `parts` is unspecified.
+/// 4271, section 4.3). Fails with `Malformed` if `body` isn't two fields with lengths and prefixes,
+/// or if the attributes or the prefixes are malformed, and with `Memory` if memory allocation
+/// fails. On error, `parts` is unspecified.
 #[inline]
 pub(crate) fn fill_update(
     alloc: Global,

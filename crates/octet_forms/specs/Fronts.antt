@@ -7,8 +7,8 @@ use Rattle.octet_forms.specs.Sequences.{Begins}
 abbrev pub BeginsWithNone : {A : Type 0} → (A → List ℕ → Type 0) → List ℕ → Type 0
 BeginsWithNone {A} Spells octets = (value : A) (rest : List ℕ) → Begins Spells value rest octets → ⊥
 
--- octets that begin with spellings of two values, which leave the rests `x` and `y`, begin with one: the
--- values are equal, and so are the rests. So the end of a spelling can be told from the octets
+-- from octets that begin with a spelling, the value and the octets after the spelling can be told: if they
+-- begin with spellings of `a`, which leaves `x`, and of `b`, which leaves `y`, both are equal
 abbrev pub OneFront : {A : Type 0} → (A → List ℕ → Type 0) → Type 0
 OneFront {A} Spells = (a b : A) (x y octets : List ℕ) → Begins Spells a x octets → Begins Spells b y octets → (a ≡ b) × (x ≡ y)
 
@@ -17,6 +17,6 @@ pub record IsCode {A : Type 0} (Spells : A → List ℕ → Type 0) : Type 0 whe
   pub some : (a : A) → Spells a [] → ⊥
   pub same : OneFront Spells
 
--- no octets spell two values, whatever stands for octets
+-- no octets (of any type `B`) spell two values
 abbrev pub IsOne : {A B : Type 0} → (A → B → Type 0) → Type 0
 IsOne {A} {B} Spells = (value other : A) (octets : B) → Spells value octets → Spells other octets → value ≡ other

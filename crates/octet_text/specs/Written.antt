@@ -4,8 +4,8 @@ use Rattle.std.specs.Prelude.{◌≡◌, ℕ, ◌+◌, ◌/◌, ◌%◌, List, [
 use Rattle.std.specs.Char.{digit_char}
 use Rattle.octet_text.specs.declared.cursor.TheConstants.{SPACE}
 
--- `new` is `old` with `text` written at offset `at`: the octets before it are unchanged, it ends at offset
--- `end`, and those from there on are unspecified, but as many as in `old`
+-- `new` is `old` with `text` written at offset `at`: the octets before it are unchanged, `end` is the offset
+-- after it, and the octets from `end` on are unspecified, but as many as in `old`
 pub record IsWritten (old : List ℕ) (at : ℕ) (text new : List ℕ) (end : ℕ) : Type 0 where
   pub front : take end new ≡ take at old ++ text
   pub behind : end ≡ at + length text
