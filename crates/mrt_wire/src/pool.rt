@@ -87,8 +87,8 @@ impl Pool {
         items
     }
 
-    /// Keeps the memory of a vector of items for the next record, if its capacity is greater than
-    /// that of the vector that is kept, and at most [`MOST_ITEMS`].
+    /// Keeps the memory of a vector of items for the next record, if its capacity is at most
+    /// [`MOST_ITEMS`] and exceeds the capacity of the vector that is kept.
     #[inline(always)]
     pub(crate) fn keep_items(&mut self, items: Vec<Item>) {
         let most = items.capacity();

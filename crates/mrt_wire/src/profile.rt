@@ -83,7 +83,7 @@ pub(crate) enum Form {
     Session(SessionForm),
 }
 
-/// The supported types and subtypes of records, which gives each a [`BodyFormat`].
+/// The supported types and subtypes of records, each with its [`BodyFormat`].
 pub(crate) struct Forms;
 
 impl Profile for Forms {

@@ -129,8 +129,8 @@ impl ReadRoute {
         })
     }
 
-    /// Returns `true` if the attributes of the route were parsed from the octets, for the family
-    /// and at the width of `raw`.
+    /// Returns `true` if the attributes of the route were parsed from the octets of `raw`, for its
+    /// family and at its width.
     #[inline(always)]
     fn is_of(&self, sent: SentAttrs<'_>) -> bool
         ensures { IsTrue result → SpellsRibAttrs sent.entry.family sent.entry.width
@@ -192,7 +192,7 @@ impl ReadRoute {
 
 /// Returns `true` if path attributes begin as routers mostly send them, in the order of their types
 /// (RFC 4271, section 5): with ORIGIN, and then an AS_PATH of one segment, whose AS numbers have
-/// this width. An empty AS_PATH has no segment.
+/// this width. It is `false` for an empty AS_PATH, which has no segment.
 #[inline(always)]
 fn begin_plainly(octets: &[u8], width: AsWidth) -> bool {
     let (size, count) = match octets {

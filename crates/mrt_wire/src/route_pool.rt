@@ -1,5 +1,5 @@
 //! A pool of routes that records are read into. A route that nobody else holds any more is
-//! overwritten with that of a later record, so that reading mostly allocates nothing. `update.rt`
+//! overwritten with one of a later record, so that reading mostly allocates nothing. `update.rt`
 //! calls [`RoutePool::make_route`] for each message, and `route_cache.rt` calls
 //! [`RoutePool::rib_route`] for each table entry that it doesn't cache. Read [`RoutePool`] first.
 
@@ -233,9 +233,9 @@ impl RoutePool {
         Ok(place)
     }
 
-    /// Counts the octets of the route at `index`, in place of those counted for it before, as
-    /// octets that the current record needs. If that exceeds the bound of the pool, raises the
-    /// bound to what the record needs, and drops routes that the record hasn't used.
+    /// Counts the octets of the route at `index`, instead of those counted for it before, as needed
+    /// by the current record. Raises the bound of the pool to what the record needs, if that is
+    /// more. If all routes exceed the bound, drops routes that the record hasn't used.
     #[inline(never)]
     fn count(&mut self, place: usize)
         requires { place < vec_len self.old.routes }

@@ -203,7 +203,7 @@ fn fault_answer(number: u64, offset: u64, kind: RecordKind) -> Next
 }
 
 /// Returns what a source returns of a record that was parsed with this result: its event, or its
-/// fault with `number`, counted from 1, and `offset`, that of its header in octets. Fails with
+/// fault with `number`, counted from 1, and with the `offset` of its header, in octets. Fails with
 /// `SourceFault::Memory` if memory allocation failed as the record was parsed.
 fn record_answer(
     number: u64,
