@@ -19,28 +19,28 @@ pub record SpellsNumber (bits : Width) (limit : ℕ) (n : ℕ) (octets : List �
   pub whole : octets ≡ to_be_bytes bits n
 
 -- the octets are a big-endian number of 32 bits
-abbrev pub SpellsWord : ℕ → List ℕ → Type 0
-SpellsWord n octets = SpellsNumber w32 (2 ^ 32) n octets
+abbrev pub SpellsU32 : ℕ → List ℕ → Type 0
+SpellsU32 n octets = SpellsNumber w32 (2 ^ 32) n octets
 
 -- ---- AS numbers (RFC 4271, section 4.3; RFC 6793, section 3)
 
 -- the number of bits of an AS number: 16 or 32
-abbrev pub bits_at : AsWidth → Width
-bits_at Two = w16
-bits_at Four = w32
+abbrev pub asn_bits : AsWidth → Width
+asn_bits Two = w16
+asn_bits Four = w32
 
 -- the number of octets of an AS number: 2 or 4
-abbrev pub octets_at : AsWidth → ℕ
-octets_at Two = 2
-octets_at Four = 4
+abbrev pub asn_size : AsWidth → ℕ
+asn_size Two = 2
+asn_size Four = 4
 
 -- the exclusive upper bound of AS numbers of this width: 2^16 or 2^32
-abbrev pub limit_at : AsWidth → ℕ
-limit_at width = 2 ^ (8 * octets_at width)
+abbrev pub asn_limit : AsWidth → ℕ
+asn_limit width = 2 ^ (8 * asn_size width)
 
 -- the octets are a big-endian AS number of this width
 abbrev pub SpellsAsn : AsWidth → ℕ → List ℕ → Type 0
-SpellsAsn width n octets = SpellsNumber (bits_at width) (limit_at width) n octets
+SpellsAsn width n octets = SpellsNumber (asn_bits width) (asn_limit width) n octets
 
 -- ---- octets that spell no value
 

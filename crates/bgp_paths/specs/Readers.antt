@@ -4,7 +4,7 @@ use Rattle.std.specs.Prelude.{ℕ, List, Option, Some, None, Result, Ok, Err, �
 use Rattle.ip_prefix.specs.Fronts.{BeginsWithNone}
 use Rattle.bgp_paths.specs.declared.fault.WireFault.{WireFault}
 use Rattle.bgp_paths.specs.declared.fault.WireFault.TheVariants.{Malformed, Memory}
-use Rattle.bgp_paths.specs.Path.{IsNoSpelling, octets_at, kind_code}
+use Rattle.bgp_paths.specs.Path.{IsNoSpelling, asn_size, kind_code}
 use Rattle.bgp_paths.specs.declared.numbers.AsWidth.{AsWidth}
 use Rattle.bgp_paths.specs.declared.segment.SegmentKind.{SegmentKind}
 use Rattle.bgp_paths.specs.declared.segment.SegmentKind.TheVariants.{AsSequence}
@@ -12,14 +12,14 @@ use Rattle.bgp_paths.specs.declared.segment.Segment.{Segment}
 use Rattle.bgp_paths.specs.declared.path.AsPath.{AsPath}
 use Rattle.std.specs.List.{join_with_byte}
 use Rattle.ip_prefix.specs.Written.{ended_words}
-use Rattle.bgp_paths.specs.declared.text.Marks.{Marks}
+use Rattle.bgp_paths.specs.declared.text.Brackets.{Brackets}
 
 -- ---- what parsers return
 
 -- what a parser returns for the octets: a value that they spell, or `None` if they spell none
-abbrev pub Finds : {A B : Type 0} → (A → B → Type 0) → B → Option A → Type 0
-Finds Spells octets (Some value) = Spells value octets
-Finds Spells octets None = IsNoSpelling Spells octets
+abbrev pub ParsesTo : {A B : Type 0} → (A → B → Type 0) → B → Option A → Type 0
+ParsesTo Spells octets (Some value) = Spells value octets
+ParsesTo Spells octets None = IsNoSpelling Spells octets
 
 -- an error that a parser may return for the octets: `Malformed` only if they spell no value, `Memory` always
 abbrev pub Refuses : {A B : Type 0} → (A → B → Type 0) → B → WireFault → Type 0
@@ -28,9 +28,9 @@ Refuses Spells octets Memory = Unit {0}
 
 -- what a parser returns for the octets: a value that they spell, or an error; `Malformed` only if they spell
 -- no value
-abbrev pub Reads : {A B : Type 0} → (A → B → Type 0) → B → Result A WireFault → Type 0
-Reads Spells octets (Ok value) = Spells value octets
-Reads Spells octets (Err fault) = Refuses Spells octets fault
+abbrev pub ParsesOrFails : {A B : Type 0} → (A → B → Type 0) → B → Result A WireFault → Type 0
+ParsesOrFails Spells octets (Ok value) = Spells value octets
+ParsesOrFails Spells octets (Err fault) = Refuses Spells octets fault
 
 -- an error that a parser of a value at the start of the octets may return: `Malformed` only if they begin
 -- with a spelling of none, `Memory` always
@@ -41,27 +41,27 @@ RefusesFront Spells octets Memory = Unit {0}
 -- ---- an empty path, a segment that may be empty, and a segment at the start of octets
 
 -- the path without segments
-abbrev pub no_path : AsPath
-no_path = record { segments = [] }
+abbrev pub empty_path : AsPath
+empty_path = record { segments = [] }
 
 -- the list of one segment of this kind and these AS numbers, but no segment for a sequence of none
-abbrev pub piece : SegmentKind → List ℕ → List Segment
-piece AsSequence [] = []
-piece kind ns = record { numbers = ns; kind = kind } ∷ []
+abbrev pub segment_unless_empty : SegmentKind → List ℕ → List Segment
+segment_unless_empty AsSequence [] = []
+segment_unless_empty kind ns = record { numbers = ns; kind = kind } ∷ []
 
 -- the octets are the type of a segment of this kind, its count of AS numbers, from 1 to 255, as many octets
 -- `body` as these numbers take, and then `rest`
-pub record IsFramed (width : AsWidth) (kind : SegmentKind) (count : ℕ) (body rest octets : List ℕ) : Type 0 where
+pub record IsSplitSegment (width : AsWidth) (kind : SegmentKind) (count : ℕ) (body rest octets : List ℕ) : Type 0 where
   pub some : 0 < count
   pub fits : count < 256
-  pub size : length body ≡ octets_at width * count
+  pub size : length body ≡ asn_size width * count
   pub whole : octets ≡ kind_code kind ∷ count ∷ (body ++ rest)
 
 -- ---- texts
 
 -- the octets of the marks in the order in which they are printed
-abbrev pub all_marks : Marks → List ℕ
-all_marks marks = marks.open ∷ marks.separator ∷ marks.close ∷ []
+abbrev pub brackets_as_printed : Brackets → List ℕ
+brackets_as_printed marks = marks.open ∷ marks.separator ∷ marks.close ∷ []
 
 -- the new text begins with the old one
 abbrev pub StillBegins : List ℕ → List ℕ → Type 0
@@ -69,7 +69,7 @@ StillBegins old new = (more : List ℕ) × (new ≡ old ++ more)
 
 -- `new` is `old` without the separator after its last word: wherever `old` is a text of `before` octets and
 -- then words with a separator after each, `new` is this text and the words joined by the separator
-abbrev pub WordsJoined : ℕ → List ℕ → List ℕ → Type 0
-WordsJoined before old new =
+abbrev pub JoinsWords : ℕ → List ℕ → List ℕ → Type 0
+JoinsWords before old new =
     (text : List ℕ) (separator : ℕ) (words : List (List ℕ)) → length text ≡ before
     → old ≡ text ++ ended_words separator words → new ≡ text ++ join_with_byte separator words

@@ -5,13 +5,13 @@ use Rattle.bgp_paths.specs.declared.segment.SegmentKind.{SegmentKind}
 use Rattle.bgp_paths.specs.declared.segment.SegmentKind.TheVariants.{AsSet, AsSequence, ConfedSequence, ConfedSet}
 use Rattle.bgp_paths.specs.declared.segment.Segment.{Segment}
 use Rattle.bgp_paths.specs.declared.path.AsPath.{AsPath}
-use Rattle.bgp_paths.specs.declared.text.Marks.{Marks}
+use Rattle.bgp_paths.specs.declared.text.Brackets.{Brackets}
 use Rattle.ip_prefix.specs.declared.text.TheConstants.{COLON}
-use Rattle.bgp_paths.specs.declared.text.TheConstants.{NO_EXPORT, NO_ADVERTISE, NO_EXPORT_SUBCONFED, AS_SET_MARKS, CONFED_SEQUENCE_MARKS, CONFED_SET_MARKS}
+use Rattle.bgp_paths.specs.declared.text.TheConstants.{NO_EXPORT, NO_ADVERTISE, NO_EXPORT_SUBCONFED, AS_SET_BRACKETS, CONFED_SEQUENCE_BRACKETS, CONFED_SET_BRACKETS}
 use Rattle.octet_text.specs.declared.cursor.TheConstants.{SPACE}
 
 -- the numbers in decimal, joined by the separator of the marks, between their opening and closing octet
-abbrev pub bracketed_numbers : Marks → List ℕ → List ℕ
+abbrev pub bracketed_numbers : Brackets → List ℕ → List ℕ
 bracketed_numbers marks ns = marks.open ∷ join_with_byte marks.separator (map decimal ns) ++ marks.close ∷ []
 
 -- the words of a segment of this kind with these AS numbers: each number of a sequence, and one word in
@@ -19,11 +19,11 @@ bracketed_numbers marks ns = marks.open ∷ join_with_byte marks.separator (map 
 abbrev pub words_by : SegmentKind → List ℕ → List (List ℕ)
 words_by AsSequence ns = map decimal ns
 -- {a,b}
-words_by AsSet ns = bracketed_numbers AS_SET_MARKS ns ∷ []
+words_by AsSet ns = bracketed_numbers AS_SET_BRACKETS ns ∷ []
 -- (a b)
-words_by ConfedSequence ns = bracketed_numbers CONFED_SEQUENCE_MARKS ns ∷ []
+words_by ConfedSequence ns = bracketed_numbers CONFED_SEQUENCE_BRACKETS ns ∷ []
 -- [a,b]
-words_by ConfedSet ns = bracketed_numbers CONFED_SET_MARKS ns ∷ []
+words_by ConfedSet ns = bracketed_numbers CONFED_SET_BRACKETS ns ∷ []
 
 -- the words of a segment
 abbrev pub segment_words : Segment → List (List ℕ)

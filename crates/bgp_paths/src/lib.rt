@@ -15,7 +15,10 @@ mod segment;
 mod text;
 
 pub use fault::WireFault;
-pub use laws::{merge_keeps_the_weight, one_merge, one_path, path_numbers, text_marks};
+pub use laws::{
+    law_merge_keeps_weight, law_octets_have_one_path, law_path_constants, law_paths_have_one_merge,
+    law_text_punctuation,
+};
 pub use list_of::ListOf;
 pub use merge::merge_paths;
 pub use numbers::{AsWidth, fill_numbers};

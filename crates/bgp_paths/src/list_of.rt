@@ -32,7 +32,7 @@ impl<T: Drop> ListOf<T> {
 
     /// Returns an empty list, without allocating memory.
     #[inline]
-    pub fn none(alloc: Global) -> Self
+    pub fn empty(alloc: Global) -> Self
         ensures { result ≡ [] }
     {
         ListOf::from_vec(Vec::new(alloc))

@@ -3,13 +3,13 @@
 
 ghost use Rattle.std.specs.Prelude.{◌≡◌, [], OnOk, IfErr};
 ghost use Rattle.ip_prefix.specs.Sequences.{SpellsAll};
-ghost use Rattle.bgp_paths.specs.Readers.{no_path, Refuses};
+ghost use Rattle.bgp_paths.specs.Readers.{empty_path, Refuses};
 ghost use Rattle.bgp_paths.specs.Path.{SpellsSegment, SpellsPath};
 
 use crate::fault::WireFault;
 use crate::list_of::ListOf;
 use crate::numbers::AsWidth;
-use crate::path_reader::{fill_segments, fit};
+use crate::path_reader::{fill_segments, shrink_if_spare};
 use crate::segment::Segment;
 use std::alloc::{AllocError, Global};
 
@@ -34,22 +34,22 @@ pub struct AsPath {
 impl AsPath {
     /// Returns a path without segments, without allocating memory.
     #[inline]
-    pub fn none(alloc: Global) -> AsPath
-        ensures { result ≡ no_path }
+    pub fn empty(alloc: Global) -> AsPath
+        ensures { result ≡ empty_path }
     {
         AsPath {
-            segments: Segments::none(alloc),
+            segments: Segments::empty(alloc),
         }
     }
 
     /// Removes all segments. Capacity for more than four segments is freed.
     #[inline]
     pub fn clear(&mut self)
-        ensures { self.new ≡ no_path }
+        ensures { self.new ≡ empty_path }
     {
         let segments = &mut self.segments.items;
         segments.clear();
-        fit(segments);
+        shrink_if_spare(segments);
     }
 
     /// Parses `octets` as an AS path with AS numbers of `width` (RFC 4271, section 4.3), and

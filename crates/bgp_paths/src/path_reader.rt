@@ -5,7 +5,7 @@ ghost use Rattle.std.specs.Prelude.{◌≡◌, ℕ, [], ◌∷◌, ◌++◌, OnO
 ghost use Rattle.ip_prefix.specs.Sequences.{SpellsAll};
 ghost use Rattle.ip_prefix.specs.Fronts.{BeginsWithNone};
 ghost use Rattle.bgp_paths.specs.Path.{SpellsAsn, SpellsSegment};
-ghost use Rattle.bgp_paths.specs.Readers.{IsFramed, Refuses};
+ghost use Rattle.bgp_paths.specs.Readers.{IsSplitSegment, Refuses};
 
 use crate::fault::WireFault;
 use crate::numbers::{AsWidth, fill_numbers};
@@ -28,7 +28,7 @@ const MOST_SPARE: usize = 4;
 /// A segment at the start of a slice: its kind (RFC 4271, section 4.3; RFC 5065, section 3), the
 /// octets of its AS numbers, and the octets after it.
 #[derive(Clone, Copy)]
-struct FramedSegment<'a> {
+struct SegmentAndRest<'a> {
     kind: SegmentKind,
     body: &'a [u8],
     rest: &'a [u8],
@@ -38,9 +38,9 @@ struct FramedSegment<'a> {
 /// parsed. Returns `None` if its type is unknown, its count of AS numbers is 0, or `octets` ends
 /// inside it.
 #[inline(always)]
-fn frame_segment(width: AsWidth, octets: &[u8]) -> Option<FramedSegment<'_>>
+fn split_segment(width: AsWidth, octets: &[u8]) -> Option<SegmentAndRest<'_>>
     ensures some { IfSome result (λ f. (count : ℕ)
-        × IsFramed width f.kind count f.body.now f.rest.now octets.now) }
+        × IsSplitSegment width f.kind count f.body.now f.rest.now octets.now) }
     ensures none { IfNone result (BeginsWithNone (SpellsSegment width) octets.now) }
 {
     let (&code, after_code) = octets.split_first()?;
@@ -57,7 +57,7 @@ fn frame_segment(width: AsWidth, octets: &[u8]) -> Option<FramedSegment<'_>>
     }
     let size = usize::from(count) * width.octets();
     let (body, rest) = numbers.split_at_checked(size)?;
-    Some(FramedSegment { kind, body, rest })
+    Some(SegmentAndRest { kind, body, rest })
 }
 
 /// Shrinks the capacity of `segments` to their number. If memory allocation fails, the capacity is
@@ -73,7 +73,7 @@ fn shrink(segments: &mut Vec<Segment>)
 /// Shrinks the capacity of `segments` to their number if it is more than [`MOST_SPARE`] above it.
 /// If memory allocation fails, the capacity is unchanged.
 #[inline(always)]
-pub(crate) fn fit(segments: &mut Vec<Segment>)
+pub(crate) fn shrink_if_spare(segments: &mut Vec<Segment>)
     ensures { segments.new.items ≡ segments.old.items }
 {
     if segments.capacity() - segments.len() > MOST_SPARE {
@@ -83,7 +83,10 @@ pub(crate) fn fit(segments: &mut Vec<Segment>)
 
 /// Appends a sequence without AS numbers to `segments`. On error, `segments` is unspecified.
 #[inline(never)]
-pub(crate) fn push_empty(alloc: Global, segments: &mut Vec<Segment>) -> Result<(), AllocError>
+pub(crate) fn push_empty_segment(
+    alloc: Global,
+    segments: &mut Vec<Segment>,
+) -> Result<(), AllocError>
     ensures { OnOk result (segments.new.items ≡ segments.old.items
         ++ record { numbers = []; kind = SegmentKind.AsSequence } ∷ []) }
 {
@@ -91,7 +94,7 @@ pub(crate) fn push_empty(alloc: Global, segments: &mut Vec<Segment>) -> Result<(
     if segments.capacity() == 0 {
         segments.reserve_exact(1)?;
     }
-    let (numbers, kind) = (AsNumbers::none(alloc), SegmentKind::AsSequence);
+    let (numbers, kind) = (AsNumbers::empty(alloc), SegmentKind::AsSequence);
     segments.push(Segment { numbers, kind })?;
     Ok(())
 }
@@ -113,11 +116,11 @@ pub(crate) fn fill_segments(
     let mut count = 0;
     let mut rest = octets;
     while !rest.is_empty() {
-        let Some(framed) = frame_segment(width, rest) else {
+        let Some(framed) = split_segment(width, rest) else {
             return Err(WireFault::Malformed);
         };
         if count == segments.len() {
-            push_empty(alloc, segments)?;
+            push_empty_segment(alloc, segments)?;
         }
         let segment = &mut segments[count];
         segment.kind = framed.kind;
@@ -127,6 +130,6 @@ pub(crate) fn fill_segments(
         rest = framed.rest;
     }
     segments.truncate(count);
-    fit(segments);
+    shrink_if_spare(segments);
     Ok(())
 }

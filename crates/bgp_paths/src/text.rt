@@ -5,11 +5,11 @@ ghost use Rattle.std.specs.Prelude.{◌≡◌, ◌+◌, ◌<◌, ◌≤◌, [], 
 ghost use Rattle.bgp_paths.specs.Text.{bracketed_numbers, segment_words, path_text, halves_text, communities_text};
 ghost use Rattle.ip_prefix.specs.Written.{IsWritten, ended_words};
 ghost use Rattle.octet_text.specs.declared.cursor.TheConstants.{SPACE};
-ghost use Rattle.bgp_paths.specs.Readers.{StillBegins, WordsJoined};
+ghost use Rattle.bgp_paths.specs.Readers.{StillBegins, JoinsWords};
 
 use crate::path::AsPath;
 use crate::segment::{Segment, SegmentKind};
-use ip_prefix::{COLON, SPACE, Text, WORD_ROOM, Word, put_octets, write_ended_decimal};
+use ip_prefix::{COLON, SPACE, Text, WORD_ROOM, WordFormat, put_octets, write_ended_decimal};
 use std::alloc::AllocError;
 
 /// The community of routes that are not to be announced outside the AS or confederation (RFC 1997).
@@ -22,7 +22,7 @@ const NO_EXPORT_SUBCONFED: u32 = 0xFFFF_FF03;
 
 /// The octets around the numbers of a segment in brackets, and between the numbers.
 #[derive(Clone, Copy)]
-struct Marks {
+struct Brackets {
     /// The octet before the first number.
     open: u8,
     /// The octet between two numbers.
@@ -32,21 +32,21 @@ struct Marks {
 }
 
 /// The octets of a set, as in `{1,2}`.
-const AS_SET_MARKS: Marks = Marks {
+const AS_SET_BRACKETS: Brackets = Brackets {
     open: b'{',
     separator: b',',
     close: b'}',
 };
 
 /// The octets of a sequence of members of a confederation, as in `(1 2)`.
-const CONFED_SEQUENCE_MARKS: Marks = Marks {
+const CONFED_SEQUENCE_BRACKETS: Brackets = Brackets {
     open: b'(',
     separator: SPACE,
     close: b')',
 };
 
 /// The octets of a set of members of a confederation, as in `[1,2]`.
-const CONFED_SET_MARKS: Marks = Marks {
+const CONFED_SET_BRACKETS: Brackets = Brackets {
     open: b'[',
     separator: b',',
     close: b']',
@@ -91,7 +91,7 @@ pub fn append_communities(communities: &[u32], text: &mut Text) -> Result<(), Al
     ensures unchanged { OnErr result (text.new ≡ text.old) }
 {
     let before = text.len();
-    text.put_ended_words::<CommunityWord>(communities, SPACE)?;
+    text.put_ended_words::<CommunityFormat>(communities, SPACE)?;
     drop_separator(before, text);
     Ok(())
 }
@@ -112,7 +112,7 @@ pub fn put_communities(communities: &[u32], text: &mut Vec<u8>) -> Result<(), Al
 /// Removes the last octet of `text`, which is the separator after its last word. If `text` has only
 /// the `before` octets that it had before the words, it is unchanged.
 fn drop_separator(before: usize, text: &mut Text)
-    ensures { WordsJoined before text.old text.new }
+    ensures { JoinsWords before text.old text.new }
 {
     let end = text.len().saturating_sub(1).max(before);
     text.truncate(end);
@@ -129,9 +129,9 @@ fn put_segments(segments: &[Segment], text: &mut Text) -> Result<(), AllocError>
         let numbers = segment.numbers.as_slice();
         match segment.kind {
             SegmentKind::AsSequence => text.put_ended_decimals(numbers, SPACE)?,
-            SegmentKind::AsSet => put_bracketed(numbers, AS_SET_MARKS, text)?,
-            SegmentKind::ConfedSequence => put_bracketed(numbers, CONFED_SEQUENCE_MARKS, text)?,
-            SegmentKind::ConfedSet => put_bracketed(numbers, CONFED_SET_MARKS, text)?,
+            SegmentKind::AsSet => put_bracketed(numbers, AS_SET_BRACKETS, text)?,
+            SegmentKind::ConfedSequence => put_bracketed(numbers, CONFED_SEQUENCE_BRACKETS, text)?,
+            SegmentKind::ConfedSet => put_bracketed(numbers, CONFED_SET_BRACKETS, text)?,
         }
     }
     Ok(())
@@ -139,7 +139,7 @@ fn put_segments(segments: &[Segment], text: &mut Text) -> Result<(), AllocError>
 
 /// Appends `numbers` in brackets, with the octets of `marks`, and then a space. On error, `text`
 /// still begins with what it had, and the rest is unspecified.
-fn put_bracketed(numbers: &[u32], marks: Marks, text: &mut Text) -> Result<(), AllocError>
+fn put_bracketed(numbers: &[u32], marks: Brackets, text: &mut Text) -> Result<(), AllocError>
     ensures appended { OnOk result (text.new ≡
         text.old ++ ended_words SPACE (bracketed_numbers marks numbers.now ∷ [])) }
     ensures kept { OnErr result (StillBegins text.old text.new) }
@@ -153,9 +153,9 @@ fn put_bracketed(numbers: &[u32], marks: Marks, text: &mut Text) -> Result<(), A
 
 /// How communities are written as words: three well-known ones by name, and each other as its two
 /// 16-bit halves in decimal, joined by a colon.
-struct CommunityWord;
+struct CommunityFormat;
 
-impl Word for CommunityWord {
+impl WordFormat for CommunityFormat {
     ghost use Rattle.bgp_paths.specs.Text.{community_text};
 
     ghost word = { community_text };
@@ -165,9 +165,9 @@ impl Word for CommunityWord {
     fn write_ended(community: u32, end: u8, text: &mut [u8], at: usize) -> usize {
         match community {
             _ if community < NO_EXPORT => write_halves(community, end, text, at),
-            NO_EXPORT => write_name(b"no-export", end, text, at),
-            NO_ADVERTISE => write_name(b"no-advertise", end, text, at),
-            NO_EXPORT_SUBCONFED => write_name(b"local-AS", end, text, at),
+            NO_EXPORT => write_community_name(b"no-export", end, text, at),
+            NO_ADVERTISE => write_community_name(b"no-advertise", end, text, at),
+            NO_EXPORT_SUBCONFED => write_community_name(b"local-AS", end, text, at),
             _ => write_halves(community, end, text, at),
         }
     }
@@ -188,7 +188,7 @@ fn write_halves(number: u32, end: u8, text: &mut [u8], at: usize) -> usize
 /// Writes `name`, which is of a community, and then the octet `end` into `text` at offset `at`.
 /// Returns the offset of the octet after `end`.
 #[inline(always)]
-fn write_name(name: &[u8], end: u8, text: &mut [u8], at: usize) -> usize
+fn write_community_name(name: &[u8], end: u8, text: &mut [u8], at: usize) -> usize
     requires { at + length name.now < length text.old }
     ensures written { IsWritten text.old at (name.now ++ end ∷ []) text.new result }
     ensures short { result ≡ at + length name.now + 1 }

@@ -62,9 +62,9 @@ SpellsOptional Spells None (Some octets) = ⊥
 SpellsOptional Spells (Some content) None = ⊥
 
 -- the octets of a value, and no octets if it is absent
-abbrev pub octets_or_none : Option (List ℕ) → List ℕ
-octets_or_none None = []
-octets_or_none (Some octets) = octets
+abbrev pub octets_or_empty : Option (List ℕ) → List ℕ
+octets_or_empty None = []
+octets_or_empty (Some octets) = octets
 
 -- an attribute without content is present, with no octets, exactly if the flag is true
 abbrev pub SpellsPresence : Bool → Option (List ℕ) → Type 0

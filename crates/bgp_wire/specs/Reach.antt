@@ -15,20 +15,20 @@ use Rattle.bgp_wire.specs.declared.reach.TheConstants.{AFI_IPV4, AFI_IPV6, SAFI_
 
 -- the octets may follow the address of a next hop: none, or after one of IPv6 sixteen, which should be a
 -- link-local address and may be any
-abbrev pub IsLinkLocal : Family → List ℕ → Type 0
-IsLinkLocal V4 octets = octets ≡ []
-IsLinkLocal V6 octets = (octets ≡ []) ⊎ (length octets ≡ LINK_LOCAL_SIZE)
+abbrev pub MayTrailHop : Family → List ℕ → Type 0
+MayTrailHop V4 octets = octets ≡ []
+MayTrailHop V6 octets = (octets ≡ []) ⊎ (length octets ≡ LINK_LOCAL_SIZE)
 
 -- the octets are the address of a next hop, after one of IPv6 perhaps with a link-local address
 pub record SpellsNextHop (hop : Address) (octets : List ℕ) : Type 0 where
   pub address : List ℕ
   pub spelled : SpellsAddressOctets hop address
   pub link_local : List ℕ
-  pub linked : IsLinkLocal hop.family link_local
+  pub linked : MayTrailHop hop.family link_local
   pub whole : octets ≡ address ++ link_local
 
 -- the octets are the length of a next hop, the next hop, and then any octets
-pub record SpellsHopAlone (hop : Address) (octets : List ℕ) : Type 0 where
+pub record SpellsSizedHop (hop : Address) (octets : List ℕ) : Type 0 where
   pub front : List ℕ
   pub spelled : SpellsNextHop hop front
   pub more : List ℕ
@@ -36,17 +36,17 @@ pub record SpellsHopAlone (hop : Address) (octets : List ℕ) : Type 0 where
 
 -- the octets are an AFI and a SAFI, of three octets, the length of a next hop, the next hop, and then any
 -- octets. The first octet of the AFI is 0, and the other two may be any
-pub record SpellsHopInFull (hop : Address) (octets : List ℕ) : Type 0 where
+pub record SpellsHopAfterFamily (hop : Address) (octets : List ℕ) : Type 0 where
   pub family_end : ℕ
   pub subsequent : ℕ
   pub rest : List ℕ
-  pub spelled : SpellsHopAlone hop rest
+  pub spelled : SpellsSizedHop hop rest
   pub whole : octets ≡ 0 ∷ family_end ∷ subsequent ∷ rest
 
 -- the octets are the value of MP_REACH_NLRI in a RIB entry: the next hop alone, or in full with an AFI and a
 -- SAFI
 abbrev pub SpellsRibHop : Address → List ℕ → Type 0
-SpellsRibHop hop octets = SpellsHopAlone hop octets ⊎ SpellsHopInFull hop octets
+SpellsRibHop hop octets = SpellsSizedHop hop octets ⊎ SpellsHopAfterFamily hop octets
 
 -- the next hop of a RIB entry for a prefix of this family, by those of NEXT_HOP (`own`) and MP_REACH_NLRI
 -- (`reached`): for IPv4 the first if it is present, for IPv6 the second, and else the other
@@ -66,7 +66,7 @@ abbrev pub unicast_octets : Family → List ℕ
 unicast_octets family = 0 ∷ family_code family ∷ SAFI_UNICAST ∷ []
 
 -- the octets begin with an AFI and a SAFI, of three octets, other than those of IPv4 or IPv6 unicast
-pub record IsOfAnother (octets : List ℕ) : Type 0 where
+pub record HasOtherAfiSafi (octets : List ℕ) : Type 0 where
   pub high : ℕ
   pub low : ℕ
   pub subsequent : ℕ
@@ -75,7 +75,7 @@ pub record IsOfAnother (octets : List ℕ) : Type 0 where
   pub other : (family : Family) → high ∷ low ∷ subsequent ∷ [] ≡ unicast_octets family → ⊥
 
 -- the octets are the length of a next hop, the next hop, a reserved octet, which may be any, and then `rest`
-pub record HopStands (hop : Address) (rest octets : List ℕ) : Type 0 where
+pub record BeginsWithHop (hop : Address) (rest octets : List ℕ) : Type 0 where
   pub front : List ℕ
   pub spelled : SpellsNextHop hop front
   pub reserved : ℕ
@@ -88,14 +88,14 @@ pub record Reach : Type 0 where
 
 -- the octets, which follow the AFI and the SAFI, are the length of a next hop, the next hop, a reserved
 -- octet, and prefixes of this family
-pub record SpellsUnicast (family : Family) (reach : Reach) (octets : List ℕ) : Type 0 where
+pub record SpellsReach (family : Family) (reach : Reach) (octets : List ℕ) : Type 0 where
   pub body : List ℕ
-  pub stands : HopStands reach.hop body octets
+  pub stands : BeginsWithHop reach.hop body octets
   pub spelled : SpellsAll (SpellsNetwork family) reach.prefixes body
 
 -- the octets are the AFI and the SAFI of unicast of some family, and then what `Spells` says for this family
 -- and value
-pub record IsUnicast {A : Type 0} (Spells : Family → A → List ℕ → Type 0) (value : A) (octets : List ℕ) : Type 0 where
+pub record SpellsAfterUnicast {A : Type 0} (Spells : Family → A → List ℕ → Type 0) (value : A) (octets : List ℕ) : Type 0 where
   pub family : Family
   pub rest : List ℕ
   pub whole : octets ≡ unicast_octets family ++ rest
@@ -103,17 +103,17 @@ pub record IsUnicast {A : Type 0} (Spells : Family → A → List ℕ → Type 0
 
 -- the value of MP_REACH_NLRI has this content; `None` if it is absent or of another AFI or SAFI than IPv4 or
 -- IPv6 unicast
-abbrev pub SaysReach : Option Reach → Option (List ℕ) → Type 0
-SaysReach None None = Unit {0}
-SaysReach None (Some octets) = IsOfAnother octets
-SaysReach (Some reach) (Some octets) = IsUnicast SpellsUnicast reach octets
-SaysReach (Some reach) None = ⊥
+abbrev pub SpellsMpReach : Option Reach → Option (List ℕ) → Type 0
+SpellsMpReach None None = Unit {0}
+SpellsMpReach None (Some octets) = HasOtherAfiSafi octets
+SpellsMpReach (Some reach) (Some octets) = SpellsAfterUnicast SpellsReach reach octets
+SpellsMpReach (Some reach) None = ⊥
 
 -- the value of MP_UNREACH_NLRI withdraws these prefixes; none if it is absent or of another AFI or SAFI than
 -- IPv4 or IPv6 unicast
-abbrev pub SaysUnreach : List Network → Option (List ℕ) → Type 0
-SaysUnreach prefixes None = prefixes ≡ []
-SaysUnreach prefixes (Some octets) = (IsOfAnother octets × (prefixes ≡ [])) ⊎ IsUnicast (λ family. SpellsAll (SpellsNetwork family)) prefixes octets
+abbrev pub SpellsMpUnreach : List Network → Option (List ℕ) → Type 0
+SpellsMpUnreach prefixes None = prefixes ≡ []
+SpellsMpUnreach prefixes (Some octets) = (HasOtherAfiSafi octets × (prefixes ≡ [])) ⊎ SpellsAfterUnicast (λ family. SpellsAll (SpellsNetwork family)) prefixes octets
 
 -- the prefixes of an MP_REACH_NLRI; none if it is absent
 abbrev pub reach_prefixes : Option Reach → List Network
@@ -126,11 +126,11 @@ reach_hop None = None
 reach_hop (Some reach) = Some reach.hop
 
 -- the attributes with this next hop, or `None` if there are no prefixes
-abbrev pub attrs_with : Attrs → Option Address → List Network → Option Attrs
-attrs_with attrs hop [] = None
-attrs_with attrs hop (prefix ∷ prefixes) = Some record attrs { next_hop = hop }
+abbrev pub attrs_with_next_hop : Attrs → Option Address → List Network → Option Attrs
+attrs_with_next_hop attrs hop [] = None
+attrs_with_next_hop attrs hop (prefix ∷ prefixes) = Some record attrs { next_hop = hop }
 
 -- the attributes of the prefixes of an MP_REACH_NLRI, which are those of the UPDATE with its next hop; `None`
 -- if there are no prefixes
 abbrev pub reach_attrs : Attrs → Option Reach → Option Attrs
-reach_attrs attrs reach = attrs_with attrs (reach_hop reach) (reach_prefixes reach)
+reach_attrs attrs reach = attrs_with_next_hop attrs (reach_hop reach) (reach_prefixes reach)

@@ -2,8 +2,8 @@
 //! entries set. Read [`Attrs`] first.
 
 ghost use Rattle.std.specs.Prelude.{◌≡◌, OnOk, OnErr};
-ghost use Rattle.bgp_wire.specs.Parts.{no_attrs, without_lists};
-ghost use Rattle.bgp_paths.specs.Readers.{no_path};
+ghost use Rattle.bgp_wire.specs.Parts.{absent_attrs, without_path_and_communities};
+ghost use Rattle.bgp_paths.specs.Readers.{empty_path};
 
 use bgp_paths::{AsPath, ListOf, copy_numbers, copy_path};
 use ip_prefix::Addr;
@@ -61,14 +61,14 @@ pub struct Attrs {
 
 impl Attrs {
     /// Returns attributes that are all absent, without allocating memory.
-    pub fn none(alloc: Global) -> Attrs
-        ensures { result ≡ no_attrs }
+    pub fn empty(alloc: Global) -> Attrs
+        ensures { result ≡ absent_attrs }
     {
         Attrs {
             next_hop: None,
             aggregator: None,
-            path: AsPath::none(alloc),
-            communities: Communities::none(alloc),
+            path: AsPath::empty(alloc),
+            communities: Communities::empty(alloc),
             med: None,
             local_pref: None,
             origin: None,
@@ -80,12 +80,12 @@ impl Attrs {
 /// Replaces `attrs` with a copy of `other`, and reuses its memory. On error, which means that
 /// memory allocation fails, the path and the communities of `attrs` are empty, and the rest of it
 /// is unchanged.
-pub fn replace_attrs(alloc: Global, attrs: &mut Attrs, other: &Attrs) -> Result<(), AllocError>
+pub fn clone_attrs_from(alloc: Global, attrs: &mut Attrs, other: &Attrs) -> Result<(), AllocError>
     ensures replaced { OnOk result (attrs.new ≡ other.now) }
-    ensures left { OnErr result (attrs.new ≡ without_lists attrs.old) }
+    ensures left { OnErr result (attrs.new ≡ without_path_and_communities attrs.old) }
 {
-    let none = Communities::none(alloc);
-    let path = mem::replace(&mut attrs.path, AsPath::none(alloc));
+    let none = Communities::empty(alloc);
+    let path = mem::replace(&mut attrs.path, AsPath::empty(alloc));
     let communities = mem::replace(&mut attrs.communities, none).into_vec();
     let path = copy_path(alloc, path, &other.path)?;
     let communities = copy_numbers(communities, other.communities.as_slice(), MOST_SPARE)?;

@@ -43,7 +43,7 @@ pub(crate) const AS4_AGGREGATOR: u8 = 18;
 
 /// An attribute at the start of a slice: its type, its value, and the octets after it.
 #[derive(Clone, Copy)]
-pub(crate) struct FramedAttribute<'a> {
+pub(crate) struct AttributeAndRest<'a> {
     pub(crate) value: &'a [u8],
     pub(crate) rest: &'a [u8],
     pub(crate) kind: u8,
@@ -72,7 +72,7 @@ fn split_length(flags: u8, octets: &[u8]) -> Option<(usize, &[u8])>
 /// Splits an attribute off the start of `octets` (RFC 4271, section 4.3). Returns `None` if
 /// `octets` ends inside the attribute.
 #[inline]
-pub(crate) fn split_attribute(octets: &[u8]) -> Option<FramedAttribute<'_>>
+pub(crate) fn split_attribute(octets: &[u8]) -> Option<AttributeAndRest<'_>>
     ensures some { IfSome result (λ f. (flags : ℕ) × Begins SpellsAttribute
         record { flags = flags; kind = f.kind; value = f.value.now } f.rest.now octets.now) }
     ensures none { IfNone result (BeginsWithNone SpellsAttribute octets.now) }
@@ -81,5 +81,5 @@ pub(crate) fn split_attribute(octets: &[u8]) -> Option<FramedAttribute<'_>>
     let (&kind, after_kind) = after_flags.split_first()?;
     let (len, body) = split_length(flags, after_kind)?;
     let (value, rest) = body.split_at_checked(len)?;
-    Some(FramedAttribute { value, rest, kind })
+    Some(AttributeAndRest { value, rest, kind })
 }

@@ -29,12 +29,12 @@ pub(crate) fn fill_prefixes(
         prefixes.items.clear();
         return Ok(());
     }
-    fill_some_prefixes(prefixes, family, octets)
+    fill_nonempty_prefixes(prefixes, family, octets)
 }
 
 /// Parses `octets` as [`fill_prefixes`] does, out of line.
 #[inline(never)]
-fn fill_some_prefixes(
+fn fill_nonempty_prefixes(
     prefixes: &mut Prefixes,
     family: Family,
     octets: &[u8],

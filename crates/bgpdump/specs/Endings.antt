@@ -1,18 +1,18 @@
 -- Private.
--- What a run of the program leaves in its devices, and how the program ends. Read `LeavesSo` first.
+-- What a run of the program leaves in its devices, and how the program ends. Read `LeavesTexts` first.
 use Rattle.std.specs.Prelude.{◌≡◌, ◌≤◌, ℕ, ◌^◌, List, [], length, Option, Some, None, IfSome, IsTrue, ◌⊎◌, codes}
 use Rattle.std.specs.Io.KnownBytes.{Keeps}
 use Rattle.std.specs.Io.Buffered.{reader_remaining, writer_contents}
 use Rattle.mrt_wire.specs.declared.BufferedInput.{BufferedInput}
 use Rattle.mrt_wire.specs.declared.Stamp.{Stamp}
-use Rattle.mrt_wire.specs.Results.{Took, Finding, Splits, Frame}
-use Rattle.bgpdump_tool.specs.Run.{EndedByInput, EndsSo, Outputs, OverTaken, Texts, Writes, all_results, outputs_of}
-use Rattle.bgpdump_tool.specs.Course.{OverLines, play_texts}
+use Rattle.mrt_wire.specs.Results.{TakesFront, RecordResult, Splits, Frame}
+use Rattle.bgpdump_tool.specs.Run.{EndedByInput, EndsWithTexts, Outputs, HoldsForTaken, Texts, Writes, all_results, outputs_of}
+use Rattle.bgpdump_tool.specs.Course.{HoldsForLines, play_texts}
 use Rattle.bgpdump_tool.specs.declared.play.TheConstants.{LONGEST_SCRIPT}
 use Rattle.bgpdump.specs.declared.run.Devices.{Devices}
-use Rattle.bgpdump.specs.declared.run.Ended.{Ended}
-use Rattle.bgpdump.specs.declared.run.Streams.{Streams}
-use Rattle.bgpdump_tool.specs.Going.{status_of}
+use Rattle.bgpdump.specs.declared.run.FinishedRun.{FinishedRun}
+use Rattle.bgpdump.specs.declared.run.BufferedStreams.{BufferedStreams}
+use Rattle.bgpdump_tool.specs.WrittenSoFar.{exit_status}
 use Rattle.bgpdump_tool.specs.declared.Outcome.{Outcome}
 use Rattle.bgpdump_tool.specs.declared.Outcome.TheVariants.{ReadFault, WriteFault, InputTooLong, ScriptTooLong, Memory}
 use Rattle.bgpdump.specs.declared.ending.Instructions.{Instructions}
@@ -24,16 +24,16 @@ use Rattle.bgpdump_tool.specs.declared.UsageFault.TheVariants as usage
 
 -- `IsSo` holds of the octets of the writers that a run gives back, where `contents` and `contents'` know
 -- them. Holds if it gives none back.
-abbrev pub OverWriters : {O E : Type 0} → (O → Option (List ℕ)) → (E → Option (List ℕ)) → (Outputs → Type 0) → Option (O × E) → Type 0
-OverWriters contents contents' IsSo writers = IfSome writers (λ both. IsSo (outputs_of contents contents' both.0 both.1))
+abbrev pub HoldsForWriters : {O E : Type 0} → (O → Option (List ℕ)) → (E → Option (List ℕ)) → (Outputs → Type 0) → Option (O × E) → Type 0
+HoldsForWriters contents contents' IsSo writers = IfSome writers (λ both. IsSo (outputs_of contents contents' both.0 both.1))
 
 -- `Relates` holds between the octets of the writers before the run and after it. Holds if the run gives no
 -- writers back.
-abbrev pub Leaves : {R O E : Type 0} → (O → Option (List ℕ)) → (E → Option (List ℕ)) → (Outputs → Outputs → Type 0) → Devices R O E → Ended R O E → Type 0
-Leaves contents contents' Relates devices ended = OverWriters contents contents' (Relates (outputs_of contents contents' devices.out devices.err)) ended.writers
+abbrev pub Leaves : {R O E : Type 0} → (O → Option (List ℕ)) → (E → Option (List ℕ)) → (Outputs → Outputs → Type 0) → Devices R O E → FinishedRun R O E → Type 0
+Leaves contents contents' Relates devices ended = HoldsForWriters contents contents' (Relates (outputs_of contents contents' devices.out devices.err)) ended.writers
 
 -- The octets that the outputs of a run have got, with those that are still in their buffers.
-abbrev pub buffered_outputs : {R O E : Type 0} → (O → Option (List ℕ)) → (E → Option (List ℕ)) → Streams R O E → Outputs
+abbrev pub buffered_outputs : {R O E : Type 0} → (O → Option (List ℕ)) → (E → Option (List ℕ)) → BufferedStreams R O E → Outputs
 buffered_outputs contents contents' streams =
     outputs_of (λ out. writer_contents contents out.output.writer) (λ err. writer_contents contents' err.output.writer) streams.out streams.err
 
@@ -57,35 +57,35 @@ HasTaken remaining Relates reader input = IfSome input (λ input. Relates (remai
 
 -- If the reader shows its octets, the writers have got the texts of their results as `EndsWithTexts` says.
 -- Holds if the run gives no writers back.
-abbrev pub LeavesSo : {R O E : Type 0} → (R → Option (List ℕ)) → (O → Option (List ℕ)) → (E → Option (List ℕ)) → Stamp → (List Finding → Texts) → Devices R O E → Ended R O E → Type 0
-LeavesSo remaining contents contents' stamp texts devices ended =
+abbrev pub LeavesTexts : {R O E : Type 0} → (R → Option (List ℕ)) → (O → Option (List ℕ)) → (E → Option (List ℕ)) → Stamp → (List RecordResult → Texts) → Devices R O E → FinishedRun R O E → Type 0
+LeavesTexts remaining contents contents' stamp texts devices ended =
     (octets : List ℕ) (frames : List Frame) (rest : List ℕ) → remaining devices.reader ≡ Some octets → Splits stamp None octets frames rest
-    → Leaves contents contents' (EndsSo ended.outcome (texts (all_results stamp frames rest))) devices ended
+    → Leaves contents contents' (EndsWithTexts ended.outcome (texts (all_results stamp frames rest))) devices ended
 
 -- Writers that held nothing before the run hold the texts of the results of `octets` as `EndsWithTexts` says,
 -- and nothing else. Holds if the run gives no writers back.
-abbrev pub HoldTexts : {R O E : Type 0} → (O → Option (List ℕ)) → (E → Option (List ℕ)) → Stamp → (List Finding → Texts) → List ℕ → Ended R O E → Type 0
+abbrev pub HoldTexts : {R O E : Type 0} → (O → Option (List ℕ)) → (E → Option (List ℕ)) → Stamp → (List RecordResult → Texts) → List ℕ → FinishedRun R O E → Type 0
 HoldTexts contents contents' stamp texts octets ended =
     (frames : List Frame) (rest : List ℕ) → Splits stamp None octets frames rest
-    → OverWriters contents contents' (EndsSo ended.outcome (texts (all_results stamp frames rest)) (record { out = Some []; err = Some [] })) ended.writers
+    → HoldsForWriters contents contents' (EndsWithTexts ended.outcome (texts (all_results stamp frames rest)) (record { out = Some []; err = Some [] })) ended.writers
 
 -- If the run ended as the input failed or was too long, the writers have got exactly the texts of the frames
 -- taken. Holds if the run gives no input or no writers back.
-abbrev pub LeavesWhole : {R O E : Type 0} → (R → Option (List ℕ)) → (O → Option (List ℕ)) → (E → Option (List ℕ)) → Stamp → (List Finding → Texts) → Devices R O E → Ended R O E → Type 0
-LeavesWhole remaining contents contents' stamp texts devices ended =
+abbrev pub LeavesWholeRecords : {R O E : Type 0} → (R → Option (List ℕ)) → (O → Option (List ℕ)) → (E → Option (List ℕ)) → Stamp → (List RecordResult → Texts) → Devices R O E → FinishedRun R O E → Type 0
+LeavesWholeRecords remaining contents contents' stamp texts devices ended =
     EndedByInput ended.outcome
-    → HasTaken remaining (λ left left'. OverTaken stamp left left' (λ frames rest. Leaves contents contents' (Writes (texts (all_results stamp frames []))) devices ended))
+    → HasTaken remaining (λ left left'. HoldsForTaken stamp left left' (λ frames rest. Leaves contents contents' (Writes (texts (all_results stamp frames []))) devices ended))
     devices.reader ended.input
 
 -- If the script isn't too long, writers that held nothing before the run hold the script's texts over the
 -- results of `octets` as `EndsWithTexts` says, and nothing else.
-abbrev pub HoldReplies : {R O E : Type 0} → (O → Option (List ℕ)) → (E → Option (List ℕ)) → Stamp → List ℕ → List ℕ → Ended R O E → Type 0
+abbrev pub HoldReplies : {R O E : Type 0} → (O → Option (List ℕ)) → (E → Option (List ℕ)) → Stamp → List ℕ → List ℕ → FinishedRun R O E → Type 0
 HoldReplies contents contents' stamp script octets ended =
-    length script ≤ LONGEST_SCRIPT → OverLines script (λ lines. HoldTexts contents contents' stamp (play_texts lines) octets ended)
+    length script ≤ LONGEST_SCRIPT → HoldsForLines script (λ lines. HoldTexts contents contents' stamp (play_texts lines) octets ended)
 
 -- 2^40 octets were taken from the input, where they are known.
-abbrev pub TookMost : Option (List ℕ) → Option (List ℕ) → Type 0
-TookMost left left' = (taken after : List ℕ) → Took left left' taken after → length taken ≡ 2 ^ 40
+abbrev pub TookInputLimit : Option (List ℕ) → Option (List ℕ) → Type 0
+TookInputLimit left left' = (taken after : List ℕ) → TakesFront left left' taken after → length taken ≡ 2 ^ 40
 
 -- ---- how the program ends: its exit status, and its last message
 
@@ -94,11 +94,11 @@ TookMost left left' = (taken after : List ℕ) → Took left left' taken after �
 -- the run's outcome.
 abbrev pub ending_status : Ending → ℕ
 ending_status (Usage (usage.Help text)) = 0
-ending_status (Usage usage.Memory) = status_of Memory
+ending_status (Usage usage.Memory) = exit_status Memory
 ending_status (Usage fault) = 2
 ending_status (NotOpened name cause) = 3
-ending_status (NotRead instructions error) = status_of ReadFault
-ending_status (Ran outcome) = status_of outcome
+ending_status (NotRead instructions error) = exit_status ReadFault
+ending_status (Ran outcome) = exit_status outcome
 
 -- The outcome is one of a run that an error of reading keeps from starting: ReadFault or Memory.
 abbrev pub IsReadOutcome : Outcome → Type 0
@@ -112,9 +112,9 @@ IsNotRead instructions other = ⊥
 
 -- The outcome of a run that ended with this outcome, and whose writers then failed: Memory stays, any other
 -- one becomes WriteFault.
-abbrev pub lost_outcome : Outcome → Outcome
-lost_outcome Memory = Memory
-lost_outcome outcome = WriteFault
+abbrev pub outcome_without_writers : Outcome → Outcome
+outcome_without_writers Memory = Memory
+outcome_without_writers outcome = WriteFault
 
 -- The last message without the program's name. None if there is no message, or if it has the name of a file
 -- or a text of `clap`.

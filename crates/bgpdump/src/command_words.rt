@@ -13,7 +13,7 @@ const PLAIN_MARKS: &[u8] = b"%+,-./:@_";
 
 /// The name of a file, displayed as a word of a shell command.
 #[derive(Clone, Copy)]
-pub struct FileWord<'a>(pub &'a str);
+pub struct QuotedName<'a>(pub &'a str);
 
 /// The command line of these settings, but with standard input as its input, displayed as a shell
 /// command.
@@ -21,11 +21,11 @@ pub struct FileWord<'a>(pub &'a str);
 pub struct PipedCommand<'a>(pub &'a Settings);
 
 /// Returns `true` if a shell takes this octet literally.
-fn is_plain(octet: u8) -> bool {
+fn needs_no_quotes(octet: u8) -> bool {
     octet.is_ascii_alphanumeric() || PLAIN_MARKS.contains(&octet)
 }
 
-impl fmt::Display for FileWord<'_> {
+impl fmt::Display for QuotedName<'_> {
     /// Writes the name, in single quotes unless a shell takes all of it literally, and with `./` ahead if
     /// it would be an option. Writes `FILE` for a name with control characters.
     fn fmt<W: fmt::Write>(&self, f: &mut fmt::Formatter<W>) -> fmt::Result {
@@ -35,7 +35,7 @@ impl fmt::Display for FileWord<'_> {
         }
         let front = if name.starts_with('-') { "./" } else { "" };
         f.write_str(front)?;
-        if !name.is_empty() && name.as_bytes().iter().all(|octet| is_plain(*octet)) {
+        if !name.is_empty() && name.as_bytes().iter().all(|octet| needs_no_quotes(*octet)) {
             return f.write_str(name);
         }
         f.write_str("'")?;
@@ -58,7 +58,7 @@ impl fmt::Display for PipedCommand<'_> {
                 f.write_str("bgpdump --play SCRIPT")?;
             }
             Mode::Play(script) => {
-                let script = FileWord(script.as_str());
+                let script = QuotedName(script.as_str());
                 write!(f, "bgpdump --play {script}")?;
             }
         }
@@ -66,7 +66,7 @@ impl fmt::Display for PipedCommand<'_> {
             f.write_str(" -t change")?;
         }
         if let Some(output) = &settings.output {
-            let output = FileWord(output.as_str());
+            let output = QuotedName(output.as_str());
             write!(f, " -O {output}")?;
         }
         f.write_str(" -")

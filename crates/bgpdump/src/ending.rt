@@ -16,7 +16,7 @@ pub enum OpenFailure {
     /// The system failed to open it, with this error.
     Refused(io::Error),
     /// It is the output, and also the input or the script, which opening it would empty.
-    IsRead,
+    IsAlsoRead,
 }
 
 /// What tells the program what to do.

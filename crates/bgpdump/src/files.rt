@@ -23,14 +23,14 @@ const STANDARD_INPUT_PATHS: [&str; 2] = ["/dev/stdin", "/proc/self/fd/0"];
 /// The identity of a file: its device, and its inode there. A block device has its own device number,
 /// whatever its path, and inode 0.
 #[derive(Clone, Copy, PartialEq, Eq)]
-struct FileNumber {
+struct FileIdentity {
     device: u64,
     inode: u64,
 }
 
 /// Returns the outcome of a run that `error` keeps from starting: `Memory` for `ErrorKind::OutOfMemory`,
 /// or else `ReadFault`.
-pub fn read_outcome(error: &io::Error) -> Outcome
+pub fn outcome_of_read_error(error: &io::Error) -> Outcome
     ensures memory { (result ≡ Outcome.Memory) ↔ (error_kind error.now ≡ ErrorKind.OutOfMemory) }
     ensures other { IsReadOutcome result }
 {
@@ -42,7 +42,7 @@ pub fn read_outcome(error: &io::Error) -> Outcome
 
 /// Returns how the program ends after opening the file `name` failed with `error`: with the outcome
 /// `Memory` for `ErrorKind::OutOfMemory`, or else as `NotOpened`.
-fn not_opened<'a>(name: &'a str, error: &io::Error) -> Ending<'a>
+fn ending_of_open_error<'a>(name: &'a str, error: &io::Error) -> Ending<'a>
     ensures memory { error_kind error.now ≡ ErrorKind.OutOfMemory →
         result ≡ Ending.Ran Outcome.Memory }
     ensures other { error_kind error.now ≢ ErrorKind.OutOfMemory →
@@ -56,14 +56,14 @@ fn not_opened<'a>(name: &'a str, error: &io::Error) -> Ending<'a>
 
 /// Returns how the program ends after reading `instructions` failed with `error`: with the outcome
 /// `Memory` for `ErrorKind::OutOfMemory`, or else as `NotRead`.
-pub fn not_read<'a>(instructions: Instructions, error: &io::Error) -> Ending<'a>
+pub fn ending_of_read_error<'a>(instructions: Instructions, error: &io::Error) -> Ending<'a>
     ensures memory { error_kind error.now ≡ ErrorKind.OutOfMemory →
         result ≡ Ending.Ran Outcome.Memory }
     ensures other { error_kind error.now ≢ ErrorKind.OutOfMemory →
         result ≡ Ending.NotRead instructions error.now }
     ensures either { IsNotRead instructions result }
 {
-    match read_outcome(error) {
+    match outcome_of_read_error(error) {
         Outcome::Memory => Ending::Ran(Outcome::Memory),
         _ => Ending::NotRead(instructions, *error),
     }
@@ -71,7 +71,7 @@ pub fn not_read<'a>(instructions: Instructions, error: &io::Error) -> Ending<'a>
 
 /// Opens a folder on the file descriptor of each standard stream that is closed, so that no file that is
 /// opened later gets that descriptor. Reading from the folder, or writing to it, fails.
-pub fn hold_standard_streams(rt: &HostRuntime) {
+pub fn reserve_standard_descriptors(rt: &HostRuntime) {
     for _ in 0..STANDARD_STREAMS {
         match File::open(rt, "/") {
             Ok(folder) if folder.as_raw_fd() < STANDARD_STREAMS => {
@@ -84,7 +84,7 @@ pub fn hold_standard_streams(rt: &HostRuntime) {
 
 /// Opens the file `name` to read it. Fails with how the program ends.
 pub fn open<'a>(rt: &HostRuntime, name: &'a str) -> Result<File, Ending<'a>> {
-    File::open(rt, name).map_err(|error| not_opened(name, &error))
+    File::open(rt, name).map_err(|error| ending_of_open_error(name, &error))
 }
 
 /// Creates or empties the file `name` to write it. Fails with how the program ends, and leaves the file
@@ -94,15 +94,15 @@ pub fn create<'a>(
     settings: &Settings,
     name: &'a str,
 ) -> Result<File, Ending<'a>> {
-    match is_read(rt, settings, name) {
-        Ok(false) => File::create(rt, name).map_err(|error| not_opened(name, &error)),
-        Ok(true) => Err(Ending::NotOpened(name, OpenFailure::IsRead)),
-        Err(error) => Err(not_opened(name, &error)),
+    match is_input_or_script(rt, settings, name) {
+        Ok(false) => File::create(rt, name).map_err(|error| ending_of_open_error(name, &error)),
+        Ok(true) => Err(Ending::NotOpened(name, OpenFailure::IsAlsoRead)),
+        Err(error) => Err(ending_of_open_error(name, &error)),
     }
 }
 
 /// Returns `true` if the file `name` is the input or the script of `settings`.
-fn is_read(rt: &HostRuntime, settings: &Settings, name: &str) -> io::Result<bool> {
+fn is_input_or_script(rt: &HostRuntime, settings: &Settings, name: &str) -> io::Result<bool> {
     let is_script = match &settings.mode {
         Mode::Lines => false,
         Mode::Play(script) => is_same_file(rt, script.as_str(), name)?,
@@ -114,7 +114,7 @@ fn is_read(rt: &HostRuntime, settings: &Settings, name: &str) -> io::Result<bool
 /// the name `output`. Returns `false` if there is no such file yet, and `true` if the system can't tell
 /// what standard input is.
 fn is_same_file(rt: &HostRuntime, input: &str, output: &str) -> io::Result<bool> {
-    let Some(output) = described(rt, output)? else {
+    let Some(output) = metadata_if_present(rt, output)? else {
         return Ok(false);
     };
     if !output.is_file() && !output.file_type().is_block_device() {
@@ -122,20 +122,20 @@ fn is_same_file(rt: &HostRuntime, input: &str, output: &str) -> io::Result<bool>
     }
     let is_standard = input == STANDARD_INPUT;
     let input = if is_standard {
-        described_standard_input(rt)?
+        standard_input_metadata(rt)?
     } else {
-        described(rt, input)?
+        metadata_if_present(rt, input)?
     };
     Ok(match input {
-        Some(input) => is_one_file(FileNumber::of(&input), FileNumber::of(&output)),
+        Some(input) => is_same_identity(FileIdentity::of(&input), FileIdentity::of(&output)),
         None => is_standard,
     })
 }
 
 /// Returns the metadata of standard input, or `None` if the system has no path for it.
-fn described_standard_input(rt: &HostRuntime) -> io::Result<Option<Metadata>> {
+fn standard_input_metadata(rt: &HostRuntime) -> io::Result<Option<Metadata>> {
     for path in STANDARD_INPUT_PATHS {
-        if let Some(metadata) = described(rt, path)? {
+        if let Some(metadata) = metadata_if_present(rt, path)? {
             return Ok(Some(metadata));
         }
     }
@@ -143,7 +143,7 @@ fn described_standard_input(rt: &HostRuntime) -> io::Result<Option<Metadata>> {
 }
 
 /// Returns the metadata of the file `name`, or `None` if there is no such file.
-fn described(rt: &HostRuntime, name: &str) -> io::Result<Option<Metadata>> {
+fn metadata_if_present(rt: &HostRuntime, name: &str) -> io::Result<Option<Metadata>> {
     match fs::metadata(rt, name) {
         Ok(metadata) => Ok(Some(metadata)),
         Err(error) if error.kind() == ErrorKind::NotFound => Ok(None),
@@ -151,20 +151,20 @@ fn described(rt: &HostRuntime, name: &str) -> io::Result<Option<Metadata>> {
     }
 }
 
-impl FileNumber {
+impl FileIdentity {
     /// Returns the identity of the file with this metadata.
-    fn of(metadata: &Metadata) -> FileNumber {
+    fn of(metadata: &Metadata) -> FileIdentity {
         let (device, inode) = if metadata.file_type().is_block_device() {
             (metadata.rdev(), 0)
         } else {
             (metadata.dev(), metadata.ino())
         };
-        FileNumber { device, inode }
+        FileIdentity { device, inode }
     }
 }
 
 /// Returns `true` if two identities are equal, and so of one file.
-fn is_one_file(one: FileNumber, other: FileNumber) -> bool
+fn is_same_identity(one: FileIdentity, other: FileIdentity) -> bool
     ensures { IsTrue result ↔ (one ≡ other) }
 {
     one == other
@@ -181,6 +181,6 @@ pub fn read_script<'a, R: Read + Drop>(alloc: Global, reader: R) -> Result<Vec<u
     let mut front = reader.take(LONGEST_SCRIPT as u64 + 1);
     match front.read_to_end(&mut script) {
         Ok(_) => Ok(script),
-        Err(error) => Err(not_read(Instructions::Script, &error)),
+        Err(error) => Err(ending_of_read_error(Instructions::Script, &error)),
     }
 }

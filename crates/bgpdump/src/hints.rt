@@ -12,7 +12,7 @@ use std::io::{self, IsTerminal, Read};
 use std::rc::Rc;
 
 /// The offset of the block mark of bzip2, after `BZh` and the digit of a level.
-const BEHIND_LEVEL: usize = 4;
+const BZIP2_BLOCK_OFFSET: usize = 4;
 
 /// Returns `true` if hints are to be written: standard error is a terminal, so that a person reads it.
 pub fn are_hints_wanted(rt: &HostRuntime) -> bool {
@@ -30,17 +30,17 @@ pub struct CompressedFormat {
 
 /// The first octets of an input, at most as many as the header of a record has (RFC 6396, section 2).
 #[derive(Clone, Copy, Default)]
-pub struct Front {
+pub struct FirstOctets {
     /// The octets, followed by zeros.
     octets: [u8; HEADER_SIZE],
     /// The number of octets.
     len: usize,
 }
 
-impl Front {
+impl FirstOctets {
     /// Returns the first octets of an input that begins with `octets`.
     pub fn read_from(octets: &[u8]) -> Self {
-        let mut front = Front::default();
+        let mut front = FirstOctets::default();
         front.add_octets(octets);
         front
     }
@@ -58,7 +58,7 @@ impl Front {
 
     /// Returns the format in which the input seems to be compressed, by its first octets, or `None` if it
     /// seems to be in none.
-    pub fn find_format(&self) -> Option<CompressedFormat> {
+    pub fn find_compressed_format(&self) -> Option<CompressedFormat> {
         // MRT records begin with their time in seconds since 1970. As times, the marks of gzip, zstd and
         // xz are in 1986, 1991 and 2104, when no router writes; `BZh` is in 2005, so that the block mark
         // is compared too.
@@ -66,7 +66,9 @@ impl Front {
         let form = |name, printer| Some(CompressedFormat { name, printer });
         if front.starts_with(b"\x1F\x8B\x08") {
             form("gzip", "zcat")
-        } else if front.starts_with(b"BZh") && self.octets[BEHIND_LEVEL..].starts_with(b"1AY&SY") {
+        } else if front.starts_with(b"BZh")
+            && self.octets[BZIP2_BLOCK_OFFSET..].starts_with(b"1AY&SY")
+        {
             form("bzip2", "bzcat")
         } else if front.starts_with(b"\xFD7zXZ\0") {
             form("xz", "xzcat")
@@ -84,7 +86,7 @@ impl Front {
 
     /// Returns the length in octets of the first record's body, as its header states it, or `None` if
     /// there are fewer octets than in a header.
-    pub fn find_body_size(&self) -> Option<u32> {
+    pub fn find_first_body_size(&self) -> Option<u32> {
         if self.len < HEADER_SIZE {
             return None;
         }
@@ -102,7 +104,7 @@ impl Front {
 #[derive(Clone, Copy, Default)]
 pub struct InputNotes {
     /// The first octets of the input.
-    pub front: Front,
+    pub front: FirstOctets,
     /// The last error of its reader, or `None` if it hasn't failed.
     pub error: Option<io::Error>,
 }

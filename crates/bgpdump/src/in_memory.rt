@@ -7,7 +7,7 @@ ghost use Rattle.bgpdump_tool.specs.Run.{dump_texts};
 ghost use Rattle.bgpdump.specs.Endings.{HoldTexts, HoldReplies};
 
 use crate::hints::{NotedDevices, NotedReader};
-use crate::run::{Devices, Ended, dump, play};
+use crate::run::{Devices, FinishedRun, dump, play};
 use bgpdump_tool::Outcome;
 use mrt_wire::Stamp;
 use std::alloc::{AllocError, Global};
@@ -22,7 +22,7 @@ pub fn dump_octets(alloc: Global, stamp: Stamp, octets: &[u8]) -> Result<Outcome
     let reader: Box<dyn Read + Drop> = Box::new(alloc, VecDeque::from(held))?;
     let out: Box<dyn Write + Drop> = Box::new(alloc, Vec::<u8>::new(alloc))?;
     let err = Vec::<u8>::new(alloc);
-    let ended = dump_known(alloc, stamp, octets, Devices { reader, out, err })?;
+    let ended = dump_in_memory(alloc, stamp, octets, Devices { reader, out, err })?;
     Ok(ended.outcome)
 }
 
@@ -39,18 +39,18 @@ pub fn play_octets(
     let reader: Box<dyn Read + Drop> = Box::new(alloc, VecDeque::from(held))?;
     let out: Box<dyn Write + Drop> = Box::new(alloc, Vec::<u8>::new(alloc))?;
     let err = Vec::<u8>::new(alloc);
-    let ended = play_known(alloc, stamp, script, octets, Devices { reader, out, err })?;
+    let ended = play_in_memory(alloc, stamp, script, octets, Devices { reader, out, err })?;
     Ok(ended.outcome)
 }
 
 /// Prints the MRT file in `devices.reader`, which must hold just `octets`, to the writers in `devices`,
 /// which must be empty. Fails if memory allocation fails before the run begins.
-fn dump_known<R: Read + Drop, O: Write + Drop, E: Write + Drop>(
+fn dump_in_memory<R: Read + Drop, O: Write + Drop, E: Write + Drop>(
     alloc: Global,
     stamp: Stamp,
     octets: &[u8],
     devices: Devices<R, O, E>,
-) -> Result<Ended<NotedReader<R>, O, E>, AllocError>
+) -> Result<FinishedRun<NotedReader<R>, O, E>, AllocError>
     requires reader { R.remaining devices.reader ≡ Some octets.now }
     requires out { O.contents devices.out ≡ Some [] }
     requires err { E.contents devices.err ≡ Some [] }
@@ -62,13 +62,13 @@ fn dump_known<R: Read + Drop, O: Write + Drop, E: Write + Drop>(
 
 /// Runs `script` over the MRT file in `devices.reader`, which must hold just `octets`. The writers in
 /// `devices` must be empty. Fails if memory allocation fails before the run begins.
-fn play_known<R: Read + Drop, O: Write + Drop, E: Write + Drop>(
+fn play_in_memory<R: Read + Drop, O: Write + Drop, E: Write + Drop>(
     alloc: Global,
     stamp: Stamp,
     script: &[u8],
     octets: &[u8],
     devices: Devices<R, O, E>,
-) -> Result<Ended<NotedReader<R>, O, E>, AllocError>
+) -> Result<FinishedRun<NotedReader<R>, O, E>, AllocError>
     requires reader { R.remaining devices.reader ≡ Some octets.now }
     requires out { O.contents devices.out ≡ Some [] }
     requires err { E.contents devices.err ≡ Some [] }

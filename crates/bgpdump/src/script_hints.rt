@@ -1,7 +1,7 @@
 //! Hints on the bad lines of a script, which are written to standard error before it is run. `main.rt`
 //! calls [`write_script_hints`]; what that can't write is lost.
 
-use crate::hints::Front;
+use crate::hints::FirstOctets;
 use bgpdump_tool::read_command;
 use ip_prefix::{Addr, Prefix, SPACE};
 use std::fmt;
@@ -30,7 +30,7 @@ enum Argument {
 }
 
 /// The arguments of a command without any.
-const NONE: &[Argument] = &[];
+const NO_ARGUMENTS: &[Argument] = &[];
 
 /// The argument of `next` and `back`.
 const TIMES: &[Argument] = &[Argument::Times];
@@ -60,25 +60,25 @@ enum LineFlaw<'a> {
     /// A word is empty: the line has two spaces in a row, or one at an end.
     EmptyWord,
     /// No command has this name.
-    NoCommand(Shown<'a>),
+    NoCommand(EscapedOctets<'a>),
     /// The line ends before this argument.
     Missing(Argument),
     /// This word isn't of the kind that its place in the line asks for.
     Wrong(&'a [u8], Argument),
     /// This word follows the last argument of the command.
-    Extra(Shown<'a>),
+    Extra(EscapedOctets<'a>),
 }
 
 /// Octets as a hint shows them: the first ones, with escapes for all but printable ASCII, and `..` after
 /// them if there are more.
 #[derive(Clone, Copy)]
-struct Shown<'a>(&'a [u8]);
+struct EscapedOctets<'a>(&'a [u8]);
 
 /// Writes a hint if `script` seems to be a compressed file or an MRT file, or else hints on its first bad
 /// lines.
 pub fn write_script_hints(rt: &HostRuntime, script: &[u8]) {
-    let front = Front::read_from(script);
-    if let Some(format) = front.find_format() {
+    let front = FirstOctets::read_from(script);
+    if let Some(format) = front.find_compressed_format() {
         let (format, printer) = (format.name, format.printer);
         let _ = eprintln!(rt;
             "bgpdump: the script looks like {format}; unpack it by {printer} first"
@@ -97,7 +97,7 @@ fn write_line_hints(rt: &HostRuntime, script: &[u8]) {
     let lines = script.split(|octet| *octet == b'\n').zip(1..=u64::MAX);
     for (line, number) in lines.filter(|(line, _)| is_bad(line)).take(MOST_HINTS) {
         if let Some(flaw) = find_flaw(line) {
-            let shown = Shown(line);
+            let shown = EscapedOctets(line);
             let _ = eprintln!(rt; "bgpdump: script line {number}, \"{shown}\": {flaw}");
         }
     }
@@ -122,8 +122,8 @@ fn find_flaw(line: &[u8]) -> Option<LineFlaw<'_>> {
     if name.is_empty() {
         return Some(LineFlaw::EmptyWord);
     }
-    let Some(arguments) = find_arguments(name) else {
-        return Some(LineFlaw::NoCommand(Shown(name)));
+    let Some(arguments) = find_argument_kinds(name) else {
+        return Some(LineFlaw::NoCommand(EscapedOctets(name)));
     };
     for argument in arguments {
         match words.next() {
@@ -137,17 +137,17 @@ fn find_flaw(line: &[u8]) -> Option<LineFlaw<'_>> {
     }
     match words.next()? {
         [] => Some(LineFlaw::EmptyWord),
-        word => Some(LineFlaw::Extra(Shown(word))),
+        word => Some(LineFlaw::Extra(EscapedOctets(word))),
     }
 }
 
 /// Returns the kinds of the arguments of the command `name`, or `None` if there is no such command.
-fn find_arguments(name: &[u8]) -> Option<&'static [Argument]> {
+fn find_argument_kinds(name: &[u8]) -> Option<&'static [Argument]> {
     match name {
         b"next" | b"back" => Some(TIMES),
         b"goto" => Some(STEP),
         b"forget" => Some(NUMBER),
-        b"where" | b"peers" => Some(NONE),
+        b"where" | b"peers" => Some(NO_ARGUMENTS),
         b"table" | b"lose" => Some(PEER),
         b"route" => Some(PEER_AND_PREFIX),
         b"lookup" => Some(PEER_AND_ADDRESS),
@@ -167,7 +167,7 @@ fn has_leading_zero(word: &[u8]) -> bool {
 
 /// Parses decimal digits, with or without leading zeros. Returns `None` if `word` has another octet or
 /// none, or if the number is above `u32::MAX`.
-fn find_number(word: &[u8]) -> Option<u32> {
+fn parse_digits(word: &[u8]) -> Option<u32> {
     if !is_digits(word) {
         return None;
     }
@@ -175,7 +175,7 @@ fn find_number(word: &[u8]) -> Option<u32> {
 }
 
 /// Returns the digits after `AS`, in letters of either case, or `None` if `word` isn't of this form.
-fn find_digits_behind_as(word: &[u8]) -> Option<&[u8]> {
+fn find_digits_after_as(word: &[u8]) -> Option<&[u8]> {
     let (front, digits) = word.split_at_checked(2)?;
     if front.eq_ignore_ascii_case(b"AS") && is_digits(digits) {
         Some(digits)
@@ -187,9 +187,9 @@ fn find_digits_behind_as(word: &[u8]) -> Option<&[u8]> {
 impl Argument {
     /// Returns `true` if `word` is a valid argument of this kind.
     fn is_spelled_by(self, word: &[u8]) -> bool {
-        let is_number = find_number(word).is_some() && !has_leading_zero(word);
+        let is_number = parse_digits(word).is_some() && !has_leading_zero(word);
         match self {
-            Argument::Times => is_number && find_number(word) != Some(0),
+            Argument::Times => is_number && parse_digits(word) != Some(0),
             Argument::Number | Argument::Step | Argument::AsNumber => is_number,
             Argument::Address => Addr::parse(word).is_some(),
             Argument::Prefix => Prefix::parse(word).is_some(),
@@ -197,7 +197,7 @@ impl Argument {
     }
 
     /// Returns the name of the kind, with its article.
-    fn find_name(self) -> &'static str {
+    fn kind_with_article(self) -> &'static str {
         match self {
             Argument::Times | Argument::Number => "a number",
             Argument::Step => "the number of a step",
@@ -221,7 +221,7 @@ impl fmt::Display for LineFlaw<'_> {
                 "{word} is no command; see man bgpdump, SCRIPTS"
             ),
             LineFlaw::Missing(argument) => {
-                let name = argument.find_name();
+                let name = argument.kind_with_article();
                 write!(f, "{name} is missing")
             }
             LineFlaw::Wrong(word, argument) => write_wrong_word(f, word, *argument),
@@ -236,7 +236,7 @@ fn write_wrong_word<W: fmt::Write>(
     word: &[u8],
     argument: Argument,
 ) -> fmt::Result {
-    let shown = Shown(word);
+    let shown = EscapedOctets(word);
     match argument {
         Argument::Address if Prefix::parse(word).is_some() => {
             write!(f, "{shown} is a prefix; an address is wanted")
@@ -245,10 +245,10 @@ fn write_wrong_word<W: fmt::Write>(
             write!(f, "{shown} is an address; a prefix also has / and a length")
         }
         Argument::Address | Argument::Prefix => {
-            let name = argument.find_name();
+            let name = argument.kind_with_article();
             write!(f, "{shown} is not {name}")
         }
-        Argument::Times if find_number(word) == Some(0) && !has_leading_zero(word) => {
+        Argument::Times if parse_digits(word) == Some(0) && !has_leading_zero(word) => {
             write!(f, "{shown} is too small; the least is 1")
         }
         Argument::Times | Argument::Number | Argument::Step | Argument::AsNumber => {
@@ -263,10 +263,10 @@ fn write_wrong_number<W: fmt::Write>(
     word: &[u8],
     argument: Argument,
 ) -> fmt::Result {
-    let shown = Shown(word);
-    let (name, most) = (argument.find_name(), u32::MAX);
-    if let Some(digits) = find_digits_behind_as(word) {
-        let digits = Shown(digits);
+    let shown = EscapedOctets(word);
+    let (name, most) = (argument.kind_with_article(), u32::MAX);
+    if let Some(digits) = find_digits_after_as(word) {
+        let digits = EscapedOctets(digits);
         write!(f, "write {digits} for {shown}")
     } else if has_leading_zero(word) {
         write!(f, "{shown} has a zero in front")
@@ -277,7 +277,7 @@ fn write_wrong_number<W: fmt::Write>(
     }
 }
 
-impl fmt::Display for Shown<'_> {
+impl fmt::Display for EscapedOctets<'_> {
     fn fmt<W: fmt::Write>(&self, f: &mut fmt::Formatter<W>) -> fmt::Result {
         let octets = self.0;
         let shown = octets[..octets.len().min(SHOWN)].escape_ascii();

@@ -22,8 +22,8 @@ abbrev pub IsCommandLine : App → Type 0
 IsCommandLine app = (times : ValueParser) × TakesTimes times × (app ≡ command_line times)
 
 -- The argument excludes no other one, and isn't an argument of subcommands.
-abbrev pub StandsAlone : Arg → Type 0
-StandsAlone argument = IsPlainArg argument × (argument.global ≡ false)
+abbrev pub ExcludesNone : Arg → Type 0
+ExcludesNone argument = IsPlainArg argument × (argument.global ≡ false)
 
 -- Each successful parse by the command gives INPUT a value.
 abbrev pub TakesInput : Command → Type 0

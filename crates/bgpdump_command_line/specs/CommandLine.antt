@@ -50,12 +50,12 @@ TakesTimes other = ⊥
 -- ---- the settings that the matches of a parse select
 
 -- Whether there is a value, and it is `text`.
-abbrev pub is_text : Text → Option Text → Bool
-is_text text found = option_map_or (bytes_eq text) found false
+abbrev pub equals_text : Text → Option Text → Bool
+equals_text text found = option_map_or (bytes_eq text) found false
 
 -- Whether `-m` is among the matches.
-abbrev pub asks_lines : List Row → Bool
-asks_lines rows = is_text (codes "true") (one_of (codes "lines") rows)
+abbrev pub has_lines_flag : List Row → Bool
+has_lines_flag rows = equals_text (codes "true") (one_of (codes "lines") rows)
 
 -- The value of `--play`, if it is among the matches.
 abbrev pub script_of : List Row → Option Text
@@ -66,49 +66,49 @@ abbrev pub input_of : List Row → Option Text
 input_of = first_of (codes "input")
 
 -- The choice of the time that the routes of tables get: `Change` for `-t change`, or else `Dump`.
-abbrev pub stamp_of : List Row → Stamp
-stamp_of rows = if is_text (codes "change") (first_of (codes "times") rows) then Change else Dump
+abbrev pub selected_stamp : List Row → Stamp
+selected_stamp rows = if equals_text (codes "change") (first_of (codes "times") rows) then Change else Dump
 
 -- Whether just one of `-m` and `--play` is among the matches.
 abbrev pub has_one_mode : List Row → Bool
-has_one_mode rows = if asks_lines rows then not (is_some (script_of rows)) else is_some (script_of rows)
+has_one_mode rows = if has_lines_flag rows then not (is_some (script_of rows)) else is_some (script_of rows)
 
 -- Whether the script and the input are both standard input.
 abbrev pub has_two_inputs : List Row → Bool
-has_two_inputs rows = is_text (codes "-") (script_of rows) && is_text (codes "-") (input_of rows)
+has_two_inputs rows = equals_text (codes "-") (script_of rows) && equals_text (codes "-") (input_of rows)
 
 -- The mode is one that the matches select.
 abbrev pub IsMode : List Row → Mode → Type 0
-IsMode rows mode.Lines = asks_lines rows ≡ true
+IsMode rows mode.Lines = has_lines_flag rows ≡ true
 IsMode rows (mode.Play script) = script_of rows ≡ Some (string_bytes script)
 
 -- Each field of the settings is the value that the matches have for it.
 pub record AreSettings (rows : List Row) (settings : Settings) : Type 0 where
   pub mode : IsMode rows settings.mode
-  pub stamp : settings.stamp ≡ stamp_of rows
+  pub stamp : settings.stamp ≡ selected_stamp rows
   pub output : option_map string_bytes settings.output ≡ first_of (codes "output") rows
   pub input : input_of rows ≡ Some (string_bytes settings.input)
 
 -- What the matches give: their settings, the fault `Mode` unless they have just one mode, or else the fault
 -- `TwoInputs` if the script and the input are both standard input. `Memory` may be given in any case.
-abbrev pub Gives : List Row → Result Settings UsageFault → Type 0
-Gives rows (Ok settings) = (has_one_mode rows ≡ true) × (has_two_inputs rows ≡ false) × AreSettings rows settings
-Gives rows (Err usage.Mode) = has_one_mode rows ≡ false
-Gives rows (Err usage.TwoInputs) = (has_one_mode rows ≡ true) × (has_two_inputs rows ≡ true)
-Gives rows (Err usage.Memory) = ⊤
-Gives rows (Err fault) = ⊥
+abbrev pub GivesSettings : List Row → Result Settings UsageFault → Type 0
+GivesSettings rows (Ok settings) = (has_one_mode rows ≡ true) × (has_two_inputs rows ≡ false) × AreSettings rows settings
+GivesSettings rows (Err usage.Mode) = has_one_mode rows ≡ false
+GivesSettings rows (Err usage.TwoInputs) = (has_one_mode rows ≡ true) × (has_two_inputs rows ≡ true)
+GivesSettings rows (Err usage.Memory) = ⊤
+GivesSettings rows (Err fault) = ⊥
 
 -- ---- what the words of a command line give
 
 -- What these words give, unless memory allocation fails, where `times` parses the value of `-t`: what their
 -- matches give, if the parse has no fault; `Help` only if it has the fault of help, and `Words` only if it
 -- has another one.
-abbrev pub AnswersBy : ValueParser → List Text → Result Settings UsageFault → Type 0
-AnswersBy times words (Err (usage.Help text)) = IsAmong DisplayHelp (fault_of (command_line times) words)
-AnswersBy times words (Err (usage.Words text)) = (kind : ErrorKind) × IsAmong kind (fault_of (command_line times) words) × (kind ≢ DisplayHelp)
-AnswersBy times words result = (fault_of (command_line times) words ≡ []) × Gives (matches_of (command_line times) words) result
+abbrev pub GivesSettingsFor : ValueParser → List Text → Result Settings UsageFault → Type 0
+GivesSettingsFor times words (Err (usage.Help text)) = IsAmong DisplayHelp (fault_of (command_line times) words)
+GivesSettingsFor times words (Err (usage.Words text)) = (kind : ErrorKind) × IsAmong kind (fault_of (command_line times) words) × (kind ≢ DisplayHelp)
+GivesSettingsFor times words result = (fault_of (command_line times) words ≡ []) × GivesSettings (matches_of (command_line times) words) result
 
 -- What these words give. `Memory` may be given in any case.
 abbrev pub Answers : List Text → Result Settings UsageFault → Type 0
 Answers words (Err usage.Memory) = ⊤
-Answers words result = (times : ValueParser) × TakesTimes times × AnswersBy times words result
+Answers words result = (times : ValueParser) × TakesTimes times × GivesSettingsFor times words result

@@ -5,13 +5,13 @@ use Rattle.ip_prefix.specs.Network.{Network}
 use Rattle.ip_prefix.specs.Text.{address_text, network_text}
 use Rattle.mrt_events.specs.declared.peer.Peer.{Peer}
 use Rattle.mrt_events.specs.declared.event.Route.{Route}
-use Rattle.bgpdump_lines.specs.Lines.{bar, line_of, attribute_fields, word, route_time_text, route_letter, line_behind}
-use Rattle.mrt_events.specs.Event.{Saying}
+use Rattle.bgpdump_lines.specs.Lines.{bar, line_from_fields, attribute_fields, tag_word, route_time_text, route_letter, line_from_first_field}
+use Rattle.mrt_events.specs.Event.{ItemValue}
 use Rattle.mrt_events.specs.declared.event.Tag.{Tag}
-use Rattle.bgpdump_lines.specs.declared.heading.First.{First}
-use Rattle.bgpdump_lines.specs.declared.heading.First.TheVariants.{Record, Rib}
+use Rattle.bgpdump_lines.specs.declared.heading.FirstField.{FirstField}
+use Rattle.bgpdump_lines.specs.declared.heading.FirstField.TheVariants.{Record, Rib}
 use Rattle.bgpdump_lines.specs.declared.heading.Heading.{Heading}
-use Rattle.bgpdump_lines.specs.declared.route_line.Places.{Places}
+use Rattle.bgpdump_lines.specs.declared.route_line.FieldOffsets.{FieldOffsets}
 use Rattle.bgpdump_lines.specs.declared.route_line.LastLine.{LastLine}
 
 -- ---- the fields of a line from the peer on, each with the bar ahead of it
@@ -25,81 +25,81 @@ abbrev pub prefix_field : Network → List ℕ
 prefix_field network = bar ∷ network_text network
 
 -- The fields of a route's line after the prefix, with the line feed.
-abbrev pub route_tail : Route → List ℕ
-route_tail route = bar ∷ line_of (attribute_fields route.attrs)
+abbrev pub fields_after_prefix : Route → List ℕ
+fields_after_prefix route = bar ∷ line_from_fields (attribute_fields route.attrs)
 
 -- ---- the lines under a heading, which has what the lines of an event, or of a table, have in common
 
 -- The first field of a line, by its kind, which is `RIB` or the kind of the record.
-abbrev pub word_of : First → Tag → List ℕ
-word_of Record tag = word tag
-word_of Rib tag = codes "RIB"
+abbrev pub first_field_of_kind : FirstField → Tag → List ℕ
+first_field_of_kind Record tag = tag_word tag
+first_field_of_kind Rib tag = codes "RIB"
 
 -- The first field of the lines under a heading.
 abbrev pub first_field : Heading → List ℕ
-first_field heading = word_of heading.first heading.tag
+first_field heading = first_field_of_kind heading.first heading.tag
 
 -- The first three fields of a route's line under a heading: the kind, the time and the letter.
-abbrev pub route_head : Heading → Route → List ℕ
-route_head heading route =
+abbrev pub first_three_fields : Heading → Route → List ℕ
+first_three_fields heading route =
     first_field heading ++ bar ∷ (route_time_text heading.time heading.tag route ++ bar ∷ route_letter heading.tag)
 
 -- The fields of a route's line under a heading before the prefix.
-abbrev pub route_front : Heading → Peer → Route → List ℕ
-route_front heading peer route = route_head heading route ++ peer_fields peer
+abbrev pub fields_before_prefix : Heading → Peer → Route → List ℕ
+fields_before_prefix heading peer route = first_three_fields heading route ++ peer_fields peer
 
 -- The line of an item under a heading.
-abbrev pub headed_line : Heading → Saying → List ℕ
-headed_line heading = line_behind (first_field heading) heading.time heading.tag
+abbrev pub line_under_heading : Heading → ItemValue → List ℕ
+line_under_heading heading = line_from_first_field (first_field heading) heading.time heading.tag
 
 -- The lines of items under a heading, one for each.
-abbrev pub headed_lines : Heading → List Saying → List ℕ
-headed_lines heading said = flat_map (headed_line heading) said
+abbrev pub lines_under_heading : Heading → List ItemValue → List ℕ
+lines_under_heading heading announcement = flat_map (line_under_heading heading) announcement
 
 -- ---- the offsets of the fields of a route's line, from which the next line may be copied
 
 -- The offsets are in order, and none is after the end of the text.
-pub record AreOrdered (places : Places) (text : List ℕ) : Type 0 where
-  pub head : places.start ≤ places.head
-  pub front : places.head ≤ places.front
-  pub tail : places.front ≤ places.tail
-  pub within : places.tail ≤ length text
+pub record AreOffsetsOrdered (offsets : FieldOffsets) (text : List ℕ) : Type 0 where
+  pub head : offsets.start ≤ offsets.head
+  pub front : offsets.head ≤ offsets.front
+  pub tail : offsets.front ≤ offsets.tail
+  pub within : offsets.tail ≤ length text
 
 -- The octets of a text between the offsets of a line's start and of the end of its first three fields.
-abbrev pub head_at : Places → List ℕ → List ℕ
-head_at places text = slice_range text places.start places.head
+abbrev pub head_at : FieldOffsets → List ℕ → List ℕ
+head_at offsets text = slice_range text offsets.start offsets.head
 
 -- The octets of a text between the offsets of a line's start and of its prefix.
-abbrev pub front_at : Places → List ℕ → List ℕ
-front_at places text = slice_range text places.start places.front
+abbrev pub front_at : FieldOffsets → List ℕ → List ℕ
+front_at offsets text = slice_range text offsets.start offsets.front
 
 -- The octets of a text between the offsets of the start and of the end of a line's prefix.
-abbrev pub prefix_at : Places → List ℕ → List ℕ
-prefix_at places text = slice_range text places.front places.tail
+abbrev pub prefix_at : FieldOffsets → List ℕ → List ℕ
+prefix_at offsets text = slice_range text offsets.front offsets.tail
 
 -- The octets of a text after the offset of the end of a line's prefix.
-abbrev pub tail_at : Places → List ℕ → List ℕ
-tail_at places text = drop places.tail text
+abbrev pub tail_at : FieldOffsets → List ℕ → List ℕ
+tail_at offsets text = drop offsets.tail text
 
 -- The text has these fields at these offsets: the first three of a line, all before its prefix, the prefix,
 -- and all after it up to the end of the text.
-pub record HasParts (text head_text front_text prefix_text tail_text : List ℕ) (places : Places) : Type 0 where
-  pub ordered : AreOrdered places text
-  pub head : head_at places text ≡ head_text
-  pub front : front_at places text ≡ front_text
-  pub prefix : prefix_at places text ≡ prefix_text
-  pub tail : tail_at places text ≡ tail_text
+pub record HasFieldsAt (text head_text front_text prefix_text tail_text : List ℕ) (offsets : FieldOffsets) : Type 0 where
+  pub ordered : AreOffsetsOrdered offsets text
+  pub head : head_at offsets text ≡ head_text
+  pub front : front_at offsets text ≡ front_text
+  pub prefix : prefix_at offsets text ≡ prefix_text
+  pub tail : tail_at offsets text ≡ tail_text
 
 -- The text ends in the line of a route under this heading: the line of `line`, with its fields at its
 -- offsets.
-abbrev pub EndsIn : Heading → LastLine → List ℕ → Type 0
-EndsIn heading line text =
-    HasParts text (route_head heading line.said.route.now) (route_front heading line.said.peer.now line.said.route.now)
-    (prefix_field line.said.prefix.now) (route_tail line.said.route.now) line.places
+abbrev pub EndsInLine : Heading → LastLine → List ℕ → Type 0
+EndsInLine heading line text =
+    HasFieldsAt text (first_three_fields heading line.announcement.route.now) (fields_before_prefix heading line.announcement.peer.now line.announcement.route.now)
+    (prefix_field line.announcement.prefix.now) (fields_after_prefix line.announcement.route.now) line.offsets
 
 -- The text ends in a line of this route of this peer, to any prefix, under this heading, with its fields at
 -- these offsets.
-pub record EndsInRoute (heading : Heading) (peer : Peer) (route : Route) (places : Places) (text : List ℕ) : Type 0 where
-  pub ordered : AreOrdered places text
-  pub front : front_at places text ≡ route_front heading peer route
-  pub tail : tail_at places text ≡ route_tail route
+pub record EndsInLineOfRoute (heading : Heading) (peer : Peer) (route : Route) (offsets : FieldOffsets) (text : List ℕ) : Type 0 where
+  pub ordered : AreOffsetsOrdered offsets text
+  pub front : front_at offsets text ≡ fields_before_prefix heading peer route
+  pub tail : tail_at offsets text ≡ fields_after_prefix route

@@ -13,7 +13,7 @@ use Rattle.mrt_events.specs.declared.event.Time.{Time}
 use Rattle.mrt_events.specs.declared.event.Tag.{Tag}
 use Rattle.mrt_events.specs.declared.event.Tag.TheVariants.{TableDump, TableDump2, Bgp4mp, Bgp4mpEt}
 use Rattle.mrt_events.specs.declared.event.Event.{Event}
-use Rattle.mrt_events.specs.Event.{Saying, Announced, Withdrawn, Changed}
+use Rattle.mrt_events.specs.Event.{ItemValue, Announced, Withdrawn, Changed}
 use Rattle.bgpdump_lines.specs.declared.heading.TheConstants.{MICROS_DIGITS}
 
 -- The ASCII code of `|`, which separates the fields of a line.
@@ -37,17 +37,17 @@ abbrev pub space : ℕ
 space = 32
 
 -- The line of these fields: a bar between each two of them, and a line feed at the end.
-abbrev pub line_of : List (List ℕ) → List ℕ
-line_of [] = line_feed ∷ []
-line_of (field ∷ []) = field ++ line_feed ∷ []
-line_of (field ∷ next ∷ fields) = field ++ bar ∷ line_of (next ∷ fields)
+abbrev pub line_from_fields : List (List ℕ) → List ℕ
+line_from_fields [] = line_feed ∷ []
+line_from_fields (field ∷ []) = field ++ line_feed ∷ []
+line_from_fields (field ∷ next ∷ fields) = field ++ bar ∷ line_from_fields (next ∷ fields)
 
 -- The first field of an event's lines: the kind of its record.
-abbrev pub word : Tag → List ℕ
-word TableDump = codes "TABLE_DUMP"
-word TableDump2 = codes "TABLE_DUMP2"
-word Bgp4mp = codes "BGP4MP"
-word Bgp4mpEt = codes "BGP4MP_ET"
+abbrev pub tag_word : Tag → List ℕ
+tag_word TableDump = codes "TABLE_DUMP"
+tag_word TableDump2 = codes "TABLE_DUMP2"
+tag_word Bgp4mp = codes "BGP4MP"
+tag_word Bgp4mpEt = codes "BGP4MP_ET"
 
 -- Microseconds in decimal, with leading zeros up to `MICROS_DIGITS` digits.
 abbrev pub micros_text : ℕ → List ℕ
@@ -93,8 +93,8 @@ abbrev pub number_or_zero : Option ℕ → List ℕ
 number_or_zero number = decimal (unwrap_or number 0)
 
 -- The field of ATOMIC_AGGREGATE: `AG` if it is there, or else `NAG`.
-abbrev pub aggregate_word : Bool → List ℕ
-aggregate_word atomic = if atomic then codes "AG" else codes "NAG"
+abbrev pub atomic_word : Bool → List ℕ
+atomic_word atomic = if atomic then codes "AG" else codes "NAG"
 
 -- The field of AGGREGATOR: the AS number, a space and the address, or empty if it is absent.
 abbrev pub aggregator_text : Option Aggregator → List ℕ
@@ -106,23 +106,23 @@ abbrev pub attribute_fields : Attrs → List (List ℕ)
 attribute_fields attrs =
     path_text attrs.path ∷ origin_text attrs.origin ∷ next_hop_text attrs.next_hop
     ∷ number_or_zero attrs.local_pref ∷ number_or_zero attrs.med ∷ communities_text attrs.communities
-    ∷ aggregate_word attrs.atomic ∷ aggregator_text attrs.aggregator ∷ [] ∷ []
+    ∷ atomic_word attrs.atomic ∷ aggregator_text attrs.aggregator ∷ [] ∷ []
 
 -- The line of an item of an event with this time and tag, whose first field is `first`.
-abbrev pub line_behind : List ℕ → Time → Tag → Saying → List ℕ
-line_behind first time tag (Announced peer network route) =
-    line_of (first ∷ route_time_text time tag route ∷ route_letter tag
+abbrev pub line_from_first_field : List ℕ → Time → Tag → ItemValue → List ℕ
+line_from_first_field first time tag (Announced peer network route) =
+    line_from_fields (first ∷ route_time_text time tag route ∷ route_letter tag
     ∷ address_text peer.addr ∷ decimal peer.asn ∷ network_text network ∷ attribute_fields route.attrs)
-line_behind first time tag (Withdrawn peer network) =
-    line_of (first ∷ time_text tag time ∷ codes "W"
+line_from_first_field first time tag (Withdrawn peer network) =
+    line_from_fields (first ∷ time_text tag time ∷ codes "W"
     ∷ address_text peer.addr ∷ decimal peer.asn ∷ network_text network ∷ [])
-line_behind first time tag (Changed peer old new) =
-    line_of (first ∷ time_text tag time ∷ codes "STATE"
+line_from_first_field first time tag (Changed peer old new) =
+    line_from_fields (first ∷ time_text tag time ∷ codes "STATE"
     ∷ address_text peer.addr ∷ decimal peer.asn ∷ decimal old ∷ decimal new ∷ [])
 
 -- The line of an item of an event with this time and tag.
-abbrev pub item_line : Time → Tag → Saying → List ℕ
-item_line time tag = line_behind (word tag) time tag
+abbrev pub item_line : Time → Tag → ItemValue → List ℕ
+item_line time tag = line_from_first_field (tag_word tag) time tag
 
 -- The lines of an event, one for each item.
 abbrev pub event_lines : Event → List ℕ
@@ -131,5 +131,5 @@ event_lines event = flat_map (item_line event.time event.tag) event.items
 -- The line of a route in the table of a peer, given with its prefix.
 abbrev pub rib_line : Peer → Network × Route → List ℕ
 rib_line peer entry =
-    line_of (codes "RIB" ∷ decimal entry.1.time ∷ codes "B"
+    line_from_fields (codes "RIB" ∷ decimal entry.1.time ∷ codes "B"
     ∷ address_text peer.addr ∷ decimal peer.asn ∷ network_text entry.0 ∷ attribute_fields entry.1.attrs)

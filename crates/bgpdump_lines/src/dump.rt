@@ -3,13 +3,13 @@
 
 ghost use Rattle.std.specs.Prelude.{◌≡◌, ◌≢◌, ◌↔◌, ◌||◌, ℕ, List, false, IsTrue, length};
 ghost use Rattle.std.specs.Io.KnownBytes.{Consumes};
-ghost use Rattle.mrt_wire.specs.Results.{start_place, Took};
-ghost use Rattle.mrt_wire.specs.Answered.{answer_findings, is_nothing};
-ghost use Rattle.bgpdump_lines.specs.Run.{dump_texts, outputs_of, EndsOnOctets, IsTaken, SawEnd, OverDevices, EndsOverAll, WritesWhole};
+ghost use Rattle.mrt_wire.specs.Results.{start_state, TakesFront};
+ghost use Rattle.mrt_wire.specs.Answered.{answer_results, is_nothing};
+ghost use Rattle.bgpdump_lines.specs.Run.{dump_texts, outputs_of, EndsOnOctets, IsTaken, SawEnd, HoldsForDevices, EndsForAllContents, WritesWholeRecords};
 ghost use Rattle.bgpdump_lines.specs.Flushing.{AreFlushed, LeavesFlushed};
-ghost use Rattle.bgpdump_lines.specs.Going.{is_read_fault, is_write_fault, Ends};
+ghost use Rattle.bgpdump_lines.specs.WrittenSoFar.{is_read_fault, is_write_fault, EndsUnfinished};
 
-use crate::kept_lines::KeptLines;
+use crate::line_cache::LineCache;
 use crate::outcome::Outcome;
 use crate::output::{Output, finish_outputs, flush_before_waiting};
 use crate::write::write_next;
@@ -18,7 +18,7 @@ use mrt_wire::{Input, Next, Source, Stamp};
 use std::alloc::Global;
 
 /// The largest number of octets that a run takes from its input: 2^40.
-pub const LIMIT: u64 = 1 << 40;
+pub const INPUT_LIMIT: u64 = 1 << 40;
 
 /// Prints the MRT records (RFC 6396) in `input`: the lines of events to `out`, and the reports of faulty
 /// records to `err`. Each record is printed before the next one is read, and both outputs are flushed
@@ -46,14 +46,14 @@ pub fn run_dump<I: Input, O: Output, E: Output>(
 
     // The lines and reports of the whole input are written, or prefixes of them, whatever octets may
     // follow those taken. None follow if the run has met the end of the input.
-    ensures text { OverDevices I.left O.written E.written
-        (EndsOverAll stamp result (SawEnd result) dump_texts)
+    ensures text { HoldsForDevices I.left O.written E.written
+        (EndsForAllContents stamp result (SawEnd result) dump_texts)
         (input.old, out.old, err.old) (input.new, out.new, err.new) }
 
     // A run that ends as the input fails or is too long has written exactly the lines and reports of
     // the whole records taken.
-    ensures whole_records { OverDevices I.left O.written E.written
-        (WritesWhole stamp result dump_texts)
+    ensures whole_records { HoldsForDevices I.left O.written E.written
+        (WritesWholeRecords stamp result dump_texts)
         (input.old, out.old, err.old) (input.new, out.new, err.new) }
 
     // No line waits: of outputs that tell what they hold back, nothing is held back at the end, nor where
@@ -70,7 +70,7 @@ pub fn run_dump<I: Input, O: Output, E: Output>(
     ensures write_fault { (result ≡ Outcome.WriteFault)
         ↔ IsTrue (O.failed out.new || E.failed err.new) }
     ensures too_long { result ≡ Outcome.InputTooLong → (taken after : List ℕ) →
-        Took (I.left input.old) (I.left input.new) taken after → length taken ≡ LIMIT }
+        TakesFront (I.left input.old) (I.left input.new) taken after → length taken ≡ INPUT_LIMIT }
     ensures no_script { result ≢ Outcome.ScriptTooLong }
 {
     match dump_all(alloc, input, out, err, stamp) {
@@ -89,17 +89,17 @@ fn dump_all<I: Input, O: Output, E: Output>(
     stamp: Stamp,
 ) -> Result<bool, Outcome>
     requires sound { (O.failed out.old || E.failed err.old) ≡ false }
-    ensures ends { OverDevices I.left O.written E.written
-        (Ends (start_place stamp LIMIT) result)
+    ensures ends { HoldsForDevices I.left O.written E.written
+        (EndsUnfinished (start_state stamp INPUT_LIMIT) result)
         (input.old, out.old, err.old) (input.new, out.new, err.new) }
     ensures read { I.failed input.new ≡ (I.failed input.old || is_read_fault result) }
     ensures wrote { (O.failed out.new || E.failed err.new) ≡ is_write_fault result }
     ensures flushed { IsTrue (is_read_fault result) →
         AreFlushed (O.pending out.new) (E.pending err.new) }
 {
-    let mut source = Source::new(alloc, stamp, LIMIT);
+    let mut source = Source::new(alloc, stamp, INPUT_LIMIT);
     let mut text = Text::new(alloc);
-    let mut kept = KeptLines::new(alloc);
+    let mut kept = LineCache::new(alloc);
     let mut reported = false;
     'steps: loop {
         flush_before_waiting(input, out, err)?;
@@ -108,6 +108,6 @@ fn dump_all<I: Input, O: Output, E: Output>(
             return Ok(reported);
         }
         reported |= write_next(out, err, &mut text, &mut kept, &next)?;
-        source.take_back(next);
+        source.recycle(next);
     }
 }

@@ -9,8 +9,8 @@ mod event_lines;
 mod fault;
 mod fields;
 mod heading;
-mod kept_lines;
 mod laws;
+mod line_cache;
 mod outcome;
 mod output;
 mod reports;
@@ -18,11 +18,11 @@ mod route_line;
 mod table_lines;
 mod write;
 
-pub use dump::{LIMIT, run_dump};
+pub use dump::{INPUT_LIMIT, run_dump};
 pub use event_lines::put_lines;
 pub use fault::WriteFault;
-pub use fields::{put_number, put_peer};
-pub use laws::line_numbers;
+pub use fields::{put_number_field, put_peer_fields};
+pub use laws::law_line_numbers;
 pub use outcome::Outcome;
 pub use output::{
     BufferedOutput, OutFault, Output, WriteOutput, finish_outputs, flush_before_waiting, put_all,

@@ -2,7 +2,7 @@
 //! errors.
 
 ghost use Rattle.std.specs.Prelude.{◌≡◌};
-ghost use Rattle.bgpdump_lines.specs.Going.{status_of};
+ghost use Rattle.bgpdump_lines.specs.WrittenSoFar.{exit_status};
 
 /// How a run ended.
 #[derive(Clone, Copy, Debug, PartialEq, Eq)]
@@ -27,7 +27,7 @@ impl Outcome {
     /// Returns the exit status of the program for this outcome: 0 for `Done`, 1 for `Reported`, 4 for
     /// `Memory`, and 3 for the others.
     pub fn status(self) -> u8
-        ensures { result ≡ status_of self }
+        ensures { result ≡ exit_status self }
     {
         match self {
             Outcome::Done => 0,

@@ -4,9 +4,9 @@
 ghost use Rattle.std.specs.Prelude.{◌≡◌, ◌≤◌, ◌<◌, ◌||◌, ℕ, List, [], Bool, false, Option, Some, None, length, IfOk, OnOk, is_err};
 ghost use Rattle.std.specs.Io.Buffered.{writer_buffer, writer_contents};
 ghost use Rattle.std.specs.Io.KnownBytes.{WriteAppends, Appends, Keeps};
-ghost use Rattle.bgpdump_lines.specs.Run.{AppendsFront};
+ghost use Rattle.bgpdump_lines.specs.Run.{AppendsPrefix};
 ghost use Rattle.bgpdump_lines.specs.Flushing.{IsFlushed, IsReadyToRead, LeavesFlushed};
-ghost use Rattle.bgpdump_lines.specs.Going.{outcome_of};
+ghost use Rattle.bgpdump_lines.specs.WrittenSoFar.{outcome_of_finished_run};
 
 use crate::outcome::Outcome;
 use mrt_wire::Input;
@@ -162,7 +162,7 @@ impl<W: Write + Drop> Output for BufferedOutput<W> {
 /// may have been written.
 pub fn put_all<W: Output>(output: &mut W, octets: &[u8]) -> Result<(), OutFault>
     ensures all { OnOk result (Appends (W.written output.old) (W.written output.new) octets.now) }
-    ensures front { AppendsFront (W.written output.old) (W.written output.new) octets.now }
+    ensures front { AppendsPrefix (W.written output.old) (W.written output.new) octets.now }
     ensures failed { W.failed output.new ≡ (W.failed output.old || is_err result) }
 {
     let mut rest = octets;
@@ -197,7 +197,7 @@ pub fn flush_before_waiting<I: Input, O: Output, E: Output>(
 /// was reported.
 pub fn finish_outputs<O: Output, E: Output>(out: &mut O, err: &mut E, reported: bool) -> Outcome
     requires sound { (O.failed out.old || E.failed err.old) ≡ false }
-    ensures outcome { result ≡ outcome_of (O.failed out.new || E.failed err.new) reported }
+    ensures outcome { result ≡ outcome_of_finished_run (O.failed out.new || E.failed err.new) reported }
     ensures out { Keeps (O.written out.old) (O.written out.new) }
     ensures err { Keeps (E.written err.old) (E.written err.new) }
     ensures flushed { LeavesFlushed result (O.pending out.new) (E.pending err.new) }

@@ -9,6 +9,6 @@ abbrev pub count_line : Peer × ℕ → List ℕ
 count_line entry = peer_line_of entry.0 entry.1
 
 -- The `PEER` lines of these peers with the numbers of their routes, or `none` if there are no peers.
-abbrev pub counts_text : List (Peer × ℕ) → List ℕ
-counts_text [] = none_text
-counts_text (entry ∷ entries) = flat_map count_line (entry ∷ entries)
+abbrev pub peer_counts_text : List (Peer × ℕ) → List ℕ
+peer_counts_text [] = none_text
+peer_counts_text (entry ∷ entries) = flat_map count_line (entry ∷ entries)

@@ -5,24 +5,24 @@ use Rattle.ip_prefix.specs.Network.{Address, Network, contains}
 use Rattle.ip_prefix.specs.Text.{address_text}
 use Rattle.mrt_events.specs.declared.peer.Peer.{Peer}
 use Rattle.mrt_events.specs.declared.event.Route.{Route}
-use Rattle.prefix_store.specs.Stored.{counted}
+use Rattle.prefix_store.specs.Stored.{saturated_count}
 use Rattle.rib_player.specs.History.{pair_of}
 use Rattle.rib_player.specs.Tables.{Routes, peer_routes, routed_peers}
-use Rattle.bgpdump_lines.specs.Lines.{line_feed, line_of, rib_line}
+use Rattle.bgpdump_lines.specs.Lines.{line_feed, line_from_fields, rib_line}
 
 -- Each word with its number in decimal after it, and then `ending`.
-abbrev pub numbers_text : List (List ℕ × ℕ) → List ℕ → List ℕ
-numbers_text [] ending = ending
-numbers_text ((word, number) ∷ numbers) ending = word ++ (decimal number ++ numbers_text numbers ending)
+abbrev pub labelled_numbers_text : List (List ℕ × ℕ) → List ℕ → List ℕ
+labelled_numbers_text [] ending = ending
+labelled_numbers_text ((word, number) ∷ numbers) ending = word ++ (decimal number ++ labelled_numbers_text numbers ending)
 
 -- A line of words, each with its number in decimal after it.
-abbrev pub counts_line : List (List ℕ × ℕ) → List ℕ
-counts_line numbers = numbers_text numbers (line_feed ∷ [])
+abbrev pub labelled_numbers_line : List (List ℕ × ℕ) → List ℕ
+labelled_numbers_line numbers = labelled_numbers_text numbers (line_feed ∷ [])
 
 -- The reply to a command that moves the player: `at`, its position, and `end` if the end of the input was
 -- met.
 abbrev pub at_text : ℕ → Bool → List ℕ
-at_text position ended = numbers_text ((codes "at ", position) ∷ []) ((if ended then codes " end" else []) ++ line_feed ∷ [])
+at_text position ended = labelled_numbers_text ((codes "at ", position) ∷ []) ((if ended then codes " end" else []) ++ line_feed ∷ [])
 
 -- The reply to a command that finds nothing.
 abbrev pub none_text : List ℕ
@@ -50,22 +50,22 @@ longest (entry ∷ entries) = longer entry (longest entries)
 
 -- The longest match of an address in the table of a peer: the entry with the longest of the prefixes that
 -- contain the address, or none.
-abbrev pub best : Routes → Peer → Address → Option (Network × Route)
-best routes peer address = longest (filter (λ entry. contains entry.0 address) (finite.entries (peer_routes routes peer)))
+abbrev pub longest_match : Routes → Peer → Address → Option (Network × Route)
+longest_match routes peer address = longest (filter (λ entry. contains entry.0 address) (finite.entries (peer_routes routes peer)))
 
 -- The reply to `table`: the lines of all routes of the peer, in the order of their prefixes, and then their
 -- number.
 abbrev pub table_text : Routes → Peer → List ℕ
 table_text routes peer =
-    flat_map (rib_line peer) (finite.entries (peer_routes routes peer)) ++ counts_line ((codes "routes ", counted (finite.len (peer_routes routes peer))) ∷ [])
+    flat_map (rib_line peer) (finite.entries (peer_routes routes peer)) ++ labelled_numbers_line ((codes "routes ", saturated_count (finite.len (peer_routes routes peer))) ∷ [])
 
 -- The `PEER` line of a peer with this number of routes.
 abbrev pub peer_line_of : Peer → ℕ → List ℕ
-peer_line_of peer number = line_of (codes "PEER" ∷ address_text peer.addr ∷ decimal peer.asn ∷ decimal number ∷ [])
+peer_line_of peer number = line_from_fields (codes "PEER" ∷ address_text peer.addr ∷ decimal peer.asn ∷ decimal number ∷ [])
 
 -- The `PEER` line of a peer, with the number of the routes that it has.
 abbrev pub peer_line : Routes → Peer → List ℕ
-peer_line routes peer = peer_line_of peer (counted (finite.len (peer_routes routes peer)))
+peer_line routes peer = peer_line_of peer (saturated_count (finite.len (peer_routes routes peer)))
 
 -- The `PEER` lines of these peers, or `none` if there are no peers.
 abbrev pub peer_lines : Routes → List Peer → List ℕ

@@ -11,8 +11,8 @@ use Rattle.bgpdump_lines.specs.Lines.{space, line_feed}
 -- ---- the words and the lines that spell commands
 
 -- The parts of a text before, between and after its marks, empty ones too: one more than there are marks.
-abbrev pub pieces : ℕ → List ℕ → List (List ℕ)
-pieces mark text = slice_split (λ octet. octet == mark) text
+abbrev pub split_at_marks : ℕ → List ℕ → List (List ℕ)
+split_at_marks mark text = slice_split (λ octet. octet == mark) text
 
 -- The word is the decimal of `n`, a number below 2^32, without leading zeros.
 abbrev pub SpellsDecimal : ℕ → List ℕ → Type 0
@@ -23,13 +23,13 @@ abbrev pub SpellsPeer : List ℕ → Peer → List ℕ → Type 0
 SpellsPeer address peer number = SpellsAddress peer.addr address × SpellsDecimal peer.asn number
 
 -- The word is the decimal of a number of steps, at least 1.
-abbrev pub SpellsTimes : ℕ → List ℕ → Type 0
-SpellsTimes n word = (0 < n) × SpellsDecimal n word
+abbrev pub SpellsStepCount : ℕ → List ℕ → Type 0
+SpellsStepCount n word = (0 < n) × SpellsDecimal n word
 
 -- The arguments of a command: none; a number of steps, which may be left out if it is 1; a number; a peer; a
 -- peer and a prefix; or a peer and an address.
 pub data Arguments : Type 0 where
-  Alone : Arguments
+  NoArguments : Arguments
   Times : ℕ → Arguments
   Number : ℕ → Arguments
   OfPeer : Peer → Arguments
@@ -44,9 +44,9 @@ SpellsSought Spells peer value words =
 
 -- The words after a command's name spell these arguments.
 abbrev pub SpellsArguments : Arguments → List (List ℕ) → Type 0
-SpellsArguments Alone words = words ≡ []
+SpellsArguments NoArguments words = words ≡ []
 SpellsArguments (Times n) words =
-    ((n ≡ 1) × (words ≡ [])) ⊎ ((times : List ℕ) × SpellsTimes n times × (words ≡ times ∷ []))
+    ((n ≡ 1) × (words ≡ [])) ⊎ ((times : List ℕ) × SpellsStepCount n times × (words ≡ times ∷ []))
 SpellsArguments (Number n) words = (number : List ℕ) × SpellsDecimal n number × (words ≡ number ∷ [])
 SpellsArguments (OfPeer peer) words =
     (address number : List ℕ) × SpellsPeer address peer number × (words ≡ address ∷ number ∷ [])
@@ -54,47 +54,47 @@ SpellsArguments (SoughtPrefix peer prefix) words = SpellsSought SpellsPrefix pee
 SpellsArguments (SoughtAddress peer address) words = SpellsSought SpellsAddress peer address words
 
 -- The name of a command in ASCII, and its arguments.
-abbrev pub spelling : Command → List ℕ × Arguments
-spelling (Next n) = (codes "next", Times n)
-spelling (Back n) = (codes "back", Times n)
-spelling (Goto n) = (codes "goto", Number n)
-spelling Position = (codes "where", Alone)
-spelling Peers = (codes "peers", Alone)
-spelling (Table peer) = (codes "table", OfPeer peer)
-spelling (Route peer prefix) = (codes "route", SoughtPrefix peer prefix)
-spelling (Lookup peer address) = (codes "lookup", SoughtAddress peer address)
-spelling (Lose peer) = (codes "lose", OfPeer peer)
-spelling (Forget n) = (codes "forget", Number n)
+abbrev pub name_and_arguments : Command → List ℕ × Arguments
+name_and_arguments (Next n) = (codes "next", Times n)
+name_and_arguments (Back n) = (codes "back", Times n)
+name_and_arguments (Goto n) = (codes "goto", Number n)
+name_and_arguments Position = (codes "where", NoArguments)
+name_and_arguments Peers = (codes "peers", NoArguments)
+name_and_arguments (Table peer) = (codes "table", OfPeer peer)
+name_and_arguments (Route peer prefix) = (codes "route", SoughtPrefix peer prefix)
+name_and_arguments (Lookup peer address) = (codes "lookup", SoughtAddress peer address)
+name_and_arguments (Lose peer) = (codes "lose", OfPeer peer)
+name_and_arguments (Forget n) = (codes "forget", Number n)
 
 -- The words spell the command: its name, and then its arguments.
 abbrev pub SpellsWords : Command → List (List ℕ) → Type 0
 SpellsWords command words =
-    (more : List (List ℕ)) × SpellsArguments (spelling command).1 more × (words ≡ (spelling command).0 ∷ more)
+    (more : List (List ℕ)) × SpellsArguments (name_and_arguments command).1 more × (words ≡ (name_and_arguments command).0 ∷ more)
 
 -- The line, without its line feed, spells the command: its words, one space apart, do.
 abbrev pub SpellsCommand : Command → List ℕ → Type 0
-SpellsCommand command line = SpellsWords command (pieces space line)
+SpellsCommand command line = SpellsWords command (split_at_marks space line)
 
 -- ---- the lines of a script, what each of them asks for, and the report of one that is no command
 
 -- The lines of a script, without their line feeds. A script that ends with a line feed has an empty line
 -- after it, which asks for nothing.
 abbrev pub script_lines : List ℕ → List (List ℕ)
-script_lines script = pieces line_feed script
+script_lines script = split_at_marks line_feed script
 
 -- What a line asks for.
 pub data Line : Type 0 where
   -- The line is empty.
   Empty : Line
   -- The line spells this command.
-  Asks : Command → Line
+  HasCommand : Command → Line
   -- The line is neither empty nor a command.
   NoCommand : Line
 
 -- The octets of a line ask for this.
 abbrev pub IsLine : Line → List ℕ → Type 0
 IsLine Empty octets = octets ≡ []
-IsLine (Asks command) octets = SpellsCommand command octets
+IsLine (HasCommand command) octets = SpellsCommand command octets
 IsLine NoCommand octets = (octets ≢ []) × ((command : Command) → SpellsCommand command octets → ⊥)
 
 -- The octets of each line ask for what `lines` has in its place, and there are as many.
@@ -109,5 +109,5 @@ abbrev pub IsScript : List Line → List ℕ → Type 0
 IsScript lines script = AreLines lines (script_lines script)
 
 -- The report of a line that is no command, where `number` counts lines from 1.
-abbrev pub line_report : ℕ → List ℕ
-line_report number = codes "bgpdump: script line " ++ (decimal number ++ codes ": bad command\n")
+abbrev pub bad_line_report : ℕ → List ℕ
+bad_line_report number = codes "bgpdump: script line " ++ (decimal number ++ codes ": bad command\n")

@@ -1,18 +1,18 @@
 //! The state of a run of a script, and its steps forward. `play.rt` makes a [`Session`] for each
-//! run, and the commands of `carrying.rt` act on it; read [`Session::step`] first.
+//! run, and the commands of `execution.rt` act on it; read [`Session::step`] first.
 
 ghost use Rattle.std.specs.Prelude.{◌≡◌, ◌<◌, ◌+◌, ◌||◌, ℕ, false, IfOk, OnOk, IsTrue, is_err};
 ghost use Rattle.std.specs.Io.KnownBytes.{Keeps};
 ghost use Rattle.rib_player.specs.Timeline.{ahead_of, fresh};
-ghost use Rattle.mrt_wire.specs.Results.{start_place};
+ghost use Rattle.mrt_wire.specs.Results.{start_state};
 ghost use Rattle.mrt_wire.specs.declared.next.Phase.{Phase};
 ghost use Rattle.bgpdump_lines.specs.Flushing.{AreFlushed, IsReadyToRead};
-ghost use Rattle.bgpdump_lines.specs.declared.dump.TheConstants.{LIMIT};
-ghost use Rattle.bgpdump_lines.specs.Going.{is_read_fault, is_write_fault};
+ghost use Rattle.bgpdump_lines.specs.declared.dump.TheConstants.{INPUT_LIMIT};
+ghost use Rattle.bgpdump_lines.specs.WrittenSoFar.{is_read_fault, is_write_fault};
 ghost use Rattle.bgpdump_tool.specs.declared.play.TheConstants.{LONGEST_SCRIPT};
-ghost use Rattle.bgpdump_tool.specs.Carrying.{HasRoom, scene_of, Steps};
+ghost use Rattle.bgpdump_tool.specs.Execution.{HasRoom, run_state_from_devices, Steps};
 
-use bgpdump_lines::{LIMIT, OutFault, Outcome, Output, flush_before_waiting, write_report};
+use bgpdump_lines::{INPUT_LIMIT, OutFault, Outcome, Output, flush_before_waiting, write_report};
 use ip_prefix::Text;
 use mrt_wire::{Input, Next, Route, Source, Stamp};
 use prefix_store::PrefixStore;
@@ -41,22 +41,22 @@ impl<S: PrefixStore<Rc<Route>>> Session<S> {
     /// selects the time that the routes of tables get.
     pub(crate) fn new(alloc: Global, stamp: Stamp) -> Self
         ensures player { result.player ≡ fresh }
-        ensures source { result.source ≡ start_place stamp LIMIT }
+        ensures source { result.source ≡ start_state stamp INPUT_LIMIT }
         ensures reported { result.reported ≡ false }
     {
         Session {
             alloc,
             player: Player::new(alloc),
-            source: Source::new(alloc, stamp, LIMIT),
+            source: Source::new(alloc, stamp, INPUT_LIMIT),
             reported: false,
             text: Text::new(alloc),
         }
     }
 
     /// Drops the state at the end of a run, or leaks it if the stores leave their memory to the
-    /// system (`PrefixStore::is_left`).
+    /// system (`PrefixStore::leaks_on_drop`).
     pub(crate) fn end(self) {
-        if S::is_left() {
+        if S::leaks_on_drop() {
             mem::forget(self);
         }
     }
@@ -93,8 +93,8 @@ impl<S: PrefixStore<Rc<Route>>> Session<S> {
     ) -> Result<bool, Outcome>
         requires room { HasRoom self.old.player self.old.source LONGEST_SCRIPT }
         ensures steps { Steps
-            (scene_of I.left E.written self.old input.old err.old)
-            (scene_of I.left E.written self.new input.new err.new) result }
+            (run_state_from_devices I.left E.written self.old input.old err.old)
+            (run_state_from_devices I.left E.written self.new input.new err.new) result }
         ensures room { (lost : ℕ) → HasRoom self.old.player self.old.source lost →
             HasRoom self.new.player self.new.source lost }
         ensures smaller { IfOk result (λ ended. ended ≡ false →
@@ -114,8 +114,8 @@ impl<S: PrefixStore<Rc<Route>>> Session<S> {
         match self.source.next(input)? {
             Next::Event(event) => {
                 self.player.play(&event).map_err(|_| Outcome::Memory)?;
-                self.source.take_back(Next::Event(event));
-                self.player.give_back_routes();
+                self.source.recycle(Next::Event(event));
+                self.player.drop_unused_routes();
                 Ok(false)
             }
             Next::Bad(fault) => {

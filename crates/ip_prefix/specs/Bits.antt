@@ -5,14 +5,14 @@ use Rattle.ip_prefix.specs.declared.addr.TheConstants.{OCTET_BITS}
 use Rattle.ip_prefix.specs.declared.number.TheConstants.{NUMBER_BITS}
 
 -- the bit as a number, 1 or 0
-abbrev pub worth : Bool → ℕ
-worth true = 1
-worth false = 0
+abbrev pub bit_value : Bool → ℕ
+bit_value true = 1
+bit_value false = 0
 
 -- the number that the bits spell in base 2, the most significant first
 unfoldable pub number_of : List Bool → ℕ
 number_of [] = 0
-number_of (bit ∷ bits) = worth bit * 2 ^ length bits + number_of bits
+number_of (bit ∷ bits) = bit_value bit * 2 ^ length bits + number_of bits
 
 -- the lowest bits of a number, as many as the first argument says, the most significant first
 unfoldable pub bits_of : ℕ → ℕ → List Bool

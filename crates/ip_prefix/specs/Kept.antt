@@ -5,7 +5,7 @@ use Rattle.std.specs.Prelude.{◌≡◌, ℕ, zero, suc, ◌+◌, ◌*◌, ◌^�
 use Rattle.std.proofs.Common.{◌∙◌, sym, ap, subst, arith, pow-add, div-lt_iff_lt-mul, mod-eq_of_lt}
 use Rattle.std.proofs.lemmas.Nat.{mod-pow-add, pow_pos, shr_split}
 use Rattle.std.proofs.lemmas.Nat.Bits.{bit_at-lt}
-use Rattle.ip_prefix.specs.Bits.{worth, number_of, bits_of, highest_bits}
+use Rattle.ip_prefix.specs.Bits.{bit_value, number_of, bits_of, highest_bits}
 use Rattle.ip_prefix.specs.declared.number.TheConstants.{HALF_BITS, NUMBER_BITS}
 use Rattle.std.specs.declared.cmp.Ordering.{Ordering}
 use Rattle.std.specs.Ordering.{nat_cmp, ordering_then}
@@ -22,7 +22,7 @@ length-bits_of zero n = refl
 length-bits_of (suc k) n = ap suc (length-bits_of k n)
 
 -- a number below 2, taken as a bit and back, is itself
-worth_of_digit : (digit : ℕ) → digit < 2 → worth (digit == 1) ≡ digit
+worth_of_digit : (digit : ℕ) → digit < 2 → bit_value (digit == 1) ≡ digit
 worth_of_digit zero h = refl
 worth_of_digit (suc zero) h = refl
 worth_of_digit (suc (suc digit)) h = absurd (omega arith)
@@ -59,16 +59,16 @@ low-again high low fits = omega (arith, fits)
 -- ---- numbers and prefixes whose other bits are 0
 
 -- the number of 128 bits whose highest are `bits`, of which there are `size`, and whose others are 0
-abbrev pub number_from : ℕ → List Bool → ℕ
-number_from size bits = number_of bits * 2 ^ (NUMBER_BITS - size)
+abbrev pub number_with_high_bits : ℕ → List Bool → ℕ
+number_with_high_bits size bits = number_of bits * 2 ^ (NUMBER_BITS - size)
 
 -- the number of 128 bits with all bits but its highest `size` cleared
 abbrev pub highest_part : ℕ → ℕ → ℕ
 highest_part size number = number / 2 ^ (NUMBER_BITS - size) * 2 ^ (NUMBER_BITS - size)
 
 -- the order of prefixes by their least addresses, and among prefixes with one least address by length
-abbrev pub filled_cmp : Network → Network → Ordering
-filled_cmp m n = ordering_then (address_cmp (least_address m) (least_address n)) (nat_cmp (length m.bits) (length n.bits))
+abbrev pub least_address_cmp : Network → Network → Ordering
+least_address_cmp m n = ordering_then (address_cmp (least_address m) (least_address n)) (nat_cmp (length m.bits) (length n.bits))
 
 -- ---- the numbers that addresses and prefixes are stored as
 
@@ -93,12 +93,12 @@ pub length-masked : (number size : ℕ) → length (highest_bits size number) �
 length-masked number size = length-bits_of size (number / 2 ^ (NUMBER_BITS - size))
 
 -- a number that stores a prefix is the one made of its highest `size` bits
-pub number-again : (family : Family) (number size : ℕ) → IsMasked family number size → number_from size (highest_bits size number) ≡ number
+pub number-again : (family : Family) (number size : ℕ) → IsMasked family number size → number_with_high_bits size (highest_bits size number) ≡ number
 number-again family number size h =
     let all : NUMBER_BITS ≡ size + (NUMBER_BITS - size) = omega (arith, h.1, bit_count_le family) in
     number-highest size (NUMBER_BITS - size) number (subst (λ w. number < 2 ^ w) all h.0) h.2
 
 -- a number that stores a prefix is the one made of its bits, whose length is `size`
 pub number-masked : (family : Family) (number size : ℕ) → IsMasked family number size
-    → number_from (length (highest_bits size number)) (highest_bits size number) ≡ number
+    → number_with_high_bits (length (highest_bits size number)) (highest_bits size number) ≡ number
 number-masked family number size h = rw (length-masked number size) (number-again family number size h)

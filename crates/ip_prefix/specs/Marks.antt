@@ -35,5 +35,5 @@ pub record IsLastSlash (text : List ℕ) (at : ℕ) : Type 0 where
   pub last : (k : ℕ) → at < k → k < length text → slice_index text k ≢ SLASH
 
 -- the groups in lower-case hexadecimal without leading zeros, a colon before each
-abbrev pub led_groups : List ℕ → List ℕ
-led_groups groups = flat_map (λ group. COLON ∷ hex group) groups
+abbrev pub colon_led_groups : List ℕ → List ℕ
+colon_led_groups groups = flat_map (λ group. COLON ∷ hex group) groups

@@ -12,8 +12,8 @@ ghost use Rattle.ip_prefix.specs.OrderLaws.{network_cmp_total};
 ghost use Rattle.octet_forms.specs.Fronts.{BeginsWithNone};
 
 use crate::addr::{Addr, Family, OCTET_BITS, V4_BITS};
-use crate::fronts::{highest, number_in_front};
-use crate::number::{HALF_BITS, NUMBER_BITS, Number};
+use crate::leading_bits::{keep_highest_bits, number_from_leading_octets};
+use crate::number::{HALF_BITS, NUMBER_BITS, U128Halves};
 use std::cmp::Ordering;
 use std::marker::Model;
 
@@ -22,7 +22,7 @@ use std::marker::Model;
 #[derive(Clone, Copy, Debug)]
 pub struct Prefix {
     // The bits of the prefix are the highest of the number, and the bits below are 0.
-    number: Number,
+    number: U128Halves,
     len: u8,
     family: Family,
 }
@@ -31,7 +31,7 @@ impl Model for Prefix {
     ghost use Rattle.std.specs.Prelude.{length};
     ghost use Rattle.ip_prefix.specs.Network.{Network};
     ghost use Rattle.ip_prefix.specs.Bits.{highest_bits};
-    ghost use Rattle.ip_prefix.specs.Kept.{number_from, IsMasked, number-masked, length-masked};
+    ghost use Rattle.ip_prefix.specs.Kept.{number_with_high_bits, IsMasked, number-masked, length-masked};
 
     ghost Value = { Network };
 
@@ -40,7 +40,7 @@ impl Model for Prefix {
     ghost invariant = { λ p. IsMasked p.family p.number p.len };
 
     ghost inverse = { λ n. record {
-      number = number_from (length n.bits) n.bits;
+      number = number_with_high_bits (length n.bits) n.bits;
       len = length n.bits;
       family = n.family;
     } };
@@ -64,7 +64,7 @@ impl Prefix {
             return None;
         }
         Some(Prefix {
-            number: Number::new(highest(addr.number(), len)),
+            number: U128Halves::new(keep_highest_bits(addr.number(), len)),
             len,
             family,
         })
@@ -77,7 +77,7 @@ impl Prefix {
     {
         let family = addr.family();
         Prefix {
-            number: Number::new(addr.number()),
+            number: U128Halves::new(addr.number()),
             len: family.width(),
             family,
         }
@@ -96,7 +96,7 @@ impl Prefix {
         ensures value { result ≡ least_address self.now }
         ensures whole { IsAddress result }
     {
-        Addr::aligned(self.number.get(), self.family)
+        Addr::from_high_bits(self.number.get(), self.family)
     }
 
     /// Returns the bits of the prefix as a number, of which they are the highest. The bits below
@@ -109,20 +109,20 @@ impl Prefix {
         self.number.get()
     }
 
-    /// Returns whether the bit at index `place` is 1, where 0 is the most significant. `place` must
+    /// Returns whether the bit at index `index` is 1, where 0 is the most significant. `index` must
     /// be below the length.
     #[inline]
-    pub(crate) fn bit(&self, place: u8) -> bool
-        requires { place < length self.now.bits }
-        ensures { slice_get self.now.bits place ≡ Some result }
+    pub(crate) fn bit(&self, index: u8) -> bool
+        requires { index < length self.now.bits }
+        ensures { slice_get self.now.bits index ≡ Some result }
     {
-        self.number.bit(place)
+        self.number.bit(index)
     }
 
     /// Returns the highest 64 of 128 bits of the least address as a number. An IPv4 address has the
     /// high 32 of them, and the low 32 are 0.
     #[inline]
-    pub fn high_half(&self) -> u64
+    pub fn high_64_bits(&self) -> u64
         ensures { bits_of HALF_BITS result ≡ take HALF_BITS
             (self.now.bits ++ replicate (NUMBER_BITS - length self.now.bits) false) }
     {
@@ -141,12 +141,12 @@ impl Prefix {
 
     /// Returns the prefix of the first `len` bits of this prefix. `len` must be at most its length.
     #[inline]
-    pub(crate) fn front(&self, len: u8) -> Prefix
+    pub(crate) fn shortened(&self, len: u8) -> Prefix
         requires { len ≤ length self.now.bits }
         ensures { result ≡ record { family = self.now.family; bits = take len self.now.bits } }
     {
         Prefix {
-            number: Number::new(highest(self.number.get(), len)),
+            number: U128Halves::new(keep_highest_bits(self.number.get(), len)),
             len,
             family: self.family,
         }
@@ -157,7 +157,8 @@ impl Prefix {
     pub fn contains(&self, addr: &Addr) -> bool
         ensures { result ≡ contains self.now addr.now }
     {
-        self.family == addr.family() && highest(addr.number(), self.len) == self.number.get()
+        self.family == addr.family()
+            && keep_highest_bits(addr.number(), self.len) == self.number.get()
     }
 
     /// Returns `true` if `other` is of the family of this prefix and begins with its bits. A prefix
@@ -168,7 +169,7 @@ impl Prefix {
     {
         self.family == other.family
             && self.len <= other.len
-            && highest(other.number.get(), self.len) == self.number.get()
+            && keep_highest_bits(other.number.get(), self.len) == self.number.get()
     }
 
     /// Parses the prefix of `family` at the start of `octets`: its length in bits, of one octet,
@@ -189,10 +190,10 @@ impl Prefix {
         if rest.len() < size {
             return None;
         }
-        let number = highest(number_in_front(rest, size), len);
+        let number = keep_highest_bits(number_from_leading_octets(rest, size), len);
         Some((
             Prefix {
-                number: Number::new(number),
+                number: U128Halves::new(number),
                 len,
                 family,
             },

@@ -1,5 +1,5 @@
 //! Printing addresses and prefixes as text. The printers of lines and replies call it, mostly
-//! through [`InPlace`]. Read [`Addr::write_text`] and [`Prefix::write_text`] first.
+//! through [`WriteTextAt`]. Read [`Addr::write_text`] and [`Prefix::write_text`] first.
 
 ghost use Rattle.std.specs.Prelude.{◌≡◌, ◌+◌, ◌*◌, ◌<◌, ◌≤◌, [], ◌∷◌, ◌++◌, OnOk, OnErr, length, take, drop, replicate, decimal};
 ghost use Rattle.std.specs.Net.Text as Hex;
@@ -11,7 +11,9 @@ ghost use Rattle.octet_text.specs.Written.{IsWritten};
 use crate::addr::{Addr, Family, GROUP_COUNT, V4_OCTETS};
 use crate::prefix::Prefix;
 use crate::zero_runs::ZERO_RUNS;
-use octet_text::{HEX_PAIR, InPlace, ROW, hex_pair, put_octets, write_hex_pair, write_short};
+use octet_text::{
+    HEX_PAIR, ROW, WriteTextAt, hex_pair, put_octets, write_below_thousand, write_hex_pair,
+};
 use std::alloc::AllocError;
 
 /// The separator of the octets in the text of an IPv4 address.
@@ -54,12 +56,12 @@ impl Addr {
     {
         match self.family() {
             Family::V4 => {
-                let second = write_octet(self.octet(0), text, at);
-                let third = write_octet(self.octet(1), text, second);
-                let fourth = write_octet(self.octet(2), text, third);
-                write_short(u32::from(self.octet(3)), text, fourth)
+                let second = write_octet_and_dot(self.octet(0), text, at);
+                let third = write_octet_and_dot(self.octet(1), text, second);
+                let fourth = write_octet_and_dot(self.octet(2), text, third);
+                write_below_thousand(u32::from(self.octet(3)), text, fourth)
             }
-            Family::V6 => write_colons(self, text, at),
+            Family::V6 => write_v6(self, text, at),
         }
     }
 
@@ -87,7 +89,7 @@ impl Prefix {
     {
         let slash = self.addr().write_text(text, at);
         text[slash] = SLASH;
-        write_short(u32::from(self.len()), text, slash + 1)
+        write_below_thousand(u32::from(self.len()), text, slash + 1)
     }
 
     /// Appends the prefix to `text`, in the form of [`Prefix::write_text`]. On error, `text` is
@@ -102,7 +104,7 @@ impl Prefix {
     }
 }
 
-impl InPlace for Addr {
+impl WriteTextAt for Addr {
     ghost shown = { address_text };
 
     ghost ROOM = { ADDRESS_ROOM };
@@ -110,12 +112,12 @@ impl InPlace for Addr {
     const ROOM: usize = ADDRESS_ROOM;
 
     #[inline(always)]
-    fn write_in_place(&self, text: &mut [u8], at: usize) -> usize {
+    fn write_text_at(&self, text: &mut [u8], at: usize) -> usize {
         self.write_text(text, at)
     }
 }
 
-impl InPlace for Prefix {
+impl WriteTextAt for Prefix {
     ghost shown = { network_text };
 
     ghost ROOM = { PREFIX_ROOM };
@@ -123,7 +125,7 @@ impl InPlace for Prefix {
     const ROOM: usize = PREFIX_ROOM;
 
     #[inline(always)]
-    fn write_in_place(&self, text: &mut [u8], at: usize) -> usize {
+    fn write_text_at(&self, text: &mut [u8], at: usize) -> usize {
         self.write_text(text, at)
     }
 }
@@ -131,12 +133,12 @@ impl InPlace for Prefix {
 /// Writes `octet` in decimal and then a dot into `text` at offset `at`, and returns the offset of
 /// the octet after the dot.
 #[inline]
-fn write_octet(octet: u8, text: &mut [u8], at: usize) -> usize
+fn write_octet_and_dot(octet: u8, text: &mut [u8], at: usize) -> usize
     requires { at + ROW ≤ length text.old }
     ensures written { IsWritten text.old at (decimal octet ++ DOT ∷ []) text.new result }
     ensures short { result ≤ at + ROW }
 {
-    let dot = write_short(u32::from(octet), text, at);
+    let dot = write_below_thousand(u32::from(octet), text, at);
     text[dot] = DOT;
     dot + 1
 }
@@ -145,7 +147,7 @@ fn write_octet(octet: u8, text: &mut [u8], at: usize) -> usize
 /// offset of the octet after it. The groups are joined by colons, and `::` replaces the first of
 /// the longest runs of two or more groups of 0 (RFC 5952, section 4.2).
 #[inline(never)]
-fn write_colons(address: &Addr, text: &mut [u8], at: usize) -> usize
+fn write_v6(address: &Addr, text: &mut [u8], at: usize) -> usize
     requires { (address.now.family ≡ V6) × (at + ADDRESS_ROOM ≤ length text.old) }
     ensures written { IsWritten text.old at (v6_text address.now) text.new result }
     ensures short { result ≤ at + ADDRESS_ROOM }
@@ -216,16 +218,16 @@ fn write_group(group: u16, text: &mut [u8], at: usize) -> usize
     ensures short { result ≤ at + GROUP_DIGITS }
 {
     if group < 0x100 {
-        return write_low_group(group, text, at);
+        return write_group_below_256(group, text, at);
     }
-    let low = write_low_group(group / 0x100, text, at);
+    let low = write_group_below_256(group / 0x100, text, at);
     write_hex_pair(group % 0x100, text, low)
 }
 
 /// Writes `group`, which must be below 256, in lower-case hexadecimal, without leading zeros, into
 /// `text` at offset `at`, and returns the offset of the octet after it.
 #[inline]
-fn write_low_group(group: u16, text: &mut [u8], at: usize) -> usize
+fn write_group_below_256(group: u16, text: &mut [u8], at: usize) -> usize
     requires { (group < 0x100) × (at + HEX_PAIR ≤ length text.old) }
     ensures written { IsWritten text.old at (Hex.hex group) text.new result }
     ensures short { result ≤ at + HEX_PAIR }

@@ -81,6 +81,6 @@ impl Prefix {
         ensures { result ≡ common self.now other.now }
     {
         let shared = (self.number() ^ other.number()).leading_zeros() as u8;
-        self.front(shared.min(self.len()).min(other.len()))
+        self.shortened(shared.min(self.len()).min(other.len()))
     }
 }

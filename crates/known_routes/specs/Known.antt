@@ -1,13 +1,13 @@
 -- Private.
 -- Numbers of routes of a `RouteInterner`, for the contracts of its methods.
 use Rattle.std.specs.Prelude.{ℕ}
-use Rattle.known_routes.specs.declared.routes.KnownRoutes.{KnownRoutes}
+use Rattle.known_routes.specs.declared.routes.RouteInterner.{RouteInterner}
 
 -- the number of slots of the table that have a route; routes in the overflow aren't counted
-abbrev pub route_count : KnownRoutes → ℕ
+abbrev pub route_count : RouteInterner → ℕ
 route_count known = known.routes.taken
 
 -- the number of routes that the table has slots for: those in slots when the last play began, or
 -- when the table last grew since
-abbrev pub stood_count : KnownRoutes → ℕ
-stood_count known = known.stood
+abbrev pub sized_for : RouteInterner → ℕ
+sized_for known = known.stood

@@ -4,12 +4,12 @@
 #![tactic(auto)]
 
 mod ordered_routes;
-mod place;
-mod places;
 mod route_hash;
 mod route_order;
 mod routes;
+mod slot;
+mod slots;
 mod spare_room;
 
 pub use route_hash::peer_hash;
-pub use routes::KnownRoutes;
+pub use routes::RouteInterner;

@@ -51,7 +51,7 @@ impl HashedRoute {
     }
 
     /// Returns `true` if nothing else owns the route.
-    fn is_last_owner(&self) -> bool {
+    fn is_only_owner(&self) -> bool {
         Rc::strong_count(&self.route) == 1
     }
 }
@@ -67,7 +67,7 @@ fn find_index(run: &[HashedRoute], hash: u32, route: &Route) -> usize
 /// Returns `true` if the first route of the run is greater than `route`, whose hash is `hash`.
 /// Returns `false` if the run is empty.
 #[inline]
-fn is_behind(run: &[HashedRoute], hash: u32, route: &Route) -> bool {
+fn starts_after(run: &[HashedRoute], hash: u32, route: &Route) -> bool {
     match run.first() {
         Some(first) => first.compare_to(hash, route) == Ordering::Greater,
         None => false,
@@ -76,7 +76,7 @@ fn is_behind(run: &[HashedRoute], hash: u32, route: &Route) -> bool {
 
 /// Shrinks the capacity of the list to its length if it is far more ([`MOST_TIMES`]). If memory
 /// allocation for the smaller block fails, the list is unchanged.
-fn give_back_room<T: Drop>(list: &mut Vec<T>)
+fn shrink_if_sparse<T: Drop>(list: &mut Vec<T>)
     ensures { list.new.items ≡ list.old.items }
 {
     if list.capacity() / MOST_TIMES > list.len() {
@@ -86,23 +86,26 @@ fn give_back_room<T: Drop>(list: &mut Vec<T>)
 
 /// Removes the routes of the run that have no other owner, and returns the number of octets that
 /// they took ([`route_size`]).
-fn take_unowned_of(run: &mut Vec<HashedRoute>) -> u64 {
+fn remove_unowned_from(run: &mut Vec<HashedRoute>) -> u64 {
     let mut octets = 0u64;
     'routes: for hashed in run.iter() {
-        if hashed.is_last_owner() {
+        if hashed.is_only_owner() {
             octets = octets.saturating_add(route_size(&hashed.route));
         }
     }
     if octets > 0 {
-        run.retain(|hashed| !hashed.is_last_owner());
-        give_back_room(run);
+        run.retain(|hashed| !hashed.is_only_owner());
+        shrink_if_sparse(run);
     }
     octets
 }
 
 /// Removes the second half of the run and returns it, in order. Fails if memory allocation fails;
 /// the run is unchanged then.
-fn split_half(alloc: Global, run: &mut Vec<HashedRoute>) -> Result<Vec<HashedRoute>, AllocError> {
+fn split_off_half(
+    alloc: Global,
+    run: &mut Vec<HashedRoute>,
+) -> Result<Vec<HashedRoute>, AllocError> {
     let kept = run.len() / 2;
     let mut half = Vec::with_capacity(alloc, run.len() - kept)?;
     'routes: for _ in kept..run.len() {
@@ -116,7 +119,7 @@ fn split_half(alloc: Global, run: &mut Vec<HashedRoute>) -> Result<Vec<HashedRou
 
 impl OrderedRoutes {
     /// Returns an empty list. Allocates no memory.
-    pub(crate) fn none(alloc: Global) -> OrderedRoutes {
+    pub(crate) fn empty(alloc: Global) -> OrderedRoutes {
         OrderedRoutes {
             runs: Vec::new(alloc),
             count: 0,
@@ -124,7 +127,7 @@ impl OrderedRoutes {
     }
 
     /// Returns `true` if the list has as many routes as it may have ([`MOST_ORDERED`]).
-    pub(crate) fn are_most(&self) -> bool {
+    pub(crate) fn is_full(&self) -> bool {
         self.count >= MOST_ORDERED
     }
 
@@ -132,7 +135,7 @@ impl OrderedRoutes {
     /// whose first route isn't greater, or 0 if there is none.
     fn find_run(&self, hash: u32, route: &Route) -> usize {
         self.runs
-            .partition_point(|run| !is_behind(run, hash, route))
+            .partition_point(|run| !starts_after(run, hash, route))
             .saturating_sub(1)
     }
 
@@ -154,14 +157,14 @@ impl OrderedRoutes {
         requires { index < vec_len self.old.runs }
     {
         self.runs.reserve(1)?;
-        let half = split_half(*self.runs.allocator(), &mut self.runs[index])?;
+        let half = split_off_half(*self.runs.allocator(), &mut self.runs[index])?;
         self.runs.insert(index + 1, half)?;
         Ok(())
     }
 
     /// Returns the index of the run that `route`, whose hash is `hash`, is to be inserted into, and
     /// splits a full run before. Fails if memory allocation fails; the runs are unchanged then.
-    fn find_room(&mut self, hash: u32, route: &Route) -> Result<usize, AllocError> {
+    fn make_room_for(&mut self, hash: u32, route: &Route) -> Result<usize, AllocError> {
         let index = self.find_run(hash, route);
         if index >= self.runs.len() || self.runs[index].len() < LONGEST_RUN {
             return Ok(index);
@@ -172,15 +175,15 @@ impl OrderedRoutes {
 
     /// Inserts a route, whose hash is `hash`, in order. Fails if memory allocation fails; the route
     /// is dropped then.
-    pub(crate) fn put_route(&mut self, hash: u32, route: Rc<Route>) -> Result<(), AllocError> {
+    pub(crate) fn insert_route(&mut self, hash: u32, route: Rc<Route>) -> Result<(), AllocError> {
         if self.runs.is_empty() {
             let first = Vec::new(*self.runs.allocator());
             self.runs.push(first)?;
         }
-        let index = self.find_room(hash, &route)?;
+        let index = self.make_room_for(hash, &route)?;
         if let Some(run) = self.runs.get_mut(index) {
-            let place = find_index(run, hash, &route);
-            run.insert(place, HashedRoute { hash, route })?;
+            let position = find_index(run, hash, &route);
+            run.insert(position, HashedRoute { hash, route })?;
             self.count = self.count.saturating_add(1);
         }
         Ok(())
@@ -188,21 +191,21 @@ impl OrderedRoutes {
 
     /// Removes `route` itself, not one that equals it, and returns `true` if it was found. Its hash
     /// is `hash`.
-    pub(crate) fn take_route(&mut self, hash: u32, route: &Rc<Route>) -> bool {
+    pub(crate) fn remove_route(&mut self, hash: u32, route: &Rc<Route>) -> bool {
         let index = self.find_run(hash, route);
         if index >= self.runs.len() {
             return false;
         }
         let run = &mut self.runs[index];
-        let place = find_index(run, hash, route);
-        if place >= run.len() || !Rc::ptr_eq(&run[place].route, route) {
+        let position = find_index(run, hash, route);
+        if position >= run.len() || !Rc::ptr_eq(&run[position].route, route) {
             return false;
         }
-        let _gone = run.remove(place);
-        give_back_room(run);
+        let _gone = run.remove(position);
+        shrink_if_sparse(run);
         if run.is_empty() {
             let _run = self.runs.remove(index);
-            give_back_room(&mut self.runs);
+            shrink_if_sparse(&mut self.runs);
         }
         self.count = self.count.saturating_sub(1);
         true
@@ -211,16 +214,16 @@ impl OrderedRoutes {
     /// Removes the routes that have no other owner, and returns the number of octets that they
     /// took. Shrinks lists whose capacity is far more than their length, unless memory allocation
     /// for a smaller block fails.
-    pub(crate) fn take_unowned(&mut self) -> u64 {
+    pub(crate) fn remove_unowned(&mut self) -> u64 {
         let mut octets = 0u64;
         let mut count = 0usize;
         'runs: for run in self.runs.iter_mut() {
-            octets = octets.saturating_add(take_unowned_of(run));
+            octets = octets.saturating_add(remove_unowned_from(run));
             count = count.saturating_add(run.len());
         }
         self.count = count;
         self.runs.retain(|run| !run.is_empty());
-        give_back_room(&mut self.runs);
+        shrink_if_sparse(&mut self.runs);
         octets
     }
 }

@@ -29,8 +29,8 @@ fn compare_paths(ones: &[Segment], others: &[Segment]) -> Ordering {
     if counts != Ordering::Equal {
         return counts;
     }
-    'segments: for place in 0..ones.len().min(others.len()) {
-        let compared = compare_segments(&ones[place], &others[place]);
+    'segments: for index in 0..ones.len().min(others.len()) {
+        let compared = compare_segments(&ones[index], &others[index]);
         if compared != Ordering::Equal {
             return compared;
         }

@@ -35,7 +35,7 @@ fn add_spare<T>(octets: u64, list: &Vec<T>, size: usize) -> u64 {
 /// Returns `true` if the route, which takes `octets` octets, has much spare capacity
 /// ([`SPARE_SHARE`]).
 #[inline]
-fn has_much_room(route: &Route, octets: u64) -> bool {
+fn has_much_spare(route: &Route, octets: u64) -> bool {
     let attrs = &route.attrs;
     let segments = &attrs.path.segments.items;
     let mut spare = add_spare(0, &attrs.communities.items, NUMBER_OCTETS);
@@ -58,14 +58,14 @@ fn copy_route(alloc: Global, route: &Route) -> Result<Rc<Route>, AllocError>
 /// Returns `route`, or a copy without spare capacity if it has much. `octets` is the number of
 /// octets that it takes. Fails if memory allocation fails.
 #[inline]
-pub(crate) fn copy_roomy(
+pub(crate) fn copy_if_oversized(
     alloc: Global,
     route: &Rc<Route>,
     octets: u64,
 ) -> Result<Rc<Route>, AllocError>
     ensures { IfOk result (λ copy. copy.value ≡ route.now.value) }
 {
-    if has_much_room(route, octets) {
+    if has_much_spare(route, octets) {
         return copy_route(alloc, route);
     }
     route.clone()

@@ -17,16 +17,16 @@ peer_cmp = then_cmp (on (λ p. p.addr) address_cmp) (on (λ p. p.asn) nat_cmp)
 -- ---- the values of items
 
 -- the value of an item: its peer and its prefix, with the value of its route and not a handle to it
-pub data Saying : Type 0 where
+pub data ItemValue : Type 0 where
   -- from now on the peer has this route to the prefix
-  Announced : Peer → Network → Route → Saying
+  Announced : Peer → Network → Route → ItemValue
   -- from now on the peer has no route to the prefix
-  Withdrawn : Peer → Network → Saying
+  Withdrawn : Peer → Network → ItemValue
   -- the session with the peer went from the first state to the second, by their numbers (RFC 6396, section 4.4.1)
-  Changed : Peer → ℕ → ℕ → Saying
+  Changed : Peer → ℕ → ℕ → ItemValue
 
 -- the value of an item
-abbrev pub saying : Item → Saying
-saying (item.Announce peer network route) = Announced peer network route.value
-saying (item.Withdraw peer network) = Withdrawn peer network
-saying (item.State peer old new) = Changed peer old new
+abbrev pub item_value : Item → ItemValue
+item_value (item.Announce peer network route) = Announced peer network route.value
+item_value (item.Withdraw peer network) = Withdrawn peer network
+item_value (item.State peer old new) = Changed peer old new

@@ -73,7 +73,7 @@ pub enum Item {
 
 /// A range of items that announce prefixes of one peer with one route. It may be empty.
 #[derive(Clone, Copy, Debug, PartialEq, Eq)]
-pub struct Shared {
+pub struct SharedRange {
     /// The index of the first item.
     pub start: usize,
     /// The index after the last item.
@@ -102,24 +102,24 @@ pub struct Items {
 
 impl Model for Items {
     ghost use Rattle.std.specs.Prelude.{List, map};
-    ghost use Rattle.mrt_events.specs.Event.{Saying, saying};
-    ghost use Rattle.mrt_events.specs.SharedRoute.{AreSharedIn};
+    ghost use Rattle.mrt_events.specs.Event.{ItemValue, item_value};
+    ghost use Rattle.mrt_events.specs.SharedRoute.{AreSharedRanges};
 
-    ghost Value = { List Saying };
+    ghost Value = { List ItemValue };
 
-    ghost view = { λ a. map saying a.items.items };
+    ghost view = { λ a. map item_value a.items.items };
 
-    ghost invariant = { λ a. AreSharedIn a.shared (map saying a.items.items) };
+    ghost invariant = { λ a. AreSharedRanges a.shared (map item_value a.items.items) };
 }
 
 impl Items {
     ghost use Rattle.std.specs.Prelude.{◌≤◌, length, map, slice_range};
-    ghost use Rattle.mrt_events.specs.Event.{saying};
-    ghost use Rattle.mrt_events.specs.SharedRoute.{AreOfOneRoute, AreSharedIn};
+    ghost use Rattle.mrt_events.specs.Event.{item_value};
+    ghost use Rattle.mrt_events.specs.SharedRoute.{AnnounceOneRoute, AreSharedRanges};
 
     /// Returns the items of a vector, in order. No range of them is known to share a route.
     pub fn from_vec(items: Vec<Item>) -> Items
-        ensures { result ≡ map saying items.items }
+        ensures { result ≡ map item_value items.items }
     {
         Items {
             items,
@@ -133,16 +133,16 @@ impl Items {
 
     /// Returns the items of a vector, in order. The items of each range of `shared` must announce
     /// prefixes of one peer with one route.
-    pub fn sharing(items: Vec<Item>, shared: SharedRanges) -> Items
-        requires { AreSharedIn shared (map saying items.items) }
-        ensures { result ≡ map saying items.items }
+    pub fn with_shared_ranges(items: Vec<Item>, shared: SharedRanges) -> Items
+        requires { AreSharedRanges shared (map item_value items.items) }
+        ensures { result ≡ map item_value items.items }
     {
         Items { items, shared }
     }
 
     /// Converts the items into a vector, in order.
     pub fn into_vec(self) -> Vec<Item>
-        ensures { map saying result.items ≡ self }
+        ensures { map item_value result.items ≡ self }
     {
         let Items { items, .. } = self;
         items
@@ -150,7 +150,7 @@ impl Items {
 
     /// Returns the items as a slice, in order.
     pub fn as_slice(&self) -> &[Item]
-        ensures { map saying result.now ≡ self.now }
+        ensures { map item_value result.now ≡ self.now }
     {
         &self.items
     }
@@ -158,22 +158,22 @@ impl Items {
     /// Returns the longer one of [`Items::shared_ranges`], the first if both have one length. Its
     /// items announce prefixes of one peer with one route. It may be empty although several items
     /// do.
-    pub fn shared(&self) -> Shared
+    pub fn longest_shared_range(&self) -> SharedRange
         ensures ordered { result.start ≤ result.end }
         ensures within { result.end ≤ length self.now }
-        ensures alike { AreOfOneRoute (slice_range self.now result.start result.end) }
+        ensures alike { AnnounceOneRoute (slice_range self.now result.start result.end) }
     {
         let SharedRanges { start, middle, end } = self.shared;
         if end.saturating_sub(middle) > middle.saturating_sub(start) {
-            return Shared { start: middle, end };
+            return SharedRange { start: middle, end };
         }
-        Shared { start, end: middle }
+        SharedRange { start, end: middle }
     }
 
     /// Returns the two ranges of items that are known to announce prefixes of one peer with one
     /// route each. Either may be empty although several items do.
     pub fn shared_ranges(&self) -> SharedRanges
-        ensures { AreSharedIn result self.now }
+        ensures { AreSharedRanges result self.now }
     {
         self.shared
     }

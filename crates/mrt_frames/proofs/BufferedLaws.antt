@@ -2,14 +2,14 @@
 use Rattle.std.proofs.Common.{◌≡◌, ℕ, ◌+◌, ◌-◌, ◌≤◌, ◌<◌, List, ◌++◌, length, take, drop, sym, ap, ◌∙◌, arith, length-append, length-take-le, append_assoc}
 use Rattle.std.proofs.Math.Seq.{take-length}
 use Rattle.std.proofs.lemmas.List.{take-append-drop}
-use Rattle.mrt_frames.specs.Record.{IsHeader, header_octets}
+use Rattle.mrt_frames.specs.Record.{FitsHeader, header_octets}
 use Rattle.mrt_frames.specs.Buffered.{HoldsRecord}
 use borrow.Rule.Slice.PartMut.{put_mid}
 use Rattle.mrt_frames.proofs.Buffers.{take-put_mid}
 use Rattle.mrt_frames.proofs.RecordLaws.{same_header}
 
 -- a header and enough octets after it
-pub HoldsRecord-of : (octets : List ℕ) (s k t n : ℕ) → IsHeader s k t n → header_octets s k t n ≡ take 12 octets → n ≤ length (drop 12 octets) → HoldsRecord octets
+pub HoldsRecord-of : (octets : List ℕ) (s k t n : ℕ) → FitsHeader s k t n → header_octets s k t n ≡ take 12 octets → n ≤ length (drop 12 octets) → HoldsRecord octets
 HoldsRecord-of octets s k t n fits header enough = record {
   seconds = s;
   kind = k;
@@ -27,7 +27,7 @@ HoldsRecord-short octets short holds =
     omega (arith, ap length holds.whole, length-append (header_octets holds.seconds holds.kind holds.subtype holds.size) holds.after)
 
 -- after the header of a record there are as many octets as it states
-pub HoldsRecord-size : (octets after : List ℕ) (s k t n : ℕ) → IsHeader s k t n → octets ≡ header_octets s k t n ++ after → HoldsRecord octets → n ≤ length after
+pub HoldsRecord-size : (octets after : List ℕ) (s k t n : ℕ) → FitsHeader s k t n → octets ≡ header_octets s k t n ++ after → HoldsRecord octets → n ≤ length after
 HoldsRecord-size octets after s k t n fits whole holds =
     let same = same_header s k t n holds.seconds holds.kind holds.subtype holds.size after holds.after fits holds.fits (sym whole ∙ holds.whole) in
     omega (arith, same.size, holds.enough, ap length same.rest)

@@ -21,7 +21,7 @@ abbrev pub header_octets : ℕ → ℕ → ℕ → ℕ → List ℕ
 header_octets seconds kind subtype size = to_be_bytes w32 seconds ++ (to_be_bytes w16 kind ++ (to_be_bytes w16 subtype ++ to_be_bytes w32 size))
 
 -- the timestamp, type, subtype and length of a header each fit the octets that they have there
-pub record IsHeader (seconds kind subtype size : ℕ) : Type 0 where
+pub record FitsHeader (seconds kind subtype size : ℕ) : Type 0 where
   pub seconds_fit : seconds < 2 ^ 32
   pub kind_fits : kind < 2 ^ 16
   pub subtype_fits : subtype < 2 ^ 16
@@ -33,7 +33,7 @@ spelling r = header_octets r.seconds r.kind r.subtype (length r.body) ++ r.body
 
 -- the fields of the record fit its header, and its body has at most 16,777,216 octets
 pub record IsRecord (r : Record) : Type 0 where
-  pub header : IsHeader r.seconds r.kind r.subtype (length r.body)
+  pub header : FitsHeader r.seconds r.kind r.subtype (length r.body)
   pub size : length r.body ≤ LONGEST_BODY
 
 -- the octets don't begin with those of a record that is whole; they may begin with a part of one, or be empty
@@ -69,6 +69,6 @@ pub record IsRest (octets : List ℕ) : Type 0 where
 
 -- the octets begin with no whole record, and a whole one may yet come of them, as more octets follow: no header in
 -- them states too much. It holds of no octets, too.
-pub record IsBegun (octets : List ℕ) : Type 0 where
+pub record IsUnfinished (octets : List ℕ) : Type 0 where
   pub none : BeginsWithNoRecord octets
   pub cut : rest_kind octets ≡ CutRecord

@@ -2,17 +2,17 @@
 -- What the reader of records takes from its input, by what it returns.
 use Rattle.std.specs.Prelude.{ℕ, ◌<◌, List, slice_index, take, ◌≡◌, ◌+◌, ◌≤◌, Bool, true, false, length, Option, Some, None, Result, Ok, Err}
 use Rattle.mrt_frames.specs.declared.header.Header.{Header}
-use Rattle.mrt_frames.specs.Record.{Record, IsHeader, header_octets, spelling, IsRecord, rest_kind, rest_fault, IsRest, IsBegun}
+use Rattle.mrt_frames.specs.Record.{Record, FitsHeader, header_octets, spelling, IsRecord, rest_kind, rest_fault, IsRest, IsUnfinished}
 use Rattle.std.specs.Io.KnownBytes.{Consumes, IsAtEnd}
 use Rattle.mrt_frames.specs.declared.fault.SourceFault.{SourceFault}
 use Rattle.mrt_frames.specs.declared.fault.SourceFault.TheVariants.{Read, InputTooLong, Spent}
 use Rattle.mrt_frames.specs.declared.fault.TakeFault.{TakeFault}
 use Rattle.mrt_frames.specs.declared.fault.TakeFault.TheVariants.{InputFailed, PastLimit}
 use Rattle.mrt_frames.specs.declared.fault.RecordKind.TheVariants.{CutRecord}
-use Rattle.mrt_frames.specs.declared.frames.Start.{Start}
-use Rattle.mrt_frames.specs.declared.frames.Start.TheVariants as start
-use Rattle.mrt_frames.specs.declared.frames.Front.{Front}
-use Rattle.mrt_frames.specs.declared.frames.Front.TheVariants as front
+use Rattle.mrt_frames.specs.declared.frames.NextHeader.{NextHeader}
+use Rattle.mrt_frames.specs.declared.frames.NextHeader.TheVariants as start
+use Rattle.mrt_frames.specs.declared.frames.NextRecord.{NextRecord}
+use Rattle.mrt_frames.specs.declared.frames.NextRecord.TheVariants as front
 
 -- ---- octets, and records made of their parts
 
@@ -21,17 +21,17 @@ abbrev pub IsOctets : List ℕ → Type 0
 IsOctets octets = (i : ℕ) → slice_index octets i < 256
 
 -- the record with this timestamp, type, subtype and body
-abbrev pub record_of : ℕ → ℕ → ℕ → List ℕ → Record
-record_of seconds kind subtype body = record { seconds = seconds; kind = kind; subtype = subtype; body = body }
+abbrev pub record_from_fields : ℕ → ℕ → ℕ → List ℕ → Record
+record_from_fields seconds kind subtype body = record { seconds = seconds; kind = kind; subtype = subtype; body = body }
 
 -- the record with the timestamp, type and subtype of a header, and with this body
-abbrev pub record_under : Header → List ℕ → Record
-record_under header body = record_of header.seconds header.kind header.subtype body
+abbrev pub record_with_header : Header → List ℕ → Record
+record_with_header header body = record_from_fields header.seconds header.kind header.subtype body
 
 -- the record of a header whose body is at the start of a buffer: as many octets of it as the header states, or all
 -- where it has fewer
-abbrev pub record_in : Header → List ℕ → Record
-record_in header buffer = record_under header (take header.size buffer)
+abbrev pub record_in_buffer : Header → List ℕ → Record
+record_in_buffer header buffer = record_with_header header (take header.size buffer)
 
 -- ---- the octets that calls take from an input, where it knows those that are left
 
@@ -41,14 +41,14 @@ abbrev pub Takes : Option (List ℕ) → Option (List ℕ) → ℕ → ℕ → L
 Takes old new before after octets = Consumes old new octets × (after ≡ before + length octets)
 
 -- the error of a source for an error of reading octets into memory that is there
-abbrev pub fault_of_source : TakeFault → SourceFault
-fault_of_source InputFailed = Read
-fault_of_source PastLimit = InputTooLong
+abbrev pub source_fault : TakeFault → SourceFault
+source_fault InputFailed = Read
+source_fault PastLimit = InputTooLong
 
 -- a result with the error of a source in place of an error of reading octets
-abbrev pub answer_of_source : {A : Type 0} → Result A TakeFault → Result A SourceFault
-answer_of_source (Ok answer) = Ok answer
-answer_of_source (Err fault) = Err (fault_of_source fault)
+abbrev pub source_answer : {A : Type 0} → Result A TakeFault → Result A SourceFault
+source_answer (Ok answer) = Ok answer
+source_answer (Err fault) = Err (source_fault fault)
 
 -- the source may fail so when it has taken `taken` octets in all, of at most `limit`: with `InputTooLong` only at the
 -- limit, with `Spent` never, and with the others anywhere up to it
@@ -65,9 +65,9 @@ FillsWithin old new before after buffer size limit (Ok count) = (count ≤ size)
 FillsWithin old new before after buffer size limit (Err fault) = (front : List ℕ) × (length front < size) × Stops fault after limit × Takes old new before after front
 
 -- true for the error that a read of the input failed, and false for any other result
-abbrev pub is_read : {A : Type 0} → Result A SourceFault → Bool
-is_read (Err Read) = true
-is_read other = false
+abbrev pub is_err_read : {A : Type 0} → Result A SourceFault → Bool
+is_err_read (Err Read) = true
+is_err_read other = false
 
 -- ---- what the reader of records takes from its input, by what it returns
 
@@ -85,10 +85,10 @@ TakesOctets AreSo old new before after = (octets : List ℕ) × Takes old new be
 -- the octets taken by a call that reads a header and returns this result: those of the header, or of the rest, or on
 -- error a part of a header. The octets are the last argument; `left` is what the input has left, and `taken` how many
 -- were taken in all, of at most `limit`.
-abbrev pub TakesHeader : ℕ → Result Start SourceFault → Option (List ℕ) → ℕ → List ℕ → Type 0
-TakesHeader limit (Ok (start.Header header)) left taken octets = IsHeader header.seconds header.kind header.subtype header.size × (octets ≡ header_octets header.seconds header.kind header.subtype header.size)
-TakesHeader limit (Ok (start.Rest kind)) left taken octets = EndsAt left octets × (kind ≡ rest_fault octets)
-TakesHeader limit (Err fault) left taken octets = IsBegun octets × Stops fault taken limit
+abbrev pub TakesHeaderOrRest : ℕ → Result NextHeader SourceFault → Option (List ℕ) → ℕ → List ℕ → Type 0
+TakesHeaderOrRest limit (Ok (start.Header header)) left taken octets = FitsHeader header.seconds header.kind header.subtype header.size × (octets ≡ header_octets header.seconds header.kind header.subtype header.size)
+TakesHeaderOrRest limit (Ok (start.Rest kind)) left taken octets = EndsAt left octets × (kind ≡ rest_fault octets)
+TakesHeaderOrRest limit (Err fault) left taken octets = IsUnfinished octets × Stops fault taken limit
 
 -- the octets taken by a call that reads a body of `size` octets into the start of a buffer and returns this result:
 -- the whole body on `true`, and fewer octets otherwise, to the end of the input on `false`. The octets are the last
@@ -100,17 +100,17 @@ TakesBody limit buffer size (Err fault) left taken octets = (length octets < siz
 
 -- the octets taken by a call that skips a body of `size` octets and returns this result: the whole body on `true`,
 -- and fewer octets otherwise, to the end of the input on `false`. The octets are the last argument.
-abbrev pub PassesBody : ℕ → ℕ → Result Bool SourceFault → Option (List ℕ) → ℕ → List ℕ → Type 0
-PassesBody limit size result left taken octets = TakesBody limit octets size result left taken octets
+abbrev pub SkipsBody : ℕ → ℕ → Result Bool SourceFault → Option (List ℕ) → ℕ → List ℕ → Type 0
+SkipsBody limit size result left taken octets = TakesBody limit octets size result left taken octets
 
 -- the octets taken by a call that reads a record and returns this result: those of a record of a supported type,
 -- whose body is at the start of the buffer, or of one of an unsupported type, which was skipped, or of the rest, or
 -- on error a part of a record. `format_at` gives the format of each type and subtype that is supported. The octets
 -- are the last argument.
-abbrev pub TakesRecord : {F : Type 0} → (ℕ → ℕ → Option F) → ℕ → List ℕ → Result (Front F) SourceFault → Option (List ℕ) → ℕ → List ℕ → Type 0
-TakesRecord form_at limit buffer (Ok (front.Record header form)) left taken octets =
-    (form_at header.kind header.subtype ≡ Some form) × (length (take header.size buffer) ≡ header.size) × IsRecord (record_in header buffer) × (octets ≡ spelling (record_in header buffer))
-TakesRecord form_at limit buffer (Ok (front.Passed header)) left taken octets =
-    (form_at header.kind header.subtype ≡ None) × ((body : List ℕ) × IsRecord (record_under header body) × (octets ≡ spelling (record_under header body)))
-TakesRecord form_at limit buffer (Ok (front.Rest kind)) left taken octets = EndsAt left octets × (kind ≡ rest_fault octets)
-TakesRecord form_at limit buffer (Err fault) left taken octets = IsBegun octets × Stops fault taken limit
+abbrev pub TakesRecordOrRest : {F : Type 0} → (ℕ → ℕ → Option F) → ℕ → List ℕ → Result (NextRecord F) SourceFault → Option (List ℕ) → ℕ → List ℕ → Type 0
+TakesRecordOrRest format_at limit buffer (Ok (front.Record header form)) left taken octets =
+    (format_at header.kind header.subtype ≡ Some form) × (length (take header.size buffer) ≡ header.size) × IsRecord (record_in_buffer header buffer) × (octets ≡ spelling (record_in_buffer header buffer))
+TakesRecordOrRest format_at limit buffer (Ok (front.Skipped header)) left taken octets =
+    (format_at header.kind header.subtype ≡ None) × ((body : List ℕ) × IsRecord (record_with_header header body) × (octets ≡ spelling (record_with_header header body)))
+TakesRecordOrRest format_at limit buffer (Ok (front.Rest kind)) left taken octets = EndsAt left octets × (kind ≡ rest_fault octets)
+TakesRecordOrRest format_at limit buffer (Err fault) left taken octets = IsUnfinished octets × Stops fault taken limit

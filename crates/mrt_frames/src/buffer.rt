@@ -3,7 +3,7 @@
 
 ghost use Rattle.std.specs.Prelude.{◌≡◌, ◌≤◌, ◌<◌, ◌+◌, ◌-◌, ◌*◌, ◌||◌, false, IfOk, length, max, take, drop, vec_len};
 ghost use Rattle.mrt_frames.specs.Buffered.{FillsBuffered};
-ghost use Rattle.mrt_frames.specs.Taken.{FillsWithin, is_read, answer_of_source};
+ghost use Rattle.mrt_frames.specs.Taken.{FillsWithin, is_err_read, source_answer};
 
 use crate::fault::{SourceFault, TakeFault};
 use crate::header::LONGEST_BODY;
@@ -27,11 +27,11 @@ pub(crate) fn fill_within<I: Input>(
 ) -> Result<usize, TakeFault>
     requires room { taken.old ≤ limit }
     ensures octets { FillsWithin (I.left input.old) (I.left input.new) taken.old taken.new
-        buffer.new (length buffer.new) limit (answer_of_source result) }
+        buffer.new (length buffer.new) limit (source_answer result) }
     ensures failed { I.failed input.new
-        ≡ (I.failed input.old || is_read (answer_of_source result)) }
+        ≡ (I.failed input.old || is_err_read (source_answer result)) }
     ensures buffered { FillsBuffered (I.buffered input.old) (I.buffered input.new)
-        buffer.new (length buffer.new) (answer_of_source result) }
+        buffer.new (length buffer.new) (source_answer result) }
 {
     // The input isn't asked for its end when the limit is met. It may have ended there, and
     // `PastLimit` is returned all the same.
@@ -54,7 +54,7 @@ pub(crate) fn fill_within<I: Input>(
 /// Returns the index up to which the buffer of a body of `size` octets is filled next, where the
 /// buffer has `held` octets and the first `filled` are filled. It is the end of the buffer, or, if
 /// that is full, the length to which the buffer is to grow; it is at most `size`.
-fn next_end(held: usize, filled: usize, size: usize) -> usize
+fn next_fill_end(held: usize, filled: usize, size: usize) -> usize
     requires unfinished { filled < size }
     requires small { size ≤ LONGEST_BODY }
     ensures further { filled < result }
@@ -85,11 +85,11 @@ pub(crate) fn fill_part<I: Input>(
     ensures kept { take part.start buffer.new.items ≡ take part.start buffer.old.items }
     ensures size { vec_len buffer.new ≡ vec_len buffer.old }
     ensures octets { FillsWithin (I.left input.old) (I.left input.new) taken.old taken.new
-        (drop part.start buffer.new.items) (part.end - part.start) limit (answer_of_source result) }
+        (drop part.start buffer.new.items) (part.end - part.start) limit (source_answer result) }
     ensures failed { I.failed input.new
-        ≡ (I.failed input.old || is_read (answer_of_source result)) }
+        ≡ (I.failed input.old || is_err_read (source_answer result)) }
     ensures buffered { FillsBuffered (I.buffered input.old) (I.buffered input.new)
-        (drop part.start buffer.new.items) (part.end - part.start) (answer_of_source result) }
+        (drop part.start buffer.new.items) (part.end - part.start) (source_answer result) }
 {
     fill_within(input, &mut buffer[part], taken, limit)
 }
@@ -114,13 +114,13 @@ pub(crate) fn fill_body<I: Input>(
     ensures held { IfOk result (λ count. count ≤ vec_len buffer.new) }
     ensures growth { IfOk result (λ count.
         vec_len buffer.new ≤ max (vec_len buffer.old) (2 * count + FIRST_GROWTH)) }
-    ensures failed { I.failed input.new ≡ (I.failed input.old || is_read result) }
-    ensures buffered { size ≤ length (I.buffered input.old) → is_read result ≡ false }
+    ensures failed { I.failed input.new ≡ (I.failed input.old || is_err_read result) }
+    ensures buffered { size ≤ length (I.buffered input.old) → is_err_read result ≡ false }
 {
     // Out of line, since few bodies are longer than all before.
     let mut filled = 0;
     while filled < size {
-        let end = next_end(buffer.len(), filled, size);
+        let end = next_fill_end(buffer.len(), filled, size);
         buffer.resize(end, 0)?;
         filled += fill_part(input, buffer, filled..end, taken, limit)?;
         if filled < end {

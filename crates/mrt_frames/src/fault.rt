@@ -2,7 +2,7 @@
 //! them. Read [`RecordKind`] and [`SourceFault`] first.
 
 ghost use Rattle.std.specs.Prelude.{◌≡◌};
-ghost use Rattle.mrt_frames.specs.Taken.{fault_of_source};
+ghost use Rattle.mrt_frames.specs.Taken.{source_fault};
 ghost use Rattle.mrt_frames.specs.declared.fault.TakeFault.TheVariants.{InputFailed};
 ghost use Rattle.mrt_frames.specs.declared.fault.SourceFault.TheVariants.{Memory};
 
@@ -76,7 +76,7 @@ pub enum SourceFault {
 }
 
 impl From<TakeFault> for SourceFault {
-    ghost from_gives = { λ taking fault. fault ≡ fault_of_source taking };
+    ghost from_gives = { λ taking fault. fault ≡ source_fault taking };
 
     fn from(fault: TakeFault) -> SourceFault {
         match fault {

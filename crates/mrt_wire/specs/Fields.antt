@@ -3,10 +3,10 @@ use Rattle.std.specs.Prelude.{◌≡◌, ℕ, ◌<◌, ◌^◌, List, [], ◌∷
 use Rattle.std.specs.Int.{w16}
 use Rattle.ip_prefix.specs.declared.addr.Family.{Family}
 use Rattle.ip_prefix.specs.Network.{Address}
-use Rattle.ip_prefix.specs.Fields.{Then}
+use Rattle.ip_prefix.specs.Fields.{SpellsPair}
 use Rattle.bgp_wire.specs.declared.AsWidth.{AsWidth}
 use Rattle.bgp_wire.specs.Path.{SpellsAsn, SpellsNumber}
-use Rattle.bgp_wire.specs.Update.{sized_octets}
+use Rattle.bgp_wire.specs.Update.{with_u16_length}
 use Rattle.bgp_wire.specs.Attribute.{SpellsAddressOctets}
 use Rattle.mrt_events.specs.declared.peer.Peer.{Peer}
 
@@ -27,7 +27,7 @@ pub record AreOctets (size : ℕ) (value : List ℕ) (octets : List ℕ) : Type 
 -- the octets are the length of the value, in two octets, and then the value, whose octets may be any
 pub record AreSized (value : List ℕ) (octets : List ℕ) : Type 0 where
   pub fits : length value < 2 ^ 16
-  pub whole : octets ≡ sized_octets value
+  pub whole : octets ≡ with_u16_length value
 
 -- the octets spell the address, and it is one of this family: 4 octets for IPv4, 16 for IPv6
 pub record SpellsAddressOf (family : Family) (address : Address) (octets : List ℕ) : Type 0 where
@@ -37,4 +37,4 @@ pub record SpellsAddressOf (family : Family) (address : Address) (octets : List 
 -- the octets spell the peer: its address, of this family, and then its AS number, of this width
 abbrev pub SpellsPeerOf : Family → AsWidth → Peer → List ℕ → Type 0
 SpellsPeerOf family width peer octets =
-    Then (SpellsAddressOf family) (λ address. SpellsAsn width) (peer.addr, peer.asn) octets
+    SpellsPair (SpellsAddressOf family) (λ address. SpellsAsn width) (peer.addr, peer.asn) octets

@@ -9,8 +9,8 @@ use Rattle.mrt_events.specs.declared.peer.Peer.{Peer}
 use Rattle.mrt_events.specs.declared.event.Route.{Route}
 use Rattle.mrt_events.specs.declared.stamp.Stamp.{Stamp}
 use Rattle.mrt_events.specs.declared.stamp.Stamp.TheVariants.{Dump, Change}
-use Rattle.mrt_events.specs.Event.{Saying, Announced, Withdrawn, Changed}
-use Rattle.mrt_wire.specs.Rib.{RibEntry, PrefixEntries, PeerEntry}
+use Rattle.mrt_events.specs.Event.{ItemValue, Announced, Withdrawn, Changed}
+use Rattle.mrt_wire.specs.Rib.{RibEntry, PrefixEntries, TableDumpEntry}
 use Rattle.mrt_wire.specs.Session.{SessionContent, Change, Receipt}
 
 -- ---- the entries of routing tables
@@ -31,46 +31,46 @@ first_unknown peers entries = find (λ number. is_none (slice_get peers number))
 
 -- the announcement of a prefix by a RIB entry, in a record with this timestamp. It is none where the peer index of
 -- the entry isn't below the number of peers.
-abbrev pub entry_items : List Peer → Stamp → ℕ → Network → RibEntry → List Saying
+abbrev pub entry_items : List Peer → Stamp → ℕ → Network → RibEntry → List ItemValue
 entry_items peers stamp seconds prefix entry =
     map (λ peer. Announced peer prefix (route_of entry.attrs (entry_time stamp seconds entry.time)))
     (option_to_list (slice_get peers entry.index))
 
 -- the announcements of all RIB entries of a record with this timestamp, in order
-abbrev pub entries_items : List Peer → Stamp → ℕ → PrefixEntries → List Saying
+abbrev pub entries_items : List Peer → Stamp → ℕ → PrefixEntries → List ItemValue
 entries_items peers stamp seconds rib = flat_map (entry_items peers stamp seconds rib.prefix) rib.entries
 
 -- the announcement of a TABLE_DUMP record with this timestamp
-abbrev pub peer_entry_items : Stamp → ℕ → PeerEntry → List Saying
-peer_entry_items stamp seconds entry =
+abbrev pub table_dump_items : Stamp → ℕ → TableDumpEntry → List ItemValue
+table_dump_items stamp seconds entry =
     Announced entry.peer entry.prefix (route_of entry.attrs (entry_time stamp seconds entry.time)) ∷ []
 
 -- ---- messages and state changes
 
 -- the announcements of prefixes by a peer, all with one route
-abbrev pub announcements : Peer → Route → List Network → List Saying
+abbrev pub announcements : Peer → Route → List Network → List ItemValue
 announcements peer route prefixes = map (λ prefix. Announced peer prefix route) prefixes
 
 -- the announcements of MP_REACH_NLRI, with its own attributes, at this time in seconds. They are none where there are
 -- no such attributes.
-abbrev pub mp_announcements : Peer → ℕ → Option Attrs → List Network → List Saying
+abbrev pub mp_announcements : Peer → ℕ → Option Attrs → List Network → List ItemValue
 mp_announcements peer seconds None prefixes = []
 mp_announcements peer seconds (Some attrs) prefixes = announcements peer (route_of attrs seconds) prefixes
 
 -- the items of an UPDATE that a peer sent at this time in seconds: the withdrawn prefixes, those of MP_UNREACH_NLRI,
 -- the announced ones, and those of MP_REACH_NLRI
-abbrev pub update_items : Peer → ℕ → Update → List Saying
+abbrev pub update_items : Peer → ℕ → Update → List ItemValue
 update_items peer seconds update =
     map (Withdrawn peer) update.withdrawn ++ (map (Withdrawn peer) update.mp_withdrawn
     ++ (announcements peer (route_of update.attrs seconds) update.announced
     ++ mp_announcements peer seconds update.mp_attrs update.mp_announced))
 
 -- the items of a message that a peer sent at this time in seconds: none where it isn't an UPDATE
-abbrev pub message_items : Peer → ℕ → Message → List Saying
+abbrev pub message_items : Peer → ℕ → Message → List ItemValue
 message_items peer seconds (message.Update update) = update_items peer seconds update
 message_items peer seconds (message.Other kind) = []
 
 -- the items of a state change or a message, in a record with this timestamp
-abbrev pub session_items : ℕ → SessionContent → List Saying
+abbrev pub session_items : ℕ → SessionContent → List ItemValue
 session_items seconds (Change change) = Changed change.peer change.old change.new ∷ []
 session_items seconds (Receipt m) = message_items m.peer seconds m.message

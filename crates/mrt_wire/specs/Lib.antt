@@ -8,7 +8,7 @@ pub mod Content
 pub mod Items
 pub use Rattle.mrt_events.specs.Event
 pub use Rattle.mrt_events.specs.SharedRoute
-pub mod Profile
+pub mod RecordTypes
 pub mod Results
-pub mod Judging
+pub mod Decoding
 pub mod Answered

@@ -3,7 +3,7 @@
 use Rattle.std.specs.Prelude.{ℕ, ◌==◌, if◌then◌else◌, List, bit_and, ◌≡◌, ◌≤◌}
 use Rattle.ip_prefix.specs.declared.addr.Family.{Family}
 use Rattle.ip_prefix.specs.declared.addr.Family.TheVariants.{V4, V6}
-use Rattle.ip_prefix.specs.Fields.{Then, Behind, WithMore}
+use Rattle.ip_prefix.specs.Fields.{SpellsPair, SpellsAfter, SpellsFront}
 use Rattle.ip_prefix.specs.Counted.{SpellsCounted}
 use Rattle.bgp_wire.specs.declared.AsWidth.{AsWidth}
 use Rattle.bgp_wire.specs.declared.AsWidth.TheVariants.{Two, Four}
@@ -11,7 +11,7 @@ use Rattle.mrt_events.specs.declared.peer.Peer.{Peer}
 use Rattle.mrt_wire.specs.declared.peer_index.TheConstants.{ID_SIZE, IPV6_PEER, AS4_PEER}
 use Rattle.mrt_wire.specs.Fields.{SpellsOctet, AreOctets, AreSized, SpellsPeerOf, SpellsShort, SpellsAddressOf}
 use Rattle.ip_prefix.specs.Network.{Network, network_of, SpellsNetwork, Address, bit_count}
-use Rattle.bgp_wire.specs.Path.{SpellsWord}
+use Rattle.bgp_wire.specs.Path.{SpellsU32}
 use Rattle.bgp_wire.specs.Content.{SpellsRibAttrs}
 use Rattle.bgp_wire.specs.declared.attrs.Attrs.{Attrs}
 use Rattle.mrt_wire.specs.declared.rib.TheConstants.{SEQUENCE_SIZE}
@@ -32,7 +32,7 @@ peer_width kind = if bit_and kind AS4_PEER == 0 then Two else Four
 -- and the peer.
 abbrev pub SpellsPeerFields : ℕ × (List ℕ × Peer) → List ℕ → Type 0
 SpellsPeerFields =
-    Then SpellsOctet (λ kind. Then (AreOctets ID_SIZE) (λ id. SpellsPeerOf (peer_family kind) (peer_width kind)))
+    SpellsPair SpellsOctet (λ kind. SpellsPair (AreOctets ID_SIZE) (λ id. SpellsPeerOf (peer_family kind) (peer_width kind)))
 
 -- the octets of a peer entry with this peer; its BGP ID may be any octets
 abbrev pub SpellsPeer : Peer → List ℕ → Type 0
@@ -42,12 +42,12 @@ SpellsPeer peer octets =
 -- the octets of Collector BGP ID, and of View Name after its length. The value is the octets of both, which may be
 -- any.
 abbrev pub SpellsView : List ℕ × List ℕ → List ℕ → Type 0
-SpellsView = Then (AreOctets ID_SIZE) (λ id. AreSized)
+SpellsView = SpellsPair (AreOctets ID_SIZE) (λ id. AreSized)
 
 -- the octets of the body of a PEER_INDEX_TABLE with these peers: any collector and view name, the number of the
 -- peers, the peer entries, and then any octets
 abbrev pub SpellsPeerIndex : List Peer → List ℕ → Type 0
-SpellsPeerIndex = Behind SpellsView (λ view. WithMore (SpellsCounted SpellsPeer))
+SpellsPeerIndex = SpellsAfter SpellsView (λ view. SpellsFront (SpellsCounted SpellsPeer))
 
 -- ---- the entries of a routing table for one prefix (RFC 6396, sections 4.3.2 and 4.3.4)
 
@@ -65,7 +65,7 @@ pub record PrefixEntries : Type 0 where
 -- the octets of Peer Index, Originated Time, and BGP Attributes after their length. The value is the index, the time,
 -- and the octets of the attributes.
 abbrev pub AreEntryFields : ℕ × (ℕ × List ℕ) → List ℕ → Type 0
-AreEntryFields = Then SpellsShort (λ index. Then SpellsWord (λ time. AreSized))
+AreEntryFields = SpellsPair SpellsShort (λ index. SpellsPair SpellsU32 (λ time. AreSized))
 
 -- the octets of a RIB entry for a prefix of this family; AS numbers in its attributes have four octets
 abbrev pub SpellsEntry : Family → RibEntry → List ℕ → Type 0
@@ -75,23 +75,23 @@ SpellsEntry family entry octets =
 
 -- the octets of RIB entries for a prefix of this family: their number in two octets, the entries, and then any octets
 abbrev pub SpellsEntries : Family → List RibEntry → List ℕ → Type 0
-SpellsEntries family = WithMore (SpellsCounted (SpellsEntry family))
+SpellsEntries family = SpellsFront (SpellsCounted (SpellsEntry family))
 
 -- the octets of a prefix of this family and of its entries, and then any octets
-abbrev pub SpellsPrefixed : Family → PrefixEntries → List ℕ → Type 0
-SpellsPrefixed family rib octets =
-    Then (SpellsNetwork family) (λ prefix. SpellsEntries family) (rib.prefix, rib.entries) octets
+abbrev pub SpellsPrefixAndEntries : Family → PrefixEntries → List ℕ → Type 0
+SpellsPrefixAndEntries family rib octets =
+    SpellsPair (SpellsNetwork family) (λ prefix. SpellsEntries family) (rib.prefix, rib.entries) octets
 
 -- the octets of the body of a RIB_IPV4_UNICAST or, for V6, of a RIB_IPV6_UNICAST: any sequence number, the prefix,
 -- its entries, and then any octets
 abbrev pub SpellsRib : Family → PrefixEntries → List ℕ → Type 0
-SpellsRib family = Behind (AreOctets SEQUENCE_SIZE) (λ sequence. SpellsPrefixed family)
+SpellsRib family = SpellsAfter (AreOctets SEQUENCE_SIZE) (λ sequence. SpellsPrefixAndEntries family)
 
 -- ---- an entry of a routing table in a record of its own (RFC 6396, section 4.2)
 
 -- the content of a TABLE_DUMP record: a prefix, a peer, the attributes of its route, and the Originated Time in
 -- seconds
-pub record PeerEntry : Type 0 where
+pub record TableDumpEntry : Type 0 where
   pub prefix : Network
   pub peer : Peer
   pub attrs : Attrs
@@ -99,26 +99,26 @@ pub record PeerEntry : Type 0 where
 
 -- the octets of Prefix and Prefix Length: an address of this family, and the number of its leading bits that make the
 -- prefix, in an octet. The bits after them may be any.
-pub record SpellsPrefix (family : Family) (prefix : Network) (octets : List ℕ) : Type 0 where
+pub record SpellsAddressAndLength (family : Family) (prefix : Network) (octets : List ℕ) : Type 0 where
   pub address : Address
   pub len : ℕ
-  pub fields : Then (SpellsAddressOf family) (λ address. SpellsOctet) (address, len) octets
+  pub fields : SpellsPair (SpellsAddressOf family) (λ address. SpellsOctet) (address, len) octets
   pub fits : len ≤ bit_count family
   pub first_bits : prefix ≡ network_of address len
 
 -- the octets of View Number and Sequence Number, Prefix and Prefix Length, Status, Originated Time, Peer IP Address,
 -- Peer AS in two octets, and BGP Attributes after their length. The value has the octets of the two numbers, of the
 -- status and of the attributes, and the others as they are read.
-abbrev pub ArePeerEntryFields : Family → List ℕ × (Network × (List ℕ × (ℕ × (Peer × List ℕ)))) → List ℕ → Type 0
-ArePeerEntryFields family =
-    Then (AreOctets NUMBERS_SIZE) (λ numbers. Then (SpellsPrefix family) (λ prefix.
-    Then (AreOctets STATUS_SIZE) (λ status. Then SpellsWord (λ time.
-    Then (SpellsPeerOf family Two) (λ peer. AreSized)))))
+abbrev pub AreTableDumpFields : Family → List ℕ × (Network × (List ℕ × (ℕ × (Peer × List ℕ)))) → List ℕ → Type 0
+AreTableDumpFields family =
+    SpellsPair (AreOctets NUMBERS_SIZE) (λ numbers. SpellsPair (SpellsAddressAndLength family) (λ prefix.
+    SpellsPair (AreOctets STATUS_SIZE) (λ status. SpellsPair SpellsU32 (λ time.
+    SpellsPair (SpellsPeerOf family Two) (λ peer. AreSized)))))
 
 -- the octets of the body of a TABLE_DUMP for a prefix of this family, and then any octets; AS numbers in its
 -- attributes have two octets. View number, sequence number and status may be any.
-abbrev pub SpellsPeerEntry : Family → PeerEntry → List ℕ → Type 0
-SpellsPeerEntry family entry octets =
+abbrev pub SpellsTableDump : Family → TableDumpEntry → List ℕ → Type 0
+SpellsTableDump family entry octets =
     (numbers status attributes more : List ℕ)
-    × Begins (ArePeerEntryFields family) (numbers, (entry.prefix, (status, (entry.time, (entry.peer, attributes))))) more octets
+    × Begins (AreTableDumpFields family) (numbers, (entry.prefix, (status, (entry.time, (entry.peer, attributes))))) more octets
     × SpellsRibAttrs family Two entry.attrs attributes

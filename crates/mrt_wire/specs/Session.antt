@@ -3,16 +3,16 @@
 use Rattle.std.specs.Prelude.{◌≡◌, ℕ, ◌<◌, Bool, true, false, List, [], ◌∷◌, Option, Some, None}
 use Rattle.ip_prefix.specs.declared.addr.Family.{Family}
 use Rattle.ip_prefix.specs.Network.{Address, octet_count}
-use Rattle.ip_prefix.specs.Fields.{Then, WithMore}
+use Rattle.ip_prefix.specs.Fields.{SpellsPair, SpellsFront}
 use Rattle.bgp_wire.specs.declared.AsWidth.{AsWidth}
 use Rattle.bgp_wire.specs.declared.message.Message.{Message}
-use Rattle.bgp_wire.specs.Path.{SpellsAsn, SpellsWord, octets_at}
+use Rattle.bgp_wire.specs.Path.{SpellsAsn, SpellsU32, asn_size}
 use Rattle.bgp_wire.specs.Reach.{family_code}
 use Rattle.bgp_wire.specs.Update.{SpellsMessage}
 use Rattle.mrt_events.specs.declared.peer.Peer.{Peer}
-use Rattle.mrt_wire.specs.declared.profile.SessionKind.{SessionKind}
-use Rattle.mrt_wire.specs.declared.profile.SessionKind.TheVariants as kind
-use Rattle.mrt_wire.specs.declared.profile.SessionForm.{SessionForm}
+use Rattle.mrt_wire.specs.declared.record_types.SessionKind.{SessionKind}
+use Rattle.mrt_wire.specs.declared.record_types.SessionKind.TheVariants as kind
+use Rattle.mrt_wire.specs.declared.record_types.SessionFormat.{SessionFormat}
 use Rattle.mrt_wire.specs.declared.session.TheConstants.{INTERFACE_SIZE, MICROS_PER_SECOND}
 use Rattle.mrt_wire.specs.Fields.{SpellsShort, AreOctets, SpellsAddressOf}
 
@@ -44,50 +44,50 @@ SpellsFamily family octets = octets ≡ 0 ∷ family_code family ∷ []
 
 -- the octets of Peer AS Number, Local AS Number and Interface Index, with AS numbers of this width. The value is the
 -- peer's number, and the octets of the other two, which may be any.
-abbrev pub AreSystems : AsWidth → ℕ × (List ℕ × List ℕ) → List ℕ → Type 0
-AreSystems width =
-    Then (SpellsAsn width) (λ asn. Then (AreOctets (octets_at width)) (λ local_asn. AreOctets INTERFACE_SIZE))
+abbrev pub AreAsnFields : AsWidth → ℕ × (List ℕ × List ℕ) → List ℕ → Type 0
+AreAsnFields width =
+    SpellsPair (SpellsAsn width) (λ asn. SpellsPair (AreOctets (asn_size width)) (λ local_asn. AreOctets INTERFACE_SIZE))
 
 -- the octets of Address Family, Peer IP Address and Local IP Address. The value is the family, the peer's address,
 -- and the octets of the local address, which may be any.
-abbrev pub AreAddresses : Family × (Address × List ℕ) → List ℕ → Type 0
-AreAddresses =
-    Then SpellsFamily (λ family. Then (SpellsAddressOf family) (λ address. AreOctets (octet_count family)))
+abbrev pub AreAddressFields : Family × (Address × List ℕ) → List ℕ → Type 0
+AreAddressFields =
+    SpellsPair SpellsFamily (λ family. SpellsPair (SpellsAddressOf family) (λ address. AreOctets (octet_count family)))
 
 -- the octets of the session fields in front of a state change or a message, with this peer, and AS numbers of this
 -- width. The local AS number, the interface index and the local address may be any.
 abbrev pub SpellsSessionPeer : AsWidth → Peer → List ℕ → Type 0
 SpellsSessionPeer width peer octets =
     (local_asn interface : List ℕ) × (family : Family) × (local_address : List ℕ)
-    × Then (AreSystems width) (λ systems. AreAddresses)
+    × SpellsPair (AreAsnFields width) (λ systems. AreAddressFields)
     ((peer.asn, (local_asn, interface)), (family, (peer.addr, local_address))) octets
 
 -- the octets of STATE_CHANGE or STATE_CHANGE_AS4: the session fields, Old State, New State, and then any octets
 abbrev pub SpellsStateChange : AsWidth → StateChange → List ℕ → Type 0
 SpellsStateChange width change octets =
-    Then (SpellsSessionPeer width) (λ peer. Then SpellsShort (λ old. WithMore SpellsShort)) (change.peer, (change.old, change.new)) octets
+    SpellsPair (SpellsSessionPeer width) (λ peer. SpellsPair SpellsShort (λ old. SpellsFront SpellsShort)) (change.peer, (change.old, change.new)) octets
 
 -- the octets of MESSAGE or MESSAGE_AS4: the session fields, and then a message, which takes all octets that are left
 abbrev pub SpellsPeerMessage : AsWidth → PeerMessage → List ℕ → Type 0
 SpellsPeerMessage width m octets =
-    Then (SpellsSessionPeer width) (λ peer. SpellsMessage width) (m.peer, m.message) octets
+    SpellsPair (SpellsSessionPeer width) (λ peer. SpellsMessage width) (m.peer, m.message) octets
 
 -- the octets of a BGP4MP body without microseconds: those of a state change or of a message, as `kind` says, with AS
 -- numbers of this width
-abbrev pub SpellsHappening : SessionKind → AsWidth → SessionContent → List ℕ → Type 0
-SpellsHappening kind.StateChange width said octets =
+abbrev pub SpellsSessionContent : SessionKind → AsWidth → SessionContent → List ℕ → Type 0
+SpellsSessionContent kind.StateChange width said octets =
     (change : StateChange) × (said ≡ Change change) × SpellsStateChange width change octets
-SpellsHappening kind.Message width said octets =
+SpellsSessionContent kind.Message width said octets =
     (message : PeerMessage) × (said ≡ Receipt message) × SpellsPeerMessage width message octets
 
 -- the octets of the microseconds where a body begins with them: a number of four octets below 1,000,000. Where it
 -- doesn't there are no octets, and `micros` is `None`.
 abbrev pub SpellsMicros : Bool → Option ℕ → List ℕ → Type 0
 SpellsMicros false micros octets = (micros ≡ None) × (octets ≡ [])
-SpellsMicros true micros octets = (n : ℕ) × (micros ≡ Some n) × (n < MICROS_PER_SECOND) × SpellsWord n octets
+SpellsMicros true micros octets = (n : ℕ) × (micros ≡ Some n) × (n < MICROS_PER_SECOND) × SpellsU32 n octets
 
 -- the octets of a body of this format: the microseconds, where it begins with them, and then a state change or a
 -- message
-abbrev pub SpellsSessionBody : SessionForm → SessionBody → List ℕ → Type 0
+abbrev pub SpellsSessionBody : SessionFormat → SessionBody → List ℕ → Type 0
 SpellsSessionBody form body octets =
-    Then (SpellsMicros form.timed) (λ micros. SpellsHappening form.kind form.width) (body.micros, body.content) octets
+    SpellsPair (SpellsMicros form.timed) (λ micros. SpellsSessionContent form.kind form.width) (body.micros, body.content) octets

@@ -5,13 +5,15 @@
 ghost use Rattle.std.specs.Prelude.{◌≡◌, ℕ, List, IfSome, IfNone};
 ghost use Rattle.ip_prefix.specs.Sequences.{Begins};
 ghost use Rattle.ip_prefix.specs.Fronts.{BeginsWithNone};
-ghost use Rattle.ip_prefix.specs.Fields.{WithMore};
+ghost use Rattle.ip_prefix.specs.Fields.{SpellsFront};
 ghost use Rattle.ip_prefix.specs.Counted.{SpellsCounted};
-ghost use Rattle.bgp_wire.specs.Readers.{Reads};
-ghost use Rattle.mrt_wire.specs.Judging.{FindsField};
+ghost use Rattle.bgp_wire.specs.Readers.{ParsesOrFails};
+ghost use Rattle.mrt_wire.specs.Decoding.{FindsValue};
 ghost use Rattle.mrt_wire.specs.Rib.{peer_family, peer_width, SpellsPeer, SpellsView, SpellsPeerIndex};
 
-use crate::fields::{Field, skip, split_octet, split_peer_of, split_short, split_sized};
+use crate::fields::{
+    ValueAndRest, skip, split_address_and_asn, split_length_prefixed, split_octet, split_u16,
+};
 use crate::peers::Peers;
 use bgp_wire::{AsWidth, WireFault};
 use ip_prefix::Family;
@@ -55,23 +57,23 @@ fn peer_width(kind: u8) -> AsWidth
 
 /// Parses the peer entry at the start of `octets`, ignoring its BGP ID (RFC 6396, section 4.3.1).
 /// Returns `None` if `octets` is shorter than the entry.
-fn split_peer(octets: &[u8]) -> Option<Field<'_, Peer>>
-    ensures { FindsField SpellsPeer octets.now result }
+fn split_peer(octets: &[u8]) -> Option<ValueAndRest<'_, Peer>>
+    ensures { FindsValue SpellsPeer octets.now result }
 {
     let kind = split_octet(octets)?;
     let after_id = skip(ID_SIZE, kind.rest)?;
     let (family, width) = (peer_family(kind.value), peer_width(kind.value));
-    split_peer_of(family, width, after_id)
+    split_address_and_asn(family, width, after_id)
 }
 
 /// Parses a 16-bit count and as many peer entries at the start of `octets`, and ignores the octets
 /// after them. Fails with `Malformed` if there are fewer entries than the count states, or with
 /// `Memory` if memory allocation fails.
 fn read_peers(alloc: Global, octets: &[u8]) -> Result<Peers, WireFault>
-    ensures { Reads (WithMore (SpellsCounted SpellsPeer)) octets.now result }
+    ensures { ParsesOrFails (SpellsFront (SpellsCounted SpellsPeer)) octets.now result }
 {
     // Room is reserved for no more peers than the octets can hold, whatever the count.
-    let count = split_short(octets).ok_or(WireFault::Malformed)?;
+    let count = split_u16(octets).ok_or(WireFault::Malformed)?;
     let most = count.rest.len() / SMALLEST_PEER;
     let mut peers = Vec::with_capacity(alloc, most.min(usize::from(count.value)))?;
     let mut rest = count.rest;
@@ -89,9 +91,9 @@ fn read_peers(alloc: Global, octets: &[u8]) -> Result<Peers, WireFault>
 /// ignores the collector's BGP ID and the view name. Fails with `Malformed` if the body has another
 /// form, or with `Memory` if memory allocation fails.
 pub(crate) fn read_peer_index(alloc: Global, octets: &[u8]) -> Result<Peers, WireFault>
-    ensures { Reads SpellsPeerIndex octets.now result }
+    ensures { ParsesOrFails SpellsPeerIndex octets.now result }
 {
     let after_id = skip(ID_SIZE, octets).ok_or(WireFault::Malformed)?;
-    let (_, peers) = split_sized(after_id).ok_or(WireFault::Malformed)?;
+    let (_, peers) = split_length_prefixed(after_id).ok_or(WireFault::Malformed)?;
     read_peers(alloc, peers)
 }

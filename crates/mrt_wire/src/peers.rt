@@ -3,7 +3,7 @@
 //! gets its slot by its peer index instead. Read [`Peers`] first.
 
 ghost use Rattle.std.specs.Prelude.{◌<◌};
-ghost use Rattle.mrt_wire.specs.declared.peers.TheConstants.{PEER_PLACES};
+ghost use Rattle.mrt_wire.specs.declared.peers.TheConstants.{PEER_SLOTS};
 
 use bgp_paths::ListOf;
 use ip_prefix::{Addr, Family, V4_OCTETS};
@@ -11,7 +11,7 @@ use mrt_events::Peer;
 
 /// The number of slots that peers are spread over. With one more peer, two peers share a slot, and
 /// the route of each overwrites the other's.
-pub(crate) const PEER_PLACES: usize = 256;
+pub(crate) const PEER_SLOTS: usize = 256;
 
 /// The multiplier of the hash of a peer: the odd number nearest to 2^32 divided by the golden
 /// ratio.
@@ -51,8 +51,8 @@ fn last_octets(addr: &Addr) -> u32 {
 /// Returns a hash of the last four octets of the peer's address and of its AS number: the index of
 /// its slot. Several peers may have one.
 #[inline]
-pub(crate) fn place_of(peer: &Peer) -> usize
-    ensures { result < PEER_PLACES }
+pub(crate) fn peer_hash(peer: &Peer) -> usize
+    ensures { result < PEER_SLOTS }
 {
     // Which slot a peer has changes time and memory alone, so the contract bounds the index only.
     let first = last_octets(&peer.addr).wrapping_add(peer.asn);

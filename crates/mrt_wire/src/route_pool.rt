@@ -4,14 +4,14 @@
 //! [`RoutePool::rib_route`] for each table entry that it doesn't cache. Read [`RoutePool`] first.
 
 ghost use Rattle.std.specs.Prelude.{◌≡◌, ◌≤◌, ◌<◌, ◌+◌, ◌-◌, ◌*◌, min, max, true, IfOk, IfErr, vec_len};
-ghost use Rattle.mrt_wire.specs.declared.route_pool.TheConstants.{LET_GO, MOST_ROOM, MOST_ROUTES};
+ghost use Rattle.mrt_wire.specs.declared.route_pool.TheConstants.{LOWERING_RATE, MOST_ROOM, MOST_ROUTES};
 ghost use Rattle.mrt_wire.specs.Items.{route_of};
-ghost use Rattle.mrt_wire.specs.Judging.{IsSentAs, RefusesSent};
+ghost use Rattle.mrt_wire.specs.Decoding.{IsRouteFrom, RefusesRaw};
 
-use crate::replacing::put_attrs;
-use crate::rib_route::{SentAttrs, blank_route, fill_shared, new_route};
+use crate::replacing::move_or_copy_attrs;
+use crate::rib_route::{RawAttrs, blank_route, fill_or_replace, new_route};
 use bgp_wire::{Attrs, WireFault};
-use mrt_events::{Route, route_room};
+use mrt_events::{Route, max_route_size};
 use std::alloc::{AllocError, Global};
 use std::mem;
 use std::rc::Rc;
@@ -42,34 +42,34 @@ pub(crate) const MOST_ROOM: u64 = 560 * 1024;
 
 /// The largest number of octets that an element of the list of routes takes: a pointer and a
 /// number, and as many octets again of the list's spare capacity.
-pub(crate) const PLACE_OCTETS: u64 = 32;
+pub(crate) const ELEMENT_OCTETS: u64 = 32;
 
 // What is dropped so wasn't needed while a quarter as many octets were read. To allocate it again
 // takes about as long as to read these.
 /// The number of octets by which the bound of a pool falls for each octet of a record, down to what
 /// that record needed and to [`MOST_ROOM`].
-const LET_GO: u64 = 4;
+const LOWERING_RATE: u64 = 4;
 
 /// Returns the largest number of octets of memory that a counted route takes, with its element in
 /// the list.
 #[inline]
 fn counted_room(route: &Route) -> u64 {
-    route_room(route).saturating_add(PLACE_OCTETS)
+    max_route_size(route).saturating_add(ELEMENT_OCTETS)
 }
 
 /// A route of a pool, which the items of events may hold too.
 #[derive(Drop)]
-struct GivenRoute {
+struct PooledRoute {
     route: Rc<Route>,
     /// The number of octets that are counted for the route, or 0 if it isn't counted.
     room: u64,
 }
 
-impl GivenRoute {
+impl PooledRoute {
     /// Returns a route without attributes, which isn't counted. Fails if memory allocation fails.
-    fn blank(alloc: Global) -> Result<GivenRoute, AllocError> {
+    fn blank(alloc: Global) -> Result<PooledRoute, AllocError> {
         let route = new_route(alloc)?;
-        Ok(GivenRoute { route, room: 0 })
+        Ok(PooledRoute { route, room: 0 })
     }
 
     /// Returns `true` if the route has an owner besides the pool.
@@ -81,10 +81,10 @@ impl GivenRoute {
 /// A pool of routes, in the order in which a record uses them.
 #[derive(Drop)]
 pub(crate) struct RoutePool {
-    routes: Vec<GivenRoute>,
+    routes: Vec<PooledRoute>,
     /// The number of routes that the current record has used, at most [`MOST_ROUTES`] - 1: the last
     /// route is used for all further entries.
-    given: usize,
+    used: usize,
     /// The number of octets counted for all routes together.
     room: u64,
     /// The number of octets counted for the routes that the current record has used.
@@ -93,9 +93,9 @@ pub(crate) struct RoutePool {
     most: u64,
     /// The size of the current record, in octets.
     octets: u64,
-    ghost counted: { given ≤ vec_len routes },
+    ghost counted: { used ≤ vec_len routes },
     ghost bounded: { vec_len routes ≤ MOST_ROUTES },
-    ghost below: { given < MOST_ROUTES },
+    ghost below: { used < MOST_ROUTES },
     ghost fits: { room ≤ most },
 }
 
@@ -103,27 +103,27 @@ pub(crate) struct RoutePool {
 /// and left as it is if `keep_attrs`; otherwise it is unspecified afterwards. Fails if memory
 /// allocation fails.
 #[inline(never)]
-fn made_route(
+fn allocate_route(
     alloc: Global,
     attrs: &mut Attrs,
     time: u32,
-    is_kept: bool,
+    keep_attrs: bool,
 ) -> Result<Rc<Route>, AllocError>
     ensures made { IfOk result (λ route. route.value ≡ route_of attrs.old time) }
-    ensures kept { is_kept ≡ true → attrs.new ≡ attrs.old }
+    ensures kept { keep_attrs ≡ true → attrs.new ≡ attrs.old }
 {
     let mut route = blank_route(alloc);
-    put_attrs(alloc, &mut route.attrs, attrs, is_kept)?;
+    move_or_copy_attrs(alloc, &mut route.attrs, attrs, keep_attrs)?;
     route.time = time;
     Ok(Rc::new(alloc, route)?)
 }
 
 impl RoutePool {
     /// Returns an empty pool, without allocating memory.
-    pub(crate) fn none(alloc: Global) -> RoutePool {
+    pub(crate) fn new(alloc: Global) -> RoutePool {
         RoutePool {
             routes: Vec::new(alloc),
-            given: 0,
+            used: 0,
             room: 0,
             needed: 0,
             most: MOST_ROOM,
@@ -134,14 +134,14 @@ impl RoutePool {
     /// Begins a record of `octets` octets, which may use all routes of the pool. Lowers the bound
     /// of the pool if an earlier record raised it above [`MOST_ROOM`].
     #[inline(always)]
-    pub(crate) fn restart(&mut self, octets: usize)
-        ensures given { self.new.given ≡ 0 }
+    pub(crate) fn begin_record(&mut self, octets: usize)
+        ensures used { self.new.used ≡ 0 }
         ensures needed { self.new.needed ≡ 0 }
         ensures octets { self.new.octets ≡ octets }
         ensures most { self.new.most ≤ max MOST_ROOM
-            (max self.old.needed (self.old.most - LET_GO * self.old.octets)) }
+            (max self.old.needed (self.old.most - LOWERING_RATE * self.old.octets)) }
     {
-        self.given = 0;
+        self.used = 0;
         if self.most > MOST_ROOM {
             self.lower();
         }
@@ -154,14 +154,16 @@ impl RoutePool {
     /// any more.
     #[inline(never)]
     fn lower(&mut self)
-        ensures given { self.new.given ≡ self.old.given }
+        ensures used { self.new.used ≡ self.old.used }
         ensures most { self.new.most ≡ max MOST_ROOM
-            (max self.old.needed (self.old.most - LET_GO * self.old.octets)) }
+            (max self.old.needed (self.old.most - LOWERING_RATE * self.old.octets)) }
     {
-        let lowered = self.most.saturating_sub(self.octets.saturating_mul(LET_GO));
+        let lowered = self
+            .most
+            .saturating_sub(self.octets.saturating_mul(LOWERING_RATE));
         let most = lowered.max(self.needed).max(MOST_ROOM);
         if self.room > most {
-            self.let_go(most);
+            self.drop_unused(most);
         }
         self.most = most;
     }
@@ -169,13 +171,13 @@ impl RoutePool {
     /// Drops routes that the current record hasn't used, from the last on, until the others take at
     /// most `most` octets or none is left to drop. Sets `room` to at most `most` in any case.
     #[inline(never)]
-    fn let_go(&mut self, most: u64)
-        ensures given { self.new.given ≡ self.old.given }
+    fn drop_unused(&mut self, most: u64)
+        ensures used { self.new.used ≡ self.old.used }
         ensures needed { self.new.needed ≡ self.old.needed }
         ensures room { self.new.room ≤ most }
         ensures most { self.new.most ≡ self.old.most }
     {
-        'routes: while self.room > most && self.routes.len() > self.given {
+        'routes: while self.room > most && self.routes.len() > self.used {
             if let Some(route) = self.routes.pop() {
                 self.room = self.room.saturating_sub(route.room);
             }
@@ -188,7 +190,7 @@ impl RoutePool {
     /// Drops the pool's handles to routes that have other owners, if the last record needed more
     /// than [`MOST_ROOM`]. So their memory is freed as soon as their other owners drop them.
     #[inline(always)]
-    pub(crate) fn let_go_of_held(&mut self)
+    pub(crate) fn release_held(&mut self)
         ensures most { self.new.most ≡ self.old.most }
     {
         // The next record couldn't be read into these routes anyway, as long as they have other owners.
@@ -201,17 +203,17 @@ impl RoutePool {
     /// used again.
     #[inline(never)]
     fn remove_held(&mut self)
-        ensures given { self.new.given ≡ 0 }
+        ensures used { self.new.used ≡ 0 }
         ensures most { self.new.most ≡ self.old.most }
     {
-        self.given = 0;
-        let mut place = 0;
-        'routes: while place < self.routes.len() {
-            if self.routes[place].has_other_owner() {
-                let held = self.routes.swap_remove(place);
+        self.used = 0;
+        let mut index = 0;
+        'routes: while index < self.routes.len() {
+            if self.routes[index].has_other_owner() {
+                let held = self.routes.swap_remove(index);
                 self.room = self.room.saturating_sub(held.room);
             } else {
-                place += 1;
+                index += 1;
             }
         }
         self.routes.shrink_to_fit();
@@ -220,34 +222,34 @@ impl RoutePool {
     /// Returns the index of the route that the record uses next, and adds a blank route if the pool
     /// has no more. The route may have other owners. Fails if memory allocation fails.
     #[inline(always)]
-    fn next_place(&mut self, alloc: Global) -> Result<usize, AllocError>
-        ensures next { IfOk result (λ place. place ≡ self.old.given) }
-        ensures within { IfOk result (λ place. place < vec_len self.new.routes) }
+    fn next_index(&mut self, alloc: Global) -> Result<usize, AllocError>
+        ensures next { IfOk result (λ index. index ≡ self.old.used) }
+        ensures within { IfOk result (λ index. index < vec_len self.new.routes) }
     {
-        let place = self.given;
-        let given = (place + 1).min(MOST_ROUTES - 1);
-        if place >= self.routes.len() {
-            self.routes.push(GivenRoute::blank(alloc)?)?;
+        let index = self.used;
+        let used = (index + 1).min(MOST_ROUTES - 1);
+        if index >= self.routes.len() {
+            self.routes.push(PooledRoute::blank(alloc)?)?;
         }
-        self.given = given;
-        Ok(place)
+        self.used = used;
+        Ok(index)
     }
 
     /// Counts the octets of the route at `index`, instead of those counted for it before, as needed
     /// by the current record. Raises the bound of the pool to what the record needs, if that is
     /// more. If all routes exceed the bound, drops routes that the record hasn't used.
     #[inline(never)]
-    fn count(&mut self, place: usize)
-        requires { place < vec_len self.old.routes }
+    fn count(&mut self, index: usize)
+        requires { index < vec_len self.old.routes }
         ensures most { self.new.most ≡ max self.old.most self.new.needed }
     {
-        let room = counted_room(&self.routes[place].route);
-        let before = mem::replace(&mut self.routes[place].room, room);
+        let room = counted_room(&self.routes[index].route);
+        let before = mem::replace(&mut self.routes[index].room, room);
         let needed = self.needed.saturating_add(room);
         let most = self.most.max(needed);
         self.room = self.room.saturating_sub(before);
         if self.room.saturating_add(room) > most {
-            self.let_go(most.saturating_sub(room));
+            self.drop_unused(most.saturating_sub(room));
         }
         self.room = self.room.saturating_add(room);
         self.needed = needed;
@@ -258,11 +260,11 @@ impl RoutePool {
     /// was read from at most [`LONGEST_FIRST`] octets, and isn't counted yet. `octets` is the size
     /// of the attributes that it was read from.
     #[inline(always)]
-    fn keep(&mut self, place: usize, octets: usize)
-        requires { place < vec_len self.old.routes }
+    fn keep(&mut self, index: usize, octets: usize)
+        requires { index < vec_len self.old.routes }
     {
-        if place >= FIRST_ROUTES || octets > LONGEST_FIRST || self.routes[place].room > 0 {
-            self.count(place);
+        if index >= FIRST_ROUTES || octets > LONGEST_FIRST || self.routes[index].room > 0 {
+            self.count(index);
         }
     }
 
@@ -274,16 +276,16 @@ impl RoutePool {
     pub(crate) fn rib_route(
         &mut self,
         alloc: Global,
-        sent: SentAttrs<'_>,
+        raw: RawAttrs<'_>,
         time: u32,
     ) -> Result<Rc<Route>, WireFault>
-        ensures read { IfOk result (λ route. IsSentAs sent.entry time route.value) }
-        ensures refused { IfErr result (RefusesSent sent.entry) }
+        ensures read { IfOk result (λ route. IsRouteFrom raw.entry time route.value) }
+        ensures refused { IfErr result (RefusesRaw raw.entry) }
     {
-        let place = self.next_place(alloc)?;
-        let read = fill_shared(&mut self.routes[place].route, alloc, sent, time);
-        let route: Result<_, _> = self.routes[place].route.clone();
-        self.keep(place, sent.octets.len());
+        let index = self.next_index(alloc)?;
+        let read = fill_or_replace(&mut self.routes[index].route, alloc, raw, time);
+        let route: Result<_, _> = self.routes[index].route.clone();
+        self.keep(index, raw.octets.len());
         read?;
         Ok(route?)
     }
@@ -293,24 +295,24 @@ impl RoutePool {
     /// left as it is if `keep_attrs`; otherwise, or on error, it is unspecified afterwards. Fails
     /// if memory allocation fails.
     #[inline(always)]
-    pub(crate) fn route(
+    pub(crate) fn make_route(
         &mut self,
         alloc: Global,
         attrs: &mut Attrs,
         time: u32,
-        is_kept: bool,
+        keep_attrs: bool,
     ) -> Result<Rc<Route>, AllocError>
         ensures made { IfOk result (λ route. route.value ≡ route_of attrs.old time) }
-        ensures kept { is_kept ≡ true → attrs.new ≡ attrs.old }
+        ensures kept { keep_attrs ≡ true → attrs.new ≡ attrs.old }
     {
-        let place = self.next_place(alloc)?;
-        match Rc::get_mut(&mut self.routes[place].route) {
+        let index = self.next_index(alloc)?;
+        match Rc::get_mut(&mut self.routes[index].route) {
             Some(route) => {
-                put_attrs(alloc, &mut route.attrs, attrs, is_kept)?;
+                move_or_copy_attrs(alloc, &mut route.attrs, attrs, keep_attrs)?;
                 route.time = time;
             }
-            None => self.routes[place].route = made_route(alloc, attrs, time, is_kept)?,
+            None => self.routes[index].route = allocate_route(alloc, attrs, time, keep_attrs)?,
         }
-        self.routes[place].route.clone()
+        self.routes[index].route.clone()
     }
 }

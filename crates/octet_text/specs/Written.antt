@@ -21,8 +21,8 @@ three_digits n = (48 + n / 100 % 10) ∷ (48 + n / 10 % 10) ∷ (48 + n % 10) �
 
 -- the first three of the digits, padded on the right with spaces to three octets, and the ASCII digit of
 -- their count, which must be below 10
-abbrev pub filled : List ℕ → List ℕ
-filled digits = take 3 (digits ++ SPACE ∷ SPACE ∷ SPACE ∷ []) ++ (48 + length digits) ∷ []
+abbrev pub left_aligned_digits : List ℕ → List ℕ
+left_aligned_digits digits = take 3 (digits ++ SPACE ∷ SPACE ∷ SPACE ∷ []) ++ (48 + length digits) ∷ []
 
 -- the last two hexadecimal digits of a number in lower-case ASCII, with leading zeros
 abbrev pub two_hex_digits : ℕ → List ℕ

@@ -5,7 +5,7 @@ ghost use Rattle.std.specs.Prelude.{◌≡◌, ◌+◌, ◌-◌, ◌*◌, ◌<�
 ghost use Rattle.octet_text.specs.Written.{ended_words};
 
 use crate::cursor::{
-    DECIMAL_ROOM, ENDED_ROOM, InPlace, WORD_ROOM, Word, put_octets, write_decimal,
+    DECIMAL_ROOM, ENDED_ROOM, WORD_ROOM, WordFormat, WriteTextAt, put_octets, write_decimal,
     write_ended_decimal,
 };
 use itoa::Buffer;
@@ -138,7 +138,7 @@ impl Text {
 
     /// Appends the 64-bit `number` in decimal, without leading zeros. On error, the text is
     /// unchanged.
-    pub fn put_long_decimal(&mut self, number: u64) -> Result<(), AllocError>
+    pub fn put_decimal_u64(&mut self, number: u64) -> Result<(), AllocError>
         ensures appended { OnOk result (self.new ≡ self.old ++ decimal number) }
         ensures unchanged { OnErr result (self.new ≡ self.old) }
     {
@@ -183,7 +183,7 @@ impl Text {
             (self.new ≡ self.old ++ ended_words end (map decimal numbers.now)) }
         ensures unchanged { OnErr result (self.new ≡ self.old) }
     {
-        make_rooms(&mut self.buffer, self.len, numbers.len(), ENDED_ROOM)?;
+        make_room_for_each(&mut self.buffer, self.len, numbers.len(), ENDED_ROOM)?;
         let text = self.buffer.as_mut_slice();
         let mut place = self.len;
         for number in numbers {
@@ -196,12 +196,16 @@ impl Text {
     /// Appends the word of each of `numbers`, as `W` writes it, and the octet `end` after each. On
     /// error, the text is unchanged.
     #[inline]
-    pub fn put_ended_words<W: Word>(&mut self, numbers: &[u32], end: u8) -> Result<(), AllocError>
+    pub fn put_ended_words<W: WordFormat>(
+        &mut self,
+        numbers: &[u32],
+        end: u8,
+    ) -> Result<(), AllocError>
         ensures appended { OnOk result
             (self.new ≡ self.old ++ ended_words end (map W.word numbers.now)) }
         ensures unchanged { OnErr result (self.new ≡ self.old) }
     {
-        make_rooms(&mut self.buffer, self.len, numbers.len(), WORD_ROOM)?;
+        make_room_for_each(&mut self.buffer, self.len, numbers.len(), WORD_ROOM)?;
         let text = self.buffer.as_mut_slice();
         let mut place = self.len;
         for number in numbers {
@@ -213,18 +217,18 @@ impl Text {
 
     /// Appends `value` as text. On error, the text is unchanged.
     #[inline]
-    pub fn put<V: InPlace>(&mut self, value: &V) -> Result<(), AllocError>
+    pub fn put<V: WriteTextAt>(&mut self, value: &V) -> Result<(), AllocError>
         ensures appended { OnOk result (self.new ≡ self.old ++ V.shown value.now) }
         ensures unchanged { OnErr result (self.new ≡ self.old) }
     {
         make_room(&mut self.buffer, self.len, V::ROOM)?;
-        self.len = value.write_in_place(self.buffer.as_mut_slice(), self.len);
+        self.len = value.write_text_at(self.buffer.as_mut_slice(), self.len);
         Ok(())
     }
 
     /// Appends the octet `lead`, and then `value` as text. On error, the text is unchanged.
     #[inline]
-    pub fn put_led<V: InPlace>(&mut self, lead: u8, value: &V) -> Result<(), AllocError>
+    pub fn put_led<V: WriteTextAt>(&mut self, lead: u8, value: &V) -> Result<(), AllocError>
         ensures appended { OnOk result (self.new ≡ self.old ++ lead ∷ V.shown value.now) }
         ensures unchanged { OnErr result (self.new ≡ self.old) }
     {
@@ -232,7 +236,7 @@ impl Text {
         make_room(&mut self.buffer, at, V::ROOM.saturating_add(1))?;
         let text = self.buffer.as_mut_slice();
         text[at] = lead;
-        self.len = value.write_in_place(text, at + 1);
+        self.len = value.write_text_at(text, at + 1);
         Ok(())
     }
 
@@ -293,7 +297,12 @@ fn make_room(buffer: &mut Vec<u8>, len: usize, room: usize) -> Result<(), AllocE
 /// it has fewer. The first `len` octets are unchanged, on error too; those after them are
 /// unspecified.
 #[inline(always)]
-fn make_rooms(buffer: &mut Vec<u8>, len: usize, count: usize, each: usize) -> Result<(), AllocError>
+fn make_room_for_each(
+    buffer: &mut Vec<u8>,
+    len: usize,
+    count: usize,
+    each: usize,
+) -> Result<(), AllocError>
     requires front { len ≤ length buffer.old.items }
     requires some { 0 < each }
     ensures room { OnOk result (len + count * each ≤ length buffer.new.items) }

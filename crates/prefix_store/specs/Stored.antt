@@ -15,8 +15,8 @@ abbrev pub Routes : Type 0 → Type 0
 Routes R = FinMap network_cmp R
 
 -- the map has values at elements of the set only, as the routes of a store at its keys
-abbrev pub AreAmong : {K R : Type 0} {cmp : K → K → Ordering} → FinSet cmp → FinMap cmp R → Type 0
-AreAmong {K} keys routes = (key : K) → contains keys key ≡ false → get routes key ≡ None
+abbrev pub ContainsDomain : {K R : Type 0} {cmp : K → K → Ordering} → FinSet cmp → FinMap cmp R → Type 0
+ContainsDomain {K} keys routes = (key : K) → contains keys key ≡ false → get routes key ≡ None
 
 -- the map after `None` removes the key, or `Some new` sets its value to new; all other keys keep
 -- their values
@@ -25,5 +25,5 @@ put values key None = remove values key
 put values key (Some new) = insert values key new
 
 -- the number that a count of this size returns: the size, or GREATEST_COUNT if that is less
-abbrev pub counted : ℕ → ℕ
-counted size = min size GREATEST_COUNT
+abbrev pub saturated_count : ℕ → ℕ
+saturated_count size = min size GREATEST_COUNT

@@ -10,7 +10,7 @@ use Rattle.rib_player.specs.Tables.{Routes, Pairs, table, named_pairs, Contents}
 use Rattle.rib_player.specs.Claims.{claims_along, held_claims, AreHeld}
 use Rattle.rib_player.specs.Entries.{Entry}
 use Rattle.rib_player.specs.Journal.{tables_over, routes_across, sides_of, steps_of}
-use Rattle.rib_player.specs.Marks.{sides_at, sides_across, AreDistinct, Mark, marks_of, marks_by_step, marks_across, AreMarked}
+use Rattle.rib_player.specs.Sides.{sides_at, sides_across, AreDistinct, Mark, marks_of, marks_by_step, marks_across, AreMarked}
 use Rattle.mrt_events.specs.declared.event.Event.{Event}
 use Rattle.rib_player.specs.Timeline.{Timeline, after_play, after_undo, after_redo, after_forget}
 
@@ -19,7 +19,7 @@ use Rattle.rib_player.specs.Timeline.{Timeline, after_play, after_undo, after_re
 -- a table, the claims beyond its keys, a cursor and steps fit together: the cursor is within the steps; each
 -- step names a pair once, and marks it as the tables before and after the step have it; and each pair has as
 -- many claims as the tables at all kept positions make
-pub record IsPlayed (table : Contents) (beyond : Pair → ℕ) (cursor : ℕ) (steps : List Step) : Type 0 where
+pub record IsConsistentJournal (table : Contents) (beyond : Pair → ℕ) (cursor : ℕ) (steps : List Step) : Type 0 where
   pub within : cursor ≤ length steps
   pub distinct : AllByRecursion AreDistinct (steps_of steps)
   pub marked : AreMarked (tables_over cursor (steps_of steps) table.routes) (marks_by_step steps)
@@ -28,7 +28,7 @@ pub record IsPlayed (table : Contents) (beyond : Pair → ℕ) (cursor : ℕ) (s
 
 -- a table and steps were changed from old to new by undoing or redoing the step at an index: table and step
 -- exchanged the routes at its pairs, and the other steps are unchanged
-pub record IsCrossed (old new : Contents) (steps steps' : List Step) (index : ℕ) : Type 0 where
+pub record IsStepSwapped (old new : Contents) (steps steps' : List Step) (index : ℕ) : Type 0 where
   pub keys : new.keys ≡ old.keys
   pub routes : new.routes ≡ routes_across (sides_at (steps_of steps) index) old.routes
   pub sides : steps_of steps' ≡ set (steps_of steps) index (sides_across old.routes (sides_at (steps_of steps) index))
@@ -36,7 +36,7 @@ pub record IsCrossed (old new : Contents) (steps steps' : List Step) (index : �
 
 -- a table and the entries of a new step were changed from old to new by applying the step: they exchanged the
 -- routes at its pairs, and each entry is marked as its pair has a route before and after the step
-pub record IsPut (old new : Contents) (entries entries' : List Entry) : Type 0 where
+pub record AreApplied (old new : Contents) (entries entries' : List Entry) : Type 0 where
   pub routes : new.routes ≡ routes_across (sides_of entries) old.routes
   pub sides : sides_of entries' ≡ sides_across old.routes (sides_of entries)
   pub marks : marks_of entries' ≡ marks_across old.routes (sides_of entries)
@@ -74,8 +74,8 @@ steps_along past [] = []
 steps_along past (event ∷ events) = named_pairs (table past) event ∷ steps_along (past ++ event ∷ []) events
 
 -- the pairs that the event at an index of a history names, or `None` past its end
-abbrev pub names_at : List Event → ℕ → Option Pairs
-names_at history i = option_map (named_pairs (table (take i history))) (slice_get history i)
+abbrev pub named_pairs_at : List Event → ℕ → Option Pairs
+named_pairs_at history i = option_map (named_pairs (table (take i history))) (slice_get history i)
 
 -- a player stands for a history: from the floor on, its table at each position is that of the events before
 -- it, and its steps name what these events name
@@ -101,12 +101,12 @@ pub data Call : Type 0 where
   Look : Call
 
 -- the calls that play the events, and then undo as many steps
-abbrev pub undone : List Event → List Call
-undone events = map Play events ++ replicate (length events) Undo
+abbrev pub play_undo_calls : List Event → List Call
+play_undo_calls events = map Play events ++ replicate (length events) Undo
 
 -- the calls that play the events, undo as many steps, and redo as many
-abbrev pub redone : List Event → List Call
-redone events = map Play events ++ (replicate (length events) Undo ++ replicate (length events) Redo)
+abbrev pub play_undo_redo_calls : List Event → List Call
+play_undo_redo_calls events = map Play events ++ (replicate (length events) Undo ++ replicate (length events) Redo)
 
 -- a player after one call
 abbrev pub after_call : Timeline → Call → Timeline

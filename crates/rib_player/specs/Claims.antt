@@ -4,7 +4,7 @@
 use Rattle.std.specs.Prelude.{◌≡◌, ℕ, ◌+◌, List, ◌++◌, length, refl, ◌-◌, ◌*◌, Bool, true, false, ◌&&◌, not, [], ◌∷◌, Option, is_some, take, replicate}
 use Rattle.std.specs.Coded.{Coded, code_by, coded×, coded_ℕ, coded_list}
 use Rattle.mrt_events.specs.Codes.{coded_route}
-use Rattle.rib_player.specs.Kept.{coded_pair}
+use Rattle.rib_player.specs.Representation.{coded_pair}
 use Rattle.rib_player.specs.Tables.{Routes, Pairs, table_after, Contents}
 use Rattle.rib_player.specs.Timeline.{Timeline, end_of, current, table_at}
 use Rattle.std.specs.Option.{option_map_or}
@@ -19,9 +19,9 @@ use Rattle.ip_prefix.specs.Network.{Network, network_cmp}
 use Rattle.mrt_events.specs.declared.event.Event.{Event}
 use Rattle.mrt_events.specs.Event.{peer_cmp}
 use Rattle.rib_player.specs.declared.claims.Claims.{Claims}
-use Rattle.rib_player.specs.declared.claims.Counts.{Counts}
+use Rattle.rib_player.specs.declared.claims.PeerClaims.{PeerClaims}
 use Rattle.rib_player.specs.declared.claims.TheConstants.{ADDRESSES}
-use Rattle.rib_player.specs.FewCounts.{count_at}
+use Rattle.rib_player.specs.KeyCounts.{count_at}
 use Rattle.rib_player.specs.declared.pair.Pair.{Pair}
 use Rattle.std.specs.FinMap as finite
 use Rattle.std.specs.FinSet as set
@@ -93,8 +93,8 @@ without_last t = record t {
 }
 
 -- an IPv4 prefix as a number: its length times 2^32, plus its address, which is its bits filled up with zeros
-abbrev pub v4_key : Network → ℕ
-v4_key n = length n.bits * ADDRESSES + number_of (take V4_BITS (n.bits ++ replicate (V6_BITS - length n.bits) false))
+abbrev pub v4_prefix_number : Network → ℕ
+v4_prefix_number n = length n.bits * ADDRESSES + number_of (take V4_BITS (n.bits ++ replicate (V6_BITS - length n.bits) false))
 
 -- one of two values, by family: the first for IPv4, the second for IPv6
 abbrev pub by_family : {A : Type 0} → Family → A → A → A
@@ -102,11 +102,11 @@ by_family V4 a b = a
 by_family V6 a b = b
 
 -- how many claims of a prefix the counts of one peer have
-abbrev pub count_of : Counts → Network → ℕ
-count_of counts n = by_family n.family (count_at nat_cmp counts.v4 (v4_key n)) (count_at network_cmp counts.v6 n)
+abbrev pub count_of : PeerClaims → Network → ℕ
+count_of counts n = by_family n.family (count_at nat_cmp counts.v4 (v4_prefix_number n)) (count_at network_cmp counts.v6 n)
 
 -- how many claims of a prefix the counts of a peer have; none if the peer has no counts
-abbrev pub count_of_peer : Option (Box Counts Global) → Network → ℕ
+abbrev pub count_of_peer : Option (Box PeerClaims Global) → Network → ℕ
 count_of_peer counts prefix = option_map_or (λ counts. count_of counts.value prefix) counts 0
 
 -- how many claims of a pair are counted beyond the first, for which the key stands

@@ -14,4 +14,4 @@ pub record Entry : Type 0 where
   -- whether the pair has a route before the step
   pub before : Bool
   -- whether the pair has a route after the step
-  pub behind : Bool
+  pub after : Bool

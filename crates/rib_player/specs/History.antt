@@ -8,7 +8,7 @@ use Rattle.mrt_events.specs.declared.peer.Peer.{Peer}
 use Rattle.mrt_events.specs.declared.event.TheConstants.{ESTABLISHED}
 use Rattle.rib_player.specs.declared.pair.Pair.{Pair}
 use Rattle.mrt_events.specs.declared.event.Route.{Route}
-use Rattle.mrt_events.specs.Event.{peer_cmp, Saying, Announced, Withdrawn, Changed}
+use Rattle.mrt_events.specs.Event.{peer_cmp, ItemValue, Announced, Withdrawn, Changed}
 use Rattle.mrt_events.specs.declared.event.Event.{Event}
 
 -- the order of pairs: by peer, then by prefix
@@ -29,9 +29,9 @@ pub data Effect : Type 0 where
   Set : Route → Effect
 
 -- the effect if the condition is true, else `Keep`
-abbrev pub where_true : Bool → Effect → Effect
-where_true true effect = effect
-where_true false effect = Keep
+abbrev pub effect_if : Bool → Effect → Effect
+effect_if true effect = effect
+effect_if false effect = Keep
 
 -- whether a change of session state, given its old and its new number, leaves Established (RFC 6396, section
 -- 4.4.1)
@@ -40,10 +40,10 @@ is_loss old new = (old == ESTABLISHED) && not (new == ESTABLISHED)
 
 -- what one item does to the route at a pair: an announcement sets it at its own pair, a withdrawal clears it
 -- there, and the loss of a session clears it at each pair of the peer
-abbrev pub item_effect : Pair → Saying → Effect
-item_effect pair (Announced peer network route) = where_true (eq_by_cmp pair_cmp pair (pair_of peer network)) (Set route)
-item_effect pair (Withdrawn peer network) = where_true (eq_by_cmp pair_cmp pair (pair_of peer network)) Clear
-item_effect pair (Changed peer old new) = where_true (eq_by_cmp peer_cmp pair.peer peer && is_loss old new) Clear
+abbrev pub item_effect : Pair → ItemValue → Effect
+item_effect pair (Announced peer network route) = effect_if (eq_by_cmp pair_cmp pair (pair_of peer network)) (Set route)
+item_effect pair (Withdrawn peer network) = effect_if (eq_by_cmp pair_cmp pair (pair_of peer network)) Clear
+item_effect pair (Changed peer old new) = effect_if (eq_by_cmp peer_cmp pair.peer peer && is_loss old new) Clear
 
 -- two effects one after the other as one: the second, or the first if the second is `Keep`
 abbrev pub later : Effect → Effect → Effect

@@ -10,14 +10,14 @@ use Rattle.mrt_events.specs.declared.peer.Peer.{Peer}
 use Rattle.mrt_events.specs.declared.event.Route.{Route}
 use Rattle.mrt_events.specs.Event.{peer_cmp}
 use Rattle.prefix_store.specs.Lookups as lookups
-use Rattle.prefix_store.specs.Stored.{counted}
+use Rattle.prefix_store.specs.Stored.{saturated_count}
 use Rattle.rib_player.specs.History.{pair_of}
 use Rattle.rib_player.specs.Tables.{Routes, peer_routes, routed_peers}
 
 -- the route of a peer to the longest prefix that contains the address, with that prefix; `None` if the peer
 -- has none
 abbrev pub IsBest : Routes → Peer → Address → Option (Network × Route) → Type 0
-IsBest routes peer = lookups.IsLongestOf (λ n. finite.get routes (pair_of peer n))
+IsBest routes peer = lookups.IsLongestMatchOf (λ n. finite.get routes (pair_of peer n))
 
 -- the route that a pointer points to
 abbrev pub value_of : Rc Route Global → Route
@@ -29,7 +29,7 @@ pointed_routes found = map (λ f. (f.0, f.1.now.value)) found
 
 -- those of a list of peers that are greater than a peer; all of them for `None`
 abbrev pub peers_above : Option Peer → List Peer → List Peer
-peers_above low peers = filter (lookups.is_higher peer_cmp low) peers
+peers_above low peers = filter (lookups.is_above_bound peer_cmp low) peers
 
 -- the peers that have a route and are greater than a peer, in order; all that have one for `None`
 abbrev pub routed_above : Routes → Option Peer → List Peer
@@ -37,7 +37,7 @@ routed_above routes low = peers_above low (routed_peers routes)
 
 -- the peers that have a route, in order, each with the number of its routes, at most `u64::MAX`
 abbrev pub counted_peers : Routes → List (Peer × ℕ)
-counted_peers routes = map (λ peer. (peer, counted (finite.len (peer_routes routes peer)))) (routed_peers routes)
+counted_peers routes = map (λ peer. (peer, saturated_count (finite.len (peer_routes routes peer)))) (routed_peers routes)
 
 -- the routes of a peer to prefixes greater than a prefix, in order; all its routes for `None`
 abbrev pub routes_above : Routes → Peer → Option Network → List (Network × Route)

@@ -2,7 +2,7 @@
 -- What is noted of the stores of peers.
 use Rattle.std.specs.Prelude.{Bool, List}
 use Rattle.mrt_events.specs.declared.peer.Peer.{Peer}
-use Rattle.rib_player.specs.Chosen.{choices}
+use Rattle.rib_player.specs.SparseSet.{choices}
 use Rattle.rib_player.specs.StoresByPeer.{stores_of}
 use Rattle.rib_player.specs.declared.stores.Stores as numbered
 

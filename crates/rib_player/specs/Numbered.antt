@@ -8,7 +8,7 @@ use Rattle.std.specs.declared.alloc.Global.{Global}
 use Rattle.std.specs.declared.rc.Rc.{Rc}
 use Rattle.mrt_events.specs.declared.peer.Peer.{Peer}
 use Rattle.mrt_events.specs.Event.{peer_cmp}
-use Rattle.rib_player.specs.declared.row_marks.Marks.{Marks}
+use Rattle.rib_player.specs.declared.seen_numbers.SeenNumbers.{SeenNumbers}
 
 -- the peers that pointers point to
 abbrev pub peers_in : List (Rc Peer Global) → List Peer
@@ -22,5 +22,5 @@ pub record AreNumbered {S : Type 0} (held : List S) (names : List Peer) (order :
   pub even : length names ≡ length held
 
 -- whether a number was seen in the current row
-abbrev pub is_marked : Marks → ℕ → Bool
-is_marked marks number = option_map_or (λ seen. seen == marks.row) (slice_get marks.rows.items number) false
+abbrev pub was_seen : SeenNumbers → ℕ → Bool
+was_seen marks number = option_map_or (λ seen. seen == marks.row) (slice_get marks.rows.items number) false

@@ -6,7 +6,7 @@ use Rattle.std.specs.FinSet.{FinSet, from_list}
 use Rattle.prefix_store.specs.Stored.{put}
 use Rattle.rib_player.specs.declared.pair.Pair.{Pair}
 use Rattle.mrt_events.specs.declared.event.Route.{Route}
-use Rattle.mrt_events.specs.Event.{Saying, Announced, peer_cmp}
+use Rattle.mrt_events.specs.Event.{ItemValue, Announced, peer_cmp}
 use Rattle.mrt_events.specs.declared.event.Event.{Event}
 use Rattle.rib_player.specs.History.{pair_cmp, pair_of, Effect, Keep, effect, route_after, route}
 use Rattle.std.specs.Map.{lookup}
@@ -35,7 +35,7 @@ tabulation f [] = empty
 tabulation f (pair ∷ pairs) = put (tabulation f pairs) pair (f pair)
 
 -- the pair to which an item announces a route, as a list of one or none
-abbrev pub pairs_announced_by : Saying → List Pair
+abbrev pub pairs_announced_by : ItemValue → List Pair
 pairs_announced_by (Announced peer network new) = pair_of peer network ∷ []
 pairs_announced_by other = []
 

@@ -26,8 +26,8 @@ abbrev pub ahead_of : Timeline → ℕ
 ahead_of t = end_of t - t.cursor
 
 -- how many steps can be undone: those before the cursor that aren't forgotten
-abbrev pub behind : Timeline → ℕ
-behind t = t.cursor - t.floor
+abbrev pub undoable : Timeline → ℕ
+undoable t = t.cursor - t.floor
 
 -- the table at a position from the floor to the end; the empty table, or that at the floor, at others
 abbrev pub table_at : Timeline → ℕ → Routes
@@ -39,8 +39,8 @@ current t = table_at t t.cursor
 
 -- the keys of a player's table: the pairs that have a route at the cursor, or that a kept step names, before
 -- or after the cursor
-unfoldable pub wanted : Timeline → Pairs
-wanted t = set.from_list (finite.keys (current t) ++ flat_map set.items t.steps)
+unfoldable pub needed_keys : Timeline → Pairs
+needed_keys t = set.from_list (finite.keys (current t) ++ flat_map set.items t.steps)
 
 -- the cursor is between the floor and the end, and there is a table at each position from the floor to the
 -- end
@@ -61,8 +61,8 @@ abbrev pub after_play : Timeline → Event → Timeline
 after_play t event = record {
   floor = t.floor;
   cursor = t.cursor + 1;
-  tables = take (behind t + 1) t.tables ++ table_after (current t) event ∷ [];
-  steps = take (behind t) t.steps ++ named_pairs (current t) event ∷ [];
+  tables = take (undoable t + 1) t.tables ++ table_after (current t) event ∷ [];
+  steps = take (undoable t) t.steps ++ named_pairs (current t) event ∷ [];
 }
 
 -- a player after `undo`: the cursor is one position lower, unless it is at the floor
@@ -75,7 +75,7 @@ after_redo t = if nat_lt t.cursor (end_of t) then record t { cursor = t.cursor +
 
 -- how many steps `forget` forgets, so that at most `keep` are left before the cursor
 abbrev pub forgettable : Timeline → ℕ → ℕ
-forgettable t keep = behind t - keep
+forgettable t keep = undoable t - keep
 
 -- a player whose first `count` kept steps are forgotten: the floor is higher by so much, and the tables
 -- before it are gone

@@ -21,26 +21,26 @@ ghost use Rattle.mrt_events.specs.declared.event.TheConstants.{ESTABLISHED};
 ghost use Rattle.rib_player.specs.History.{pair_cmp, pair_of, effect, route_after, route};
 ghost use Rattle.rib_player.specs.Tables.{Routes, table, table_after, is_named, named_pairs, peer_routes, routed_peers};
 ghost use Rattle.rib_player.specs.Lookups.{routed_above};
-ghost use Rattle.rib_player.specs.Timeline.{Timeline, end_of, table_at, current, after_play, forgettable, after_forget, fresh, after_undo, after_redo, without_first, wanted, IsWellFormed};
-ghost use Rattle.rib_player.specs.Calls.{Call, StandsFor, names_at, undone, redone, after_call, after_calls, history_after, history_after_calls};
+ghost use Rattle.rib_player.specs.Timeline.{Timeline, end_of, table_at, current, after_play, forgettable, after_forget, fresh, after_undo, after_redo, without_first, needed_keys, IsWellFormed};
+ghost use Rattle.rib_player.specs.Calls.{Call, StandsFor, named_pairs_at, play_undo_calls, play_undo_redo_calls, after_call, after_calls, history_after, history_after_calls};
 ghost use Rattle.rib_player.specs.Claims.{one_if, claims, first_clears, last_brings, event_brings, without_last};
 
 /// States the number of the session state Established, which the definitions name: 6 (RFC 6396,
 /// section 4.4.1).
-pub fn state_numbers()
+pub fn law_state_numbers()
     ensures established { ESTABLISHED ≡ 6 }
 {}
 
 /// States that the order of pairs of peer and prefix is total, and that only equal pairs compare
 /// equal.
-pub fn pair_order()
+pub fn law_pair_order()
     ensures total { IsTotalOrder pair_cmp }
     ensures ties { IsAntisymmetric pair_cmp }
 {}
 
 /// States which route the table of a history of events has at each pair, which one the table after
 /// an event has, and which pairs an event names.
-pub fn routes_at_pairs()
+pub fn law_routes_at_pairs()
     ensures table { (history : List Event) (pair : Pair) →
         finite.get (table history) pair ≡ route pair history }
     ensures table_after { (routes : Routes) (event : Event) (pair : Pair) →
@@ -53,7 +53,7 @@ pub fn routes_at_pairs()
 
 /// States that the routes of a peer are those at its pairs, and that the list of the peers that
 /// have a route has each of them once, in order.
-pub fn routes_of_peers()
+pub fn law_routes_of_peers()
     ensures routes { (routes : Routes) (peer : Peer) (prefix : Network) →
         finite.get (peer_routes routes peer) prefix ≡ finite.get routes (pair_of peer prefix) }
     ensures peers { (routes : Routes) (peer : Peer) →
@@ -65,7 +65,7 @@ pub fn routes_of_peers()
 /// States that a walk by [`Table::peer_after`](crate::Table::peer_after), from the least peer that
 /// has a route to the next greater one and so on, meets each peer that has a route, in order, and
 /// then ends.
-pub fn walk_over_peers()
+pub fn law_walk_over_peers()
     ensures all { (routes : Routes) →
         routed_above routes None ≡ routed_peers routes }
     ensures next { (routes : Routes) (low : Option Peer) (p : Peer)
@@ -78,8 +78,8 @@ pub fn walk_over_peers()
 
 /// States which pairs are keys of a player's table: those that have a route at the cursor, and
 /// those that a kept step names, before or after the cursor.
-pub fn wanted_pairs()
-    ensures { (t : Timeline) (pair : Pair) → set.contains (wanted t) pair
+pub fn law_needed_keys()
+    ensures { (t : Timeline) (pair : Pair) → set.contains (needed_keys t) pair
         ≡ (is_some (finite.get (current t) pair)
         || list_any (λ step. set.contains step pair) t.steps) }
 {}
@@ -88,9 +88,9 @@ pub fn wanted_pairs()
 /// claims change: forgetting the first step takes one from each pair that the step clears, dropping
 /// the last step takes one from each pair that it brings (that has no route before it and one after
 /// it), and playing an event adds one to each pair that the event brings.
-pub fn claimed_pairs()
-    ensures wanted { (t : Timeline) (history : List Event) (pair : Pair) → StandsFor t history →
-        set.contains (wanted t) pair ≡ nat_lt 0 (claims t pair) }
+pub fn law_claimed_pairs()
+    ensures needed_keys { (t : Timeline) (history : List Event) (pair : Pair) → StandsFor t history →
+        set.contains (needed_keys t) pair ≡ nat_lt 0 (claims t pair) }
     ensures forgotten { (t : Timeline) (pair : Pair) → IsWellFormed t → 0 < length t.steps →
         claims t pair ≡ claims (without_first 1 t) pair
         + one_if (first_clears t pair) }
@@ -103,7 +103,7 @@ pub fn claimed_pairs()
 {}
 
 /// States that the table of a history with one more event is the history's table after that event.
-pub fn one_event_more()
+pub fn law_one_event_more()
     ensures { (history : List Event) (event : Event) →
         table (history ++ event ∷ []) ≡ table_after (table history) event }
 {}
@@ -112,12 +112,12 @@ pub fn one_event_more()
 /// table is that of the events before the position; each kept step names the pairs of its event;
 /// the last position is the history's length; and at the cursor, each pair has the route that the
 /// events before it leave there.
-pub fn tables_by_position()
+pub fn law_tables_by_position()
     ensures tables { (t : Timeline) (history : List Event) → StandsFor t history →
         (i : ℕ) → t.floor ≤ i → i ≤ length history → table_at t i ≡ table (take i history) }
     ensures steps { (t : Timeline) (history : List Event) → StandsFor t history →
         (i : ℕ) → t.floor ≤ i →
-        slice_get t.steps (i - t.floor) ≡ names_at history i }
+        slice_get t.steps (i - t.floor) ≡ named_pairs_at history i }
     ensures end { (t : Timeline) (history : List Event) → StandsFor t history →
         end_of t ≡ length history }
     ensures routes { (t : Timeline) (history : List Event) → StandsFor t history →
@@ -125,14 +125,14 @@ pub fn tables_by_position()
 {}
 
 /// States which history a player stands for after a call, given the one before it.
-pub fn history_after_one_call()
+pub fn law_history_after_one_call()
     ensures { (t : Timeline) (history : List Event) (call : Call) → StandsFor t history →
         StandsFor (after_call t call) (history_after t.cursor history call) }
 {}
 
 /// States which history a player stands for after a list of calls, failed ones among them: a new
 /// player, and one that stood for a history before.
-pub fn history_after_all_calls()
+pub fn law_history_after_all_calls()
     ensures new { (calls : List Call) →
         StandsFor (after_calls fresh calls) (history_after_calls fresh [] calls) }
     ensures any { (t : Timeline) (history : List Event) (calls : List Call) → StandsFor t history →
@@ -141,7 +141,7 @@ pub fn history_after_all_calls()
 
 /// States that undoing a step just played restores the table before it, and that redoing a step
 /// just undone restores the player.
-pub fn one_step_back()
+pub fn law_one_step_back()
     ensures undo { (t : Timeline) (history : List Event) (event : Event) → StandsFor t history →
         current (after_undo (after_play t event)) ≡ current t }
     ensures redo { (t : Timeline) (history : List Event) → StandsFor t history →
@@ -151,7 +151,7 @@ pub fn one_step_back()
 /// States that forgetting keeps the table at the cursor and at each position that is left, that it
 /// changes nothing if no step is to be forgotten, and that forgetting twice is forgetting once with
 /// the smaller number of steps to keep.
-pub fn forgotten_steps()
+pub fn law_forgotten_steps()
     ensures tables { (t : Timeline) (keep : ℕ) → (i : ℕ) → (after_forget t keep).floor ≤ i →
         table_at (after_forget t keep) i ≡ table_at t i }
     ensures current { (t : Timeline) (keep : ℕ) → t.floor ≤ t.cursor →
@@ -163,9 +163,9 @@ pub fn forgotten_steps()
 
 /// States that playing a list of events and undoing all of them restores the table, and that
 /// redoing them then gives the table of the history with these events.
-pub fn steps_back_and_forth()
+pub fn law_steps_back_and_forth()
     ensures back { (t : Timeline) (history events : List Event) → StandsFor t history →
-        current (after_calls t (undone events)) ≡ current t }
+        current (after_calls t (play_undo_calls events)) ≡ current t }
     ensures forth { (t : Timeline) (history events : List Event) → StandsFor t history →
-        current (after_calls t (redone events)) ≡ table (take t.cursor history ++ events) }
+        current (after_calls t (play_undo_redo_calls events)) ≡ table (take t.cursor history ++ events) }
 {}

@@ -5,26 +5,27 @@
 #![tactic(auto)]
 
 mod changes;
-mod chosen;
 mod claims;
 mod entry;
-mod few_counts;
 mod journal;
+mod key_counts;
 mod laws;
 mod numbered_peer;
 mod pair;
 mod player;
-mod reaching;
-mod room;
-mod row_marks;
+mod prefetching;
+mod seen_numbers;
+mod spare_capacity;
+mod sparse_set;
 mod steps;
 mod stores;
 mod table;
 
 pub use laws::{
-    claimed_pairs, forgotten_steps, history_after_all_calls, history_after_one_call,
-    one_event_more, one_step_back, pair_order, routes_at_pairs, routes_of_peers, state_numbers,
-    steps_back_and_forth, tables_by_position, walk_over_peers, wanted_pairs,
+    law_claimed_pairs, law_forgotten_steps, law_history_after_all_calls,
+    law_history_after_one_call, law_needed_keys, law_one_event_more, law_one_step_back,
+    law_pair_order, law_routes_at_pairs, law_routes_of_peers, law_state_numbers,
+    law_steps_back_and_forth, law_tables_by_position, law_walk_over_peers,
 };
 pub use player::{Nothing, PlayFault, Player};
 pub use table::Table;

@@ -4,18 +4,20 @@
 
 ghost use Rattle.std.specs.Prelude.{◌≡◌, ◌<◌, ◌↔◌, IfOk, OnOk, OnErr, IsOk, sum_by};
 ghost use Rattle.std.specs.FinSet as set;
-ghost use Rattle.prefix_store.specs.Stored.{counted};
+ghost use Rattle.prefix_store.specs.Stored.{saturated_count};
 ghost use Rattle.prefix_store.specs.declared.store.TheConstants.{GREATEST_COUNT};
-ghost use Rattle.rib_player.specs.Timeline.{ahead_of, end_of, current, after_play, fresh, after_undo, after_redo, without_first, forgettable, after_forget, wanted, IsWellFormed};
+ghost use Rattle.rib_player.specs.Timeline.{ahead_of, end_of, current, after_play, fresh, after_undo, after_redo, without_first, forgettable, after_forget, needed_keys, IsWellFormed};
 
-use crate::claims::{Claims, give_up_claims};
-use crate::entry::{End, Step};
-use crate::journal::{Journal, cross_step, drop_ahead, let_go_of, make_room, put_entries};
-use crate::reaching::{Reached, STEPS_TOGETHER};
-use crate::row_marks::Marks;
-use crate::steps::step_for;
+use crate::claims::{Claims, release_claims};
+use crate::entry::{JournalEnd, Step};
+use crate::journal::{
+    Journal, apply_entries, apply_or_undo_step, drop_step, drop_steps_ahead, reserve_step,
+};
+use crate::prefetching::{Prefetched, STEPS_TOGETHER};
+use crate::seen_numbers::SeenNumbers;
+use crate::steps::entries_for_event;
 use crate::table::Table;
-use known_routes::KnownRoutes;
+use known_routes::RouteInterner;
 use mrt_events::{Event, Route};
 use prefix_store::PrefixStore;
 use std::alloc::{AllocError, Global};
@@ -51,12 +53,12 @@ pub struct Player<S: PrefixStore<Rc<Route>>> {
     /// The claims of pairs beyond the first, for which the pair's key stands (`claims.rt`).
     claims: Claims,
     /// The routes that were played, so that equal routes share memory.
-    known: KnownRoutes,
+    known: RouteInterner,
     /// The numbers of the peers seen in the event that is being played. Kept so that its memory is
     /// used again.
-    marks: Marks,
+    marks: SeenNumbers,
     /// The groups of steps whose nodes were prefetched last.
-    reached: Reached,
+    prefetched: Prefetched,
 }
 
 impl<S: PrefixStore<Rc<Route>>> Model for Player<S> {
@@ -70,14 +72,14 @@ impl<S: PrefixStore<Rc<Route>>> Model for Player<S> {
     ghost use Rattle.std.specs.Prelude.{◌+◌, ◌≤◌, length};
     ghost use Rattle.prefix_store.specs.declared.store.TheConstants.{GREATEST_COUNT};
     ghost use Rattle.rib_player.specs.Journal.{timeline_of, steps_of};
-    ghost use Rattle.rib_player.specs.Calls.{IsPlayed};
+    ghost use Rattle.rib_player.specs.Calls.{IsConsistentJournal};
 
     ghost view = { λ a. timeline_of a.journal.floor a.journal.cursor
         (steps_of a.journal.steps.items) a.table.routes };
 
     ghost invariant = { λ a. record {
-      played : IsPlayed a.table (claims_beyond a.claims) a.journal.cursor a.journal.steps.items;
-      counted : a.journal.floor + length a.journal.steps.items ≤ GREATEST_COUNT;
+      played : IsConsistentJournal a.table (claims_beyond a.claims) a.journal.cursor a.journal.steps.items;
+      saturated_count : a.journal.floor + length a.journal.steps.items ≤ GREATEST_COUNT;
     } };
 }
 
@@ -95,9 +97,9 @@ impl<S: PrefixStore<Rc<Route>>> Player<S> {
                 floor: 0,
             },
             claims: Claims::new(alloc),
-            known: KnownRoutes::new(alloc),
-            marks: Marks::new(alloc),
-            reached: Reached {
+            known: RouteInterner::new(alloc),
+            marks: SeenNumbers::new(alloc),
+            prefetched: Prefetched {
                 last: usize::MAX,
                 before: usize::MAX,
             },
@@ -132,7 +134,7 @@ impl<S: PrefixStore<Rc<Route>>> Player<S> {
     /// or after it; a pair counts once for each such step. Takes time linear in the number of
     /// steps.
     pub fn named(&self) -> u64
-        ensures { result ≡ counted (sum_by set.len self.now.steps) }
+        ensures { result ≡ saturated_count (sum_by set.len self.now.steps) }
     {
         let steps = &self.journal.steps;
         let mut total = 0u64;
@@ -144,7 +146,7 @@ impl<S: PrefixStore<Rc<Route>>> Player<S> {
 
     /// Returns the table after the steps before the cursor.
     pub fn table(&self) -> &Table<S>
-        ensures keys { result.now.keys ≡ wanted self.now }
+        ensures keys { result.now.keys ≡ needed_keys self.now }
         ensures routes { result.now.routes ≡ current self.now }
     {
         &self.table
@@ -159,11 +161,11 @@ impl<S: PrefixStore<Rc<Route>>> Player<S> {
         ensures dropped { IfOk result (λ dropped. dropped ≡ ahead_of self.old) }
         ensures refused { OnErr result (self.new ≡ self.old) }
     {
-        self.known.begin();
-        self.table.give_back_room();
+        self.known.begin_play();
+        self.table.shrink_if_sparse();
         let played = self.play_step(event);
         if played.is_err() {
-            self.known.note_unused();
+            self.known.release_added();
         }
         played
     }
@@ -179,10 +181,10 @@ impl<S: PrefixStore<Rc<Route>>> Player<S> {
             return Err(Nothing);
         }
         self.journal.cursor -= 1;
-        cross_step(
+        apply_or_undo_step(
             &mut self.table,
             &mut self.journal.steps,
-            &mut self.reached,
+            &mut self.prefetched,
             self.journal.cursor,
             STEPS_TOGETHER - 1,
         );
@@ -198,10 +200,10 @@ impl<S: PrefixStore<Rc<Route>>> Player<S> {
         if self.journal.cursor == self.journal.steps.len() {
             return Err(Nothing);
         }
-        cross_step(
+        apply_or_undo_step(
             &mut self.table,
             &mut self.journal.steps,
-            &mut self.reached,
+            &mut self.prefetched,
             self.journal.cursor,
             0,
         );
@@ -213,31 +215,31 @@ impl<S: PrefixStore<Rc<Route>>> Player<S> {
 impl<S: PrefixStore<Rc<Route>>> Player<S> {
     /// Plays `event` as the next step, and returns the number of steps dropped. [`Player::play`]
     /// calls it after freeing spare memory. On an error, the player is unchanged, and the caller
-    /// has to call [`KnownRoutes::note_unused`].
+    /// has to call [`RouteInterner::release_added`].
     fn play_step(&mut self, event: &Event) -> Result<u64, PlayFault>
         requires { self.old.cursor < GREATEST_COUNT }
         ensures after_play { OnOk result (self.new ≡ after_play self.old event.now) }
         ensures dropped { IfOk result (λ dropped. dropped ≡ ahead_of self.old) }
         ensures refused { OnErr result (self.new ≡ self.old) }
     {
-        let (mut entries, lost) = step_for(
+        let (mut entries, lost) = entries_for_event(
             self.alloc,
             event,
             &self.table,
             &mut self.known,
             &mut self.marks,
         )?;
-        make_room(&mut self.journal.steps)?;
+        reserve_step(&mut self.journal.steps)?;
         let cursor = self.journal.cursor;
         let dropped = self.journal.steps.len() - cursor;
-        put_entries(
+        apply_entries(
             self.alloc,
             &mut self.table,
             &mut self.claims,
             lost.as_ref(),
             entries.as_mut_slice(),
         )?;
-        drop_ahead(
+        drop_steps_ahead(
             &mut self.journal.steps,
             cursor,
             &mut self.table,
@@ -251,25 +253,30 @@ impl<S: PrefixStore<Rc<Route>>> Player<S> {
 
     /// Forgets the oldest step that isn't forgotten yet, which must be before the cursor. The
     /// routes and the position stay.
-    fn forget_first(&mut self)
+    fn forget_oldest(&mut self)
         requires { self.old.floor < self.old.cursor }
         ensures { self.new ≡ without_first 1 self.old }
     {
         if let Some(step) = self.journal.steps.pop_front() {
-            give_up_claims(&mut self.table, &mut self.claims, &step.entries, End::First);
+            release_claims(
+                &mut self.table,
+                &mut self.claims,
+                &step.entries,
+                JournalEnd::First,
+            );
             self.journal.cursor -= 1;
             self.journal.floor += 1;
-            let_go_of(&mut self.known, step);
+            drop_step(&mut self.known, step);
         }
     }
 
     /// Drops the routes that are kept only to be shared with equal ones, if they take much memory.
     /// Call it after the event of a [`play`](Player::play) was dropped; without it these routes
     /// stay until the next play or [`forget`](Player::forget).
-    pub fn give_back_routes(&mut self)
+    pub fn drop_unused_routes(&mut self)
         ensures { self.new ≡ self.old }
     {
-        self.known.let_go();
+        self.known.sweep_if_due();
     }
 
     /// Forgets the oldest steps, so that at most `keep` are left before the cursor, and returns how
@@ -281,9 +288,9 @@ impl<S: PrefixStore<Rc<Route>>> Player<S> {
     {
         let count = (self.journal.cursor as u64).saturating_sub(keep);
         'steps: for _ in 0..count {
-            self.forget_first();
+            self.forget_oldest();
         }
-        self.known.let_go();
+        self.known.sweep_if_due();
         count
     }
 }

@@ -10,11 +10,11 @@ ghost use Rattle.rib_player.specs.declared.pair.Pair.{Pair};
 ghost use Rattle.mrt_events.specs.declared.peer.Peer.{Peer};
 ghost use Rattle.mrt_events.specs.Event.{peer_cmp};
 ghost use Rattle.rib_player.specs.History.{pair_of};
-ghost use Rattle.prefix_store.specs.Stored.{put, counted};
+ghost use Rattle.prefix_store.specs.Stored.{put, saturated_count};
 ghost use Rattle.rib_player.specs.Tables.{route_in, peer_routes};
 ghost use Rattle.rib_player.specs.StoresByPeer.{stores_of};
 ghost use Rattle.rib_player.specs.Lookups.{IsBest, counted_peers, pointed_routes, routes_above, routed_above, value_of};
-ghost use Rattle.rib_player.specs.Kept.{routed_stores, peer_count};
+ghost use Rattle.rib_player.specs.Representation.{routed_stores, peer_count};
 
 use crate::numbered_peer::NO_NUMBER;
 use crate::pair::Pair;
@@ -46,14 +46,14 @@ pub struct Table<S: PrefixStore<Rc<Route>>> {
     pub(crate) stores: Stores<S>,
     /// The number of nodes visited by prefetches, modulo 2^64. Nobody reads it; without it a
     /// compiler would remove the prefetches.
-    passed: u64,
+    visited: u64,
 }
 
 impl<S: PrefixStore<Rc<Route>>> Model for Table<S> {
     ghost use Rattle.rib_player.specs.Tables.{Contents, keys_in, routes_in};
     ghost use Rattle.rib_player.specs.StoresByPeer.{stores_in};
     ghost use Rattle.rib_player.specs.Noted.{routed_in};
-    ghost use Rattle.rib_player.specs.Kept.{coded_contents, IsHeldWhole};
+    ghost use Rattle.rib_player.specs.Representation.{coded_contents, AreConsistentStores};
 
     ghost Value = { Contents };
 
@@ -64,7 +64,7 @@ impl<S: PrefixStore<Rc<Route>>> Model for Table<S> {
       routes = routes_in S.routes (stores_in a.stores);
     } };
 
-    ghost invariant = { λ a. IsHeldWhole S.keys S.routes (stores_in a.stores) (routed_in a.stores) };
+    ghost invariant = { λ a. AreConsistentStores S.keys S.routes (stores_in a.stores) (routed_in a.stores) };
 }
 
 impl<S: PrefixStore<Rc<Route>>> Table<S> {
@@ -75,23 +75,23 @@ impl<S: PrefixStore<Rc<Route>>> Table<S> {
         Table {
             alloc,
             stores: Stores::new(alloc),
-            passed: 0,
+            visited: 0,
         }
     }
 
-    /// Adds `passed` to the number of nodes visited by prefetches.
-    pub(crate) fn note_passed(&mut self, passed: u64)
+    /// Adds `visited` to the number of nodes visited by prefetches.
+    pub(crate) fn add_prefetched_nodes(&mut self, visited: u64)
         ensures { self.new ≡ self.old }
     {
-        self.passed = self.passed.wrapping_add(passed);
+        self.visited = self.visited.wrapping_add(visited);
     }
 
     /// Shrinks the lists of stores if they have far more capacity than stores
     /// (`spare_capacity.rt`).
-    pub(crate) fn give_back_room(&mut self)
+    pub(crate) fn shrink_if_sparse(&mut self)
         ensures { self.new ≡ self.old }
     {
-        self.stores.give_back_room();
+        self.stores.shrink_if_sparse();
     }
 
     /// Swaps the table's route of `pair` and `route`, either of which may be none. The pair must be
@@ -100,7 +100,7 @@ impl<S: PrefixStore<Rc<Route>>> Table<S> {
         requires { set.contains self.old.keys pair.now ≡ true }
         ensures keys { self.new.keys ≡ self.old.keys }
         ensures routes { self.new.routes ≡ put self.old.routes pair.now (route_in route.old) }
-        ensures given { route_in route.new ≡ finite.get self.old.routes pair.now }
+        ensures taken_out { route_in route.new ≡ finite.get self.old.routes pair.now }
     {
         let mut number = number;
         let Some(store) = self.stores.get_mut(&mut number, &pair.peer) else {
@@ -108,7 +108,7 @@ impl<S: PrefixStore<Rc<Route>>> Table<S> {
         };
         store.exchange(&pair.prefix, route);
         let count = store.route_count();
-        self.stores.note_count(number, count);
+        self.stores.update_routed(number, count);
     }
 
     /// Makes `pair` a key, swaps the table's route of it and `route`, either of which may be none,
@@ -124,7 +124,7 @@ impl<S: PrefixStore<Rc<Route>>> Table<S> {
         ensures made { IfOk result (λ made. made ≡ not (set.contains self.old.keys pair.now)) }
         ensures routes { OnOk result
             (self.new.routes ≡ put self.old.routes pair.now (route_in route.old)) }
-        ensures given { OnOk result (route_in route.new ≡ finite.get self.old.routes pair.now) }
+        ensures taken_out { OnOk result (route_in route.new ≡ finite.get self.old.routes pair.now) }
         ensures refused { OnErr result (self.new.keys ≡ self.old.keys) }
         ensures held { OnErr result (self.new.routes ≡ self.old.routes) }
         ensures kept { OnErr result (route.new ≡ route.old) }
@@ -134,7 +134,7 @@ impl<S: PrefixStore<Rc<Route>>> Table<S> {
         if let Some(store) = self.stores.get_mut(&mut number, &pair.peer) {
             let made = store.put(&pair.prefix, route);
             let count = store.route_count();
-            self.stores.note_count(number, count);
+            self.stores.update_routed(number, count);
             return made;
         }
         let mut store = S::new(self.alloc);
@@ -164,7 +164,7 @@ impl<S: PrefixStore<Rc<Route>>> Table<S> {
 
     /// Moves all routes of the peer into `taken`, in the order of their prefixes, in place of its
     /// elements. The keys stay. `taken` must have capacity for all of them.
-    pub(crate) fn take_routes(&mut self, peer: &Peer, taken: &mut Vec<Rc<Route>>)
+    pub(crate) fn drain_routes(&mut self, peer: &Peer, taken: &mut Vec<Rc<Route>>)
         requires { finite.len (peer_routes self.old.routes peer.now) ≤ vec_capacity taken.old }
         ensures keys { self.new.keys ≡ self.old.keys }
         ensures routes { (q : Pair) → finite.get self.new.routes q
@@ -177,8 +177,8 @@ impl<S: PrefixStore<Rc<Route>>> Table<S> {
             taken.clear();
             return;
         };
-        store.take_routes(taken);
-        self.stores.note_routes(number, false);
+        store.drain_routes(taken);
+        self.stores.set_routed(number, false);
     }
 
     /// Returns the route of the peer to exactly this prefix, or `None` if it has none.
@@ -247,7 +247,7 @@ impl<S: PrefixStore<Rc<Route>>> Table<S> {
     /// larger). Returns `None` if there is no such peer.
     pub fn peer_after(&self, peer: Option<&Peer>) -> Option<(Peer, u64)>
         ensures { result ≡
-            option_map (λ p. (p, counted (finite.len (peer_routes self.now.routes p))))
+            option_map (λ p. (p, saturated_count (finite.len (peer_routes self.now.routes p))))
             (slice_get (routed_above self.now.routes (option_copied peer.entry)) 0) }
     {
         let low = match peer {
@@ -281,7 +281,7 @@ impl<S: PrefixStore<Rc<Route>>> Table<S> {
         }
         let mut found = BTreeMap::new(self.alloc);
         'numbers: for number in numbers {
-            if let Some(named) = self.stores.named_at(*number) {
+            if let Some(named) = self.stores.peer_and_store_at(*number) {
                 let count = named.1.route_count();
                 if count > 0 {
                     found.insert(*named.0, count)?;

@@ -27,8 +27,8 @@ AreNodes keys nodes = (n : Network) → set.contains nodes n ≡ is_node keys n
 
 -- the set `nodes` has the keys and the branch points of the keys that contain the address, and
 -- nothing else
-abbrev pub AreNodesTo : Keys → Address → Keys → Type 0
-AreNodesTo keys address nodes = (n : Network) → set.contains nodes n ≡ (is_node keys n && contains n address)
+abbrev pub AreNodesContaining : Keys → Address → Keys → Type 0
+AreNodesContaining keys address nodes = (n : Network) → set.contains nodes n ≡ (is_node keys n && contains n address)
 
 -- the count is equal to the size, or is one more
 abbrev pub IsOrOneMore : ℕ → ℕ → Type 0

@@ -9,9 +9,9 @@ use Rattle.ip_prefix.specs.declared.addr.Family.TheVariants.{V4, V6}
 use Rattle.ip_prefix.specs.Network.{Network, network_cmp}
 use Rattle.prefix_store.specs.declared.packed.V4Prefix.{V4Prefix}
 use Rattle.prefix_store.specs.Contents.{v4_network, v6_network, Contents}
-use Rattle.prefix_store.specs.Stored.{counted}
+use Rattle.prefix_store.specs.Stored.{saturated_count}
 use Rattle.rib_store.specs.declared.tree.Tree.{Tree}
-use Rattle.rib_store.specs.Tree.{Shape, shape_of, IsMarked, slots_of, AreSides, IsShaped}
+use Rattle.rib_store.specs.Tree.{Shape, shape_of, HasCorrectMarks, slots_of, AreSides, IsRadixTree}
 use Rattle.rib_store.specs.Slots.{Slots, slot_at, keys_in, routes_in}
 
 -- the shapes of the trees of both families
@@ -39,10 +39,10 @@ slots_in trees = slots_of trees.v4 ++ slots_of trees.v6
 
 -- both are radix trees, and each has keys of its own family only: all IPv4 prefixes are on the left
 -- and all IPv6 prefixes on the right of the empty way
-pub record IsPlanted {R : Type 0} (trees : Trees R) : Type 0 where
+pub record AreRadixTrees {R : Type 0} (trees : Trees R) : Type 0 where
   pub sides : AreSides [] trees.v4 trees.v6
-  pub v4 : IsShaped trees.v4
-  pub v6 : IsShaped trees.v6
+  pub v4 : IsRadixTree trees.v4
+  pub v6 : IsRadixTree trees.v6
 
 -- the prefix has the slot `slot` in `new`, and every other prefix has the slot that it has in `old`
 abbrev pub ChangesAt : {R : Type 0} → Slots R → Network → Option (Option R) → Slots R → Type 0
@@ -54,9 +54,9 @@ contents_of trees = record { keys = keys_in (slots_in trees); routes = routes_in
 
 -- the invariant of a `RadixStore`: both are radix trees of their families with correct marks, and
 -- the counts are the numbers of their keys and routes, or GREATEST_COUNT if there are more
-pub record IsCounted {R : Type 0} (v4 : Tree V4Prefix R) (v6 : Tree Network R) (key_count route_count : ℕ) : Type 0 where
-  pub planted : IsPlanted (trees_of v4 v6)
-  pub v4_marks : IsMarked v4
-  pub v6_marks : IsMarked v6
-  pub keys : key_count ≡ counted (set.len (contents_of (trees_of v4 v6)).keys)
-  pub routes : route_count ≡ counted (finite.len (contents_of (trees_of v4 v6)).routes)
+pub record IsConsistent {R : Type 0} (v4 : Tree V4Prefix R) (v6 : Tree Network R) (key_count route_count : ℕ) : Type 0 where
+  pub planted : AreRadixTrees (trees_of v4 v6)
+  pub v4_marks : HasCorrectMarks v4
+  pub v6_marks : HasCorrectMarks v6
+  pub keys : key_count ≡ saturated_count (set.len (contents_of (trees_of v4 v6)).keys)
+  pub routes : route_count ≡ saturated_count (finite.len (contents_of (trees_of v4 v6)).routes)

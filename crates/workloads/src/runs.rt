@@ -2,7 +2,7 @@
 
 use bgpdump_tool::{BufferedOutput, Outcome, run_dump, run_play};
 use mrt_wire::{BufferedInput, Route, Stamp};
-use rib_store::{LeftStore, RadixStore};
+use rib_store::{LeakingStore, RadixStore};
 use std::alloc::Global;
 use std::io;
 use std::io::{BufReader, BufWriter};
@@ -13,7 +13,7 @@ use workload_inputs::{Digest, File, Sum};
 const BUFFER: usize = 65_536;
 
 /// The store of the program's player.
-type Routes = LeftStore<RadixStore<Rc<Route>>>;
+type Routes = LeakingStore<RadixStore<Rc<Route>>>;
 
 /// A writer of what a run writes.
 type Writer = BufWriter<Digest>;

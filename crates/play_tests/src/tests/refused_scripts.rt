@@ -62,7 +62,7 @@ impl<S: PrefixStore<Rc<Route>>, const MOST: u64> PrefixStore<Rc<Route>> for Scar
         self.inner.after(prefix)
     }
 
-    fn is_left() -> bool {
+    fn leaks_on_drop() -> bool {
         false
     }
 

@@ -2,7 +2,7 @@ use Rattle.std.proofs.Common.{rules, arith, ap, ◌≡◌, ◌∙◌, ◌<◌, t
 use Rattle.std.proofs.lemmas.Result.{err_from_is_err_and}
 use Rattle.rib_player.specs.Timeline.{end_of}
 use Rattle.bgpdump_lines.specs.declared.outcome.Outcome.TheVariants as outcome
-use Rattle.bgpdump_tool.specs.Carrying.{scene_of}
+use Rattle.bgpdump_tool.specs.Execution.{run_state_from_devices}
 use Rattle.bgpdump_lines.proofs.FlushingLaws.{AreFlushed-phase}
 use Rattle.bgpdump_tool.proofs.StepLaws.{redo_off, after_ok, promised, step_over, step_found, step_bad, step_end, step_stops_reading, step_stops_playing, step_stops_reporting, step_stops_waiting}
 use Rattle.bgpdump_tool.proofs.session.Session.step.Goals as goal
@@ -44,7 +44,7 @@ returns-in_ok-map_err-in-Event-clause-steps g c = λ from left s stands.
     let off : ¬ (c.args.self.now.player.cursor < end_of c.args.self.now.player) = search rules in
     let told = promised g.I.Input.left _ c.next.new.self c.args.input.now c.next.new.input _ _ c.in-Event.is c.in_ok-event.ensures.next c.in_ok-event.ensures.ended in
     let played : is_ok c.play.result ≡ true = search rules in
-    rw (c.take_back.ensures, c.give_back_routes.ensures) (step_found from left _ s c.redo.new.self c.play.new.self c.next.new.self (g.I.Input.left c.next.new.input) (g.E.Output.written c.flush_before_record.new.err) c.in-Event.event stands c.flush_before_record.ensures.err c.redo.ensures.after_redo off (after_ok c.play.result played c.play.ensures.after_play) told c.next.ensures.within)
+    rw (c.recycle.ensures, c.drop_unused_routes.ensures) (step_found from left _ s c.redo.new.self c.play.new.self c.next.new.self (g.I.Input.left c.next.new.input) (g.E.Output.written c.flush_before_record.new.err) c.in-Event.event stands c.flush_before_record.ensures.err c.redo.ensures.after_redo off (after_ok c.play.result played c.play.ensures.after_play) told c.next.ensures.within)
 
 pub returns-in_ok-write_report-in-Bad-clause-steps :
     goal.returns-in_ok-write_report-in-Bad-clause-steps
@@ -63,7 +63,7 @@ pub returns-in_err-flush_before_record-clause-steps : goal.returns-in_err-flush_
 returns-in_err-flush_before_record-clause-steps g c = λ from left s stands.
     let off : ¬ (c.args.self.now.player.cursor < end_of c.args.self.now.player) = search rules in
     let p = err_from_is_err_and c.from_residual.result c.from_residual.ensures.1 in
-    rw (p.1, p.2) (step_stops_waiting from left (scene_of g.I.Input.left g.E.Output.written c.args.self.now c.args.input.now c.args.err.now) s c.redo.new.self (g.E.Output.written c.flush_before_record.new.err) stands off c.flush_before_record.ensures.err)
+    rw (p.1, p.2) (step_stops_waiting from left (run_state_from_devices g.I.Input.left g.E.Output.written c.args.self.now c.args.input.now c.args.err.now) s c.redo.new.self (g.E.Output.written c.flush_before_record.new.err) stands off c.flush_before_record.ensures.err)
 
 pub returns-in_err-event-clause-flushed : goal.returns-in_err-event-clause-flushed
 returns-in_err-event-clause-flushed g c = λ failed.
