@@ -13,13 +13,10 @@ from pathlib import Path
 
 TOP = Path(__file__).resolve().parent.parent
 NOTED = {
-    'functions whose name begins with no verb of docs/architecture.md': 541,
     # A whole run of a script, one of its lines, two for a line of a table, and the lines of one route.
     'functions of more than five parameters': 5,
-    # Of write_behind.
-    'clauses of more than 160 characters': 1,
-    # write.rt of bgpdump_lines.
-    'files of more than 320 lines': 1,
+    'clauses of more than 200 characters': 1,
+    'files of more than 400 lines': 0,
 }
 # Programs and libraries that only check or measure.
 CHECKS = ('row_parts', 'row_stores', 'row_values', 'rows', 'store_bench', 'test_devices', 'workload_inputs',
@@ -68,27 +65,21 @@ def functions():
             yield file, it[1], parts_behind(text, start)[0]
 
 
-def functions_without_a_verb():
-    table = (TOP / 'docs/architecture.md').read_text().partition('## What names begin with')[2]
-    verbs = tuple(re.findall(r'`(\w+_)`', table))
-    return [f'{file}: {name}' for file, name, _ in functions() if not name.startswith(verbs)]
-
-
 def functions_of_many_parameters():
     return [f'{file}: {name}' for file, name, count in functions() if count > 5]
 
 
 def long_clauses():
     return [f'{file}: {clause[:60].strip()}' for file, text in texts()
-            for clause in (' '.join(it.split()) for it in CLAUSE.findall(text)) if len(clause) > 160]
+            for clause in (' '.join(it.split()) for it in CLAUSE.findall(text)) if len(clause) > 200]
 
 
 def long_files():
-    return [f'{file}: {text.count(chr(10))} lines' for file, text in texts() if text.count('\n') > 320]
+    return [f'{file}: {text.count(chr(10))} lines' for file, text in texts() if text.count('\n') > 400]
 
 
 def main():
-    found = zip(NOTED, (functions_without_a_verb(), functions_of_many_parameters(), long_clauses(), long_files()))
+    found = zip(NOTED, (functions_of_many_parameters(), long_clauses(), long_files()))
     differs = False
     for what, places in found:
         if '--list' in sys.argv:
