@@ -1,5 +1,5 @@
 -- Private.
--- How the memory of tables and entries stands for what contracts see of them.
+-- What contracts see of tables and entries, given how they are in memory.
 use Rattle.std.specs.Prelude.{◌≡◌, ℕ, Bool, ◌<◌, nat_lt, List, option_map, filter, Option, IfSome, if◌then◌else◌, refl, true, false, [], ◌∷◌, Some, None}
 use Rattle.std.specs.Map.{lookup}
 use Rattle.std.specs.Ordering.{eq_by_cmp}
@@ -83,7 +83,7 @@ cleared_entries entries routes = entries
 abbrev pub entry_of : Pair → Marks → Option (Rc Route Global) → Entry
 entry_of pair marks other = record { pair = pair; other = other; before = marks.before; behind = marks.behind }
 
--- the entry that its memory stands for; for memory without contents, an arbitrary entry
+-- an entry as contracts see it, given how it is in memory; an arbitrary one for memory without contents
 abbrev pub entry_kept : Kept → Entry
 entry_kept (V4Absent marks prefix peer) = entry_of (pair_of peer.value (v4_network prefix)) marks None
 entry_kept (V4Present marks prefix peer route) = entry_of (pair_of peer.value (v4_network prefix)) marks (Some route)
