@@ -109,12 +109,12 @@ count_of counts n = by_family n.family (count_at nat_cmp counts.v4 (v4_prefix_nu
 abbrev pub count_of_peer : Option (Box PeerClaims Global) → Network → ℕ
 count_of_peer counts prefix = option_map_or (λ counts. count_of counts.value prefix) counts 0
 
--- how many claims of a pair are counted beyond the first, for which the key stands
+-- how many claims of a pair are counted beyond the first, which is its key
 abbrev pub claims_beyond : Claims → Pair → ℕ
 claims_beyond claims pair = count_of_peer (tree.get peer_cmp claims.peers pair.peer) pair.prefix
 
--- how many claims of a pair are held, given the keys and the number beyond them: one for the key, and those
--- beyond it
+-- how many claims of a pair are held, given the keys and the number beyond the first: one if the pair is a
+-- key, and those beyond
 abbrev pub held_claims : Pairs → (Pair → ℕ) → Pair → ℕ
 held_claims keys beyond pair = one_if (set.contains keys pair) + beyond pair
 

@@ -1,5 +1,5 @@
 -- Private.
--- How the memory of tables and entries stands for what contracts see of them.
+-- What contracts see of tables and entries, given how they are in memory.
 use Rattle.std.specs.Prelude.{◌≡◌, ℕ, Bool, ◌<◌, nat_lt, List, option_map, filter, Option, IfSome, if◌then◌else◌, refl, true, false, [], ◌∷◌, Some, None}
 use Rattle.std.specs.Map.{lookup}
 use Rattle.std.specs.Ordering.{eq_by_cmp}

@@ -1,7 +1,7 @@
 //! The claims of pairs of a peer and a prefix, which tell how long a pair stays a key of the table:
 //! as long as it has a claim. A pair has one claim if it has a route at the floor, before all kept
 //! steps, and one for each kept step before which it has no route and after which it has one. The
-//! key stands for the first claim; the others are counted here. `journal.rt` calls [`apply_entry`]
+//! first claim is the key itself; the others are counted here. `journal.rt` calls [`apply_entry`]
 //! and [`release_claims`].
 
 ghost use Rattle.std.specs.Prelude.{◌≡◌, ◌+◌, ◌<◌, ◌≤◌, ◌||◌, ◌&&◌, true, false, is_some, length, nat_lt, [], ◌∷◌, None, OnOk, OnErr};
@@ -34,8 +34,8 @@ use std::collections::BTreeMap;
 use std::mem::size_of;
 use std::rc::Rc;
 
-/// The number of claims of each pair beyond the first, for which the key stands. Only pairs that
-/// were withdrawn and announced again in the kept steps have any.
+/// The number of claims of each pair beyond the first, which is its key in the table. Only pairs
+/// that were withdrawn and announced again in the kept steps have any.
 #[derive(Drop)]
 pub(crate) struct Claims {
     // The counts of a peer are boxed, so that free slots of the map take little memory.

@@ -108,7 +108,7 @@ pub fn law_one_event_more()
         table (history ++ event ∷ []) ≡ table_after (table history) event }
 {}
 
-/// States what it means that a player stands for a history of events: at each kept position, its
+/// States what holds of a player that stands for a history of events: at each kept position, its
 /// table is that of the events before the position; each kept step names the pairs of its event;
 /// the last position is the history's length; and at the cursor, each pair has the route that the
 /// events before it leave there.

@@ -50,7 +50,7 @@ pub struct Player<S: PrefixStore<Rc<Route>>> {
     table: Table<S>,
     /// The steps that aren't forgotten, and the cursor.
     journal: Journal,
-    /// The claims of pairs beyond the first, for which the pair's key stands (`claims.rt`).
+    /// The claims of pairs beyond the first, which is the pair's key in the table (`claims.rt`).
     claims: Claims,
     /// The routes that were played, so that equal routes share memory.
     known: RouteInterner,
