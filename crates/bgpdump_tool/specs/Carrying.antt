@@ -203,7 +203,7 @@ CarriesOut command old new out out' result =
 -- ---- what a run of a script has executed so far, and where it stopped
 
 -- What executing a line from `s` does, by its result: nothing if it is empty, what its command does, or a
--- report if it is no command. `number` is that of the line.
+-- report if it is no command. `number` counts the line from 1.
 abbrev pub LineDoes : Line → ℕ → Place → Option (List ℕ) → Standing → Scene → Scene → Option (List ℕ) → Option (List ℕ) → Result (Unit {0}) Outcome → Type 0
 LineDoes Empty number from left s old new out out' result = (result ≡ Ok tt) × (new ≡ old) × (out' ≡ out)
 LineDoes (Asks command) number from left s old new out out' result = CarryingDoes command from left s old new out out' result
@@ -212,8 +212,8 @@ LineDoes NoCommand number from left s old new out out' (Ok done) =
 LineDoes NoCommand number from left s old new out out' (Err outcome) =
     (new ≡ record old { reported = true; err = new.err }) × (out' ≡ out) × ((fault : WriteFault) × (outcome ≡ write_outcome fault) × AppendsFront old.err new.err (line_report number))
 
--- What executing a line with these octets does, however far the run has come before it. `number` is that of
--- the line.
+-- What executing a line with these octets does, however far the run has come before it. `number` counts the
+-- line from 1.
 abbrev pub CarriesLine : List ℕ → ℕ → Scene → Scene → Option (List ℕ) → Option (List ℕ) → Result (Unit {0}) Outcome → Type 0
 CarriesLine octets number old new out out' result = (line : Line) × IsLine line octets
     × ((from : Place) (left : Option (List ℕ)) (s : Standing) → Stands from left old s → LineDoes line number from left s old new out out' result)
