@@ -89,9 +89,9 @@ TookInputLimit left left' = (taken after : List ℕ) → TakesFront left left' t
 
 -- ---- how the program ends: its exit status, and its last message
 
--- The exit status of the program: 0 for help, 2 for other usage faults, 3 if a file isn't opened, that of
--- ReadFault if instructions can't be read, that of Memory if memory allocation failed, and otherwise that of
--- the run's outcome.
+-- The exit status of the program: 0 for help, 2 for other usage faults, 3 if a file isn't opened, and
+-- otherwise the status of an outcome: ReadFault if instructions can't be read, Memory if memory allocation
+-- failed, or the outcome of the run.
 abbrev pub ending_status : Ending → ℕ
 ending_status (Usage (usage.Help text)) = 0
 ending_status (Usage usage.Memory) = exit_status Memory

@@ -6,10 +6,10 @@ use bgpdump_tool::read_command;
 use ip_prefix::{Addr, Prefix, SPACE};
 use std::fmt;
 
-/// The largest number of bad lines that get a hint.
+/// The number of bad lines that get a hint, from the first one on.
 const MOST_HINTS: usize = 5;
 
-/// The largest number of octets of a line or a word that a hint shows.
+/// The number of octets of a line or a word that a hint shows, from the first one on.
 const SHOWN: usize = 60;
 
 /// The kind of an argument of a command.

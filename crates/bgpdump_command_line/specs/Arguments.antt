@@ -13,11 +13,11 @@ use Rattle.bgpdump_command_line.specs.declared.usage.UsageFault.{UsageFault}
 use Rattle.bgpdump_command_line.specs.declared.usage.UsageFault.TheVariants as usage
 use Rattle.bgpdump_command_line.specs.CommandLine.{times_rule, command_line, TakesTimes, has_one_mode, IsMode}
 
--- The rule is that of the argument `-t`, which takes the values `dump` and `change`.
+-- The rule of the argument `-t`, with a parser that takes the values `dump` and `change`.
 abbrev pub IsTimesRule : Rule → Type 0
 IsTimesRule rule = (times : ValueParser) × TakesTimes times × (rule ≡ times_rule times)
 
--- The command is that of the program, whose argument `-t` takes the values `dump` and `change`.
+-- The command of the program, with a parser of the value of `-t` that takes `dump` and `change`.
 abbrev pub IsCommandLine : App → Type 0
 IsCommandLine app = (times : ValueParser) × TakesTimes times × (app ≡ command_line times)
 

@@ -21,9 +21,9 @@ const MOST_LINES: usize = 512;
 /// The largest size of a cached line without its prefix, in octets. A longer one is printed each time.
 const LONGEST_LINE: usize = 512;
 
+// With so few segments, a route takes little more memory than its line.
 /// The largest number of AS_PATH segments of a route whose line is cached. The line of one with more is
 /// printed each time.
-// With so few segments, a route takes little more memory than its line.
 const MOST_SEGMENTS: usize = 2;
 
 /// The number of hashes of peers. Two peers with one hash replace each other's line.
@@ -38,7 +38,6 @@ const MULTIPLIER: u32 = 0x9E37_79B9;
 /// The index of a hash without a line.
 const NO_LINE: u16 = u16::MAX;
 
-/// The number of lines after which a trial of the cache ends, see [`LineCache::end_trial`].
 // Of tables as routers send them, of which three of five lines are copied, 512 lines in a row may be
 // mostly new ones; 4,096 aren't.
 const TRIAL_LINES: usize = 1 << 12;

@@ -24,9 +24,9 @@ pub record Course : Type 0 where
 abbrev pub course_after : Texts → Bool → Course → Course
 course_after texts ended course = record { texts = joined_texts texts course.texts; ended = ended || course.ended; left = course.left }
 
--- The course of lines from a state, where `number` is that of the first line. If `cut`, a fault of the input
--- follows the results: a command that wants more of them gives no reply, only the reports of those that it
--- took, and no line after it does anything.
+-- The course of lines from a state, where `number` counts the first line from 1. If `cut`, a fault of the
+-- input follows the results: a command that wants more of them gives no reply, only the reports of those that
+-- it took, and no line after it does anything.
 abbrev pub course_from : Bool → ℕ → List Line → State → Course
 course_from cut number [] s = record { texts = record { out = []; err = [] }; ended = false; left = s.unread }
 course_from cut number (Empty ∷ lines) s = course_from cut (number + 1) lines s
