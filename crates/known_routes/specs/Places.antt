@@ -13,6 +13,7 @@ is_taken (Taken hash route) = true
 abbrev pub is_tagged : ℕ → Bool
 is_tagged tag = nat_lt 0 tag
 
--- the lists are equally long, and a slot has a route exactly if its tag isn't that of a free slot
+-- the lists are equally long, and a slot has a route exactly if its tag isn't 0, the tag of a free
+-- slot
 abbrev pub AreTagged : List Place → List ℕ → Type 0
 AreTagged places tags = map is_taken places ≡ map is_tagged tags
