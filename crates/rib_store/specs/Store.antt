@@ -1,5 +1,5 @@
 -- Private.
--- The trees of both families, as the children of a root above both, and the contents of a store that has them.
+-- The trees of both families, as the children of a root above both, and the contents of their store.
 use Rattle.std.specs.Prelude.{◌≡◌, ℕ, Option, [], ◌++◌, cond}
 use Rattle.std.specs.FinMap as finite
 use Rattle.std.specs.FinSet as set
@@ -28,7 +28,7 @@ abbrev pub tree_of : {R : Type 0} → Family → Trees R → Shape R
 tree_of V4 trees = trees.v4
 tree_of V6 trees = trees.v6
 
--- the trees after that of the family is replaced by `tree`
+-- the trees after `tree` replaces the tree of the family
 abbrev pub with_tree : {R : Type 0} → Family → Shape R → Trees R → Trees R
 with_tree V4 tree trees = record { v4 = tree; v6 = trees.v6 }
 with_tree V6 tree trees = record { v4 = trees.v4; v6 = tree }

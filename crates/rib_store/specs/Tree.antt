@@ -1,7 +1,7 @@
 -- Private.
 -- Radix trees: their keys with the routes of these, the marks of their nodes, and changes of a key.
--- A way is the list of bits that leads to a node from a root above both families: the bit of the family, then those
--- of the prefix (`way` in `ip_prefix/specs/Turns.antt`).
+-- A way is the list of bits that leads to a node from a root above both families: the bit of the
+-- family, then those of the prefix (`way` in `ip_prefix/specs/Turns.antt`).
 use Rattle.std.specs.Prelude.{◌≡◌, Bool, true, false, ◌||◌, Option, Some, None, IsSome, IfSome, cond, List, [], ◌∷◌, ◌++◌}
 use Rattle.ip_prefix.specs.Network.{Network}
 use Rattle.ip_prefix.specs.declared.turn.Turn.{Turn}

@@ -18,12 +18,13 @@ use prefix_store::{GREATEST_COUNT, PrefetchBatch, PrefetchTarget, PrefixStore, V
 use std::alloc::{AllocError, Global};
 use std::marker::Model;
 
-/// A store that has a path-compressed radix tree for each family, with counts of the keys and the
-/// routes beside them.
+/// A store that has a path-compressed radix tree for each family, and counts of the keys and the
+/// routes.
 ///
-/// A look-up goes down one path, past at most 33 nodes for IPv4 and 129 for IPv6. `after` goes down
-/// such a path and then down to the next route, past the keys without one, and `next_routes` goes
-/// on from there to as many routes as there is capacity for. The counts take no look-up.
+/// A look-up visits at most 33 nodes for IPv4 and 129 for IPv6. `after` visits the nodes on such a
+/// path and then those on the path to the next route, and `next_routes` continues to as many routes
+/// as there is capacity for; both skip subtrees without a route. `key_count` and `route_count`
+/// visit no nodes.
 #[derive(Drop)]
 pub struct RadixStore<R> {
     alloc: Global,
