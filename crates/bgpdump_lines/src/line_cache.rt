@@ -40,6 +40,7 @@ const NO_LINE: u16 = u16::MAX;
 
 // Of tables as routers send them, of which three of five lines are copied, 512 lines in a row may be
 // mostly new ones; 4,096 aren't.
+/// The number of lines after which a trial of the cache ends, see [`LineCache::end_trial`].
 const TRIAL_LINES: usize = 1 << 12;
 
 /// The number of lines in a pause of the cache, as a multiple of the lines of the trial before it.
