@@ -21,16 +21,16 @@ MET = {
     'bgp_paths/src/path_reader.rt': {'MOST_SPARE': ['spare segments']},
     'bgp_paths/src/segment.rt': {'MOST_SPARE': ['spare numbers']},
     'bgp_wire/src/attrs.rt': {'MOST_SPARE': ['spare communities']},
-    'bgpdump_lines/src/kept_lines.rt': {
+    'bgpdump_lines/src/line_cache.rt': {
         'MOST_LINES': ['records of 1,000 entries and of one by turns'],
         'LONGEST_LINE': ['records of one route of many communities'],
         'MOST_SEGMENTS': ['records of paths of three segments'],
     },
-    'bgpdump_lines/src/write.rt': {'ENOUGH': ['lines of 210,000 octets']},
+    'bgpdump_lines/src/write.rt': {'LONG_TEXT': ['lines of 210,000 octets']},
     'known_routes/src/ordered_routes.rt': {'LONGEST_RUN': ['routes of one hash, played']},
-    'known_routes/src/place.rt': {'ROW': ['routes of one hash, played']},
-    'known_routes/src/places.rt': {
-        'FIRST_PLACES': ['places at first'],
+    'known_routes/src/slot.rt': {'ROW': ['routes of one hash, played']},
+    'known_routes/src/slots.rt': {
+        'MIN_SLOTS': ['places at first'],
         'MOST_TIMES': ['places of known routes'],
         'CROWDED_SHARE': ['routes of one hash, played'],
         'OVERWRITTEN_SHARE': ['routes of one hash, played'],
@@ -48,10 +48,10 @@ MET = {
         'SPARE_SHARE': ['short routes behind room, played'],
     },
     'mrt_frames/src/frames.rt': {'MOST_KEPT': ['the body of a record']},
-    'mrt_wire/src/peers.rt': {'PEER_PLACES': ['places for peers', 'paths of 1,024 peers climb, 250 octets']},
+    'mrt_wire/src/peers.rt': {'PEER_SLOTS': ['places for peers', 'paths of 1,024 peers climb, 250 octets']},
     'mrt_wire/src/pool.rt': {'MOST_ITEMS': ['items']},
-    'mrt_wire/src/read_routes.rt': {
-        'LONGEST_PLACED': ['attributes of places', 'paths of 256 peers climb, 250 octets'],
+    'mrt_wire/src/route_cache.rt': {
+        'LONGEST_CACHED': ['attributes of places', 'paths of 256 peers climb, 250 octets'],
         'MOST_SEGMENTS': ['paths of many segments'],
         'MOST_SPARES': ['entries that differ in the last community'],
     },
@@ -59,18 +59,18 @@ MET = {
         'FIRST_ROUTES': ['routes of a table'],
         'LONGEST_FIRST': ['routes of a table', 'paths of 256 peers climb, 1,024 octets'],
         'MOST_ROOM': ['routes of a table', 'records of many segments', 'garbage of long records, played'],
-        'LET_GO': ['paths of a record climb, 1,024 octets'],
+        'LOWERING_RATE': ['paths of a record climb, 1,024 octets'],
     },
     'mrt_wire/src/session.rt': {'LONGEST_KEPT': ['the parts of an UPDATE', 'long messages and entries by turns']},
     'octet_text/src/buffer.rt': {'MOST_KEPT': ['the text of a line']},
-    'prefix_store/src/places.rt': {'PLACES_AT_ONCE': ['hosts below keys of each length, back and forth']},
-    'rib_player/src/few_counts.rt': {'FEW': ['peers announce nine prefixes again, played']},
-    'rib_player/src/reaching.rt': {
+    'prefix_store/src/prefetch_batch.rt': {'PREFETCH_BATCH_LEN': ['hosts below keys of each length, back and forth']},
+    'rib_player/src/key_counts.rt': {'FEW': ['peers announce nine prefixes again, played']},
+    'rib_player/src/prefetching.rt': {
         'ENTRIES_AT_ONCE': ['hosts below keys of each length, back and forth'],
         'STEPS_TOGETHER': ['prefixes of 80 bits share 48, back and forth'],
         'LEAST_KEYS': ['prefixes of 80 bits share 48, back and forth'],
     },
-    'rib_player/src/room.rt': {
+    'rib_player/src/spare_capacity.rt': {
         'MOST_TIMES': ['room for steps', 'room for peers', 'marks of peers'],
         'LEAST_ROOM': ['room for steps', 'room for peers', 'marks of peers'],
     },
@@ -92,20 +92,20 @@ MET = {
 # The others, and why no shape meets them.
 NOT_MET = {
     'bgp_wire/src/framing.rt': {'KINDS': 'attributes of no other type are read'},
-    'bgpdump_tool/src/carrying/questions.rt': {'MANY': 'lines are asked for so many at a time, whatever there are'},
+    'bgpdump_tool/src/execution/queries.rt': {'MANY': 'lines are asked for so many at a time, whatever there are'},
     'known_routes/src/ordered_routes.rt': {
         'MOST_ORDERED': 'four million routes of one hash take more memory than a check has',
         'MOST_TIMES': 'a list of what went is shorter than the routes that made it',
     },
-    'known_routes/src/place.rt': {
+    'known_routes/src/slot.rt': {
         'BEFORE_ROWS': 'the layout of a block', 'SECOND_ROW': 'a factor', 'HASH_BITS': 'the width of a hash',
         'FREE': 'stands for no route',
     },
-    'known_routes/src/places.rt': {
-        'MOST_PLACES': 'so many routes take more memory than a check has', 'NOWHERE': 'no number is above it',
+    'known_routes/src/slots.rt': {
+        'MAX_SLOTS': 'so many routes take more memory than a check has', 'IN_OVERFLOW': 'no number is above it',
     },
     'known_routes/src/route_hash.rt': {
-        'MULTIPLIER': 'a factor', 'TURN': 'a factor', 'ABSENT': 'stands for no number',
+        'MULTIPLIER': 'a factor', 'ROTATION': 'a factor', 'ABSENT': 'stands for no number',
         'NO_ORIGIN': 'stands for no origin', 'LOWEST_BITS': 'the width of a hash',
     },
     'known_routes/src/route_order.rt': {'NO_ORIGIN': 'stands for no origin'},
@@ -113,15 +113,15 @@ NOT_MET = {
     'mrt_frames/src/buffer.rt': {'FIRST_GROWTH': 'the buffer grows as it is filled'},
     'mrt_frames/src/frames.rt': {'PIECE': 'what is passed over is read in pieces, whatever it is'},
     'mrt_frames/src/header.rt': {'LONGEST_BODY': 'the input ends there'},
-    'bgpdump_lines/src/dump.rt': {'LIMIT': 'no file of a check has 2^40 octets'},
+    'bgpdump_lines/src/dump.rt': {'INPUT_LIMIT': 'no file of a check has 2^40 octets'},
     'mrt_wire/src/pool.rt': {
-        'MOST_OCTETS': 'the build compares it', 'PLACES_OCTETS': 'the build sums it up',
+        'MOST_OCTETS': 'the build compares it', 'SLOTS_OCTETS': 'the build sums it up',
         'SPARES_OCTETS': 'the build sums it up', 'ROUTES_OCTETS': 'the build sums it up',
     },
-    'mrt_wire/src/read_routes.rt': {'LARGEST_PLACE': 'the build sums it up'},
+    'mrt_wire/src/route_cache.rt': {'LARGEST_SLOT': 'the build sums it up'},
     'mrt_wire/src/route_pool.rt': {
         'MOST_ROUTES': 'no record has so many entries', 'LARGEST_FIRST': 'the build sums it up',
-        'PLACE_OCTETS': 'the build sums it up',
+        'ELEMENT_OCTETS': 'the build sums it up',
     },
     'prefix_store/src/store.rt': {'GREATEST_COUNT': 'no memory has so many keys'},
     'octet_text/src/buffer.rt': {'LEAST_ROOM': 'the text grows as it is filled'},

@@ -19,6 +19,8 @@ DUMP = 'bgpdump_lines/src/dump.rt'
 PLAY = 'bgpdump_tool/src/play.rt'
 PROGRAM = 'bgpdump/src/run.rt'
 IN_MEMORY = 'bgpdump/src/in_memory.rt'
+INPUT = 'mrt_frames/src/input.rt'
+OUTPUT = 'bgpdump_lines/src/output.rt'
 
 
 class Ground(NamedTuple):
@@ -32,7 +34,7 @@ class Ground(NamedTuple):
 CLAIMS = {
     'The player\'s table gives each peer and prefix the last announcement since its last withdrawal or session '
     'loss among the steps before the cursor': (
-        Ground(PLAYER_LAWS, 'history_after_all_calls', ('new',),
+        Ground(PLAYER_LAWS, 'law_history_after_all_calls', ('new',),
                'the induction over calls: after any list of them, refused ones too, a new player agrees '
                '(`StandsFor`) with the history that they make'),
         Ground(CALLS, 'history_after', (),
@@ -45,8 +47,8 @@ CLAIMS = {
         Ground(PLAYER, 'undo', ('after_undo',), 'likewise'),
         Ground(PLAYER, 'redo', ('after_redo',), 'likewise'),
         Ground(PLAYER, 'forget', ('after_forget',), 'likewise'),
-        Ground(PLAYER, 'give_back_routes', ('',), 'no change; no other public call has `&mut self`'),
-        Ground(PLAYER_LAWS, 'tables_by_position', ('routes',),
+        Ground(PLAYER, 'drop_unused_routes', ('',), 'no change; no other public call has `&mut self`'),
+        Ground(PLAYER_LAWS, 'law_tables_by_position', ('routes',),
                'where a player agrees with a history, its table has at each pair the `route` of the events before '
                'the cursor'),
         Ground(HISTORY, 'route', (), 'the last event that does not keep the pair decides'),
@@ -63,10 +65,10 @@ CLAIMS = {
                'the cursor is one lower and all else as it was, exactly where it was above the floor. The error, '
                '`Nothing`, has no value for want of memory'),
         Ground(PLAYER, 'redo', ('after_redo', 'can'), 'one higher, exactly where a step is ahead'),
-        Ground(PLAYER_LAWS, 'one_step_back', ('undo', 'redo'), 'one step back and on again'),
-        Ground(PLAYER_LAWS, 'steps_back_and_forth', ('back', 'forth'),
+        Ground(PLAYER_LAWS, 'law_one_step_back', ('undo', 'redo'), 'one step back and on again'),
+        Ground(PLAYER_LAWS, 'law_steps_back_and_forth', ('back', 'forth'),
                'any list of events, played and undone, and redone'),
-        Ground(PLAYER_LAWS, 'forgotten_steps', ('tables',), 'positions that are left keep their tables'),
+        Ground(PLAYER_LAWS, 'law_forgotten_steps', ('tables',), 'positions that are left keep their tables'),
     ),
     'Malformed records and refused steps change nothing': (
         Ground(RESULTS, 'ReadsAs', (), 'a record makes an event or has a fault'),
@@ -83,18 +85,30 @@ CLAIMS = {
         Ground(PLAY, 'run_play', ('octets', 'text', 'began', 'whole_records', 'wanted', 'taken'), 'replies and reports'),
         Ground(PROGRAM, 'dump', ('text', 'whole_records'), 'with the program\'s buffers between'),
         Ground(PROGRAM, 'play', ('text', 'whole_records'), 'likewise'),
-        Ground(IN_MEMORY, 'dump_known', ('',), 'with all between `main` and a run, over memory'),
-        Ground(IN_MEMORY, 'play_known', ('',), 'likewise'),
-        Ground('bgpdump_lines/specs/Run.antt', 'EndsSo', (), 'by how it ended: all texts, or fronts of them'),
+        Ground(IN_MEMORY, 'dump_in_memory', ('',), 'with all between `main` and a run, over memory'),
+        Ground(IN_MEMORY, 'play_in_memory', ('',), 'likewise'),
+        Ground('bgpdump_lines/specs/Run.antt', 'EndsWithTexts', (), 'by how it ended: all texts, or fronts of them'),
         Ground('bgpdump_lines/specs/Run.antt', 'dump_texts', (), 'the texts of `-m` from the results'),
         Ground('bgpdump_tool/specs/Course.antt', 'play_texts', (), 'those of a script'),
         Ground(RESULTS, 'results', (), 'the results of frames and a rest'),
         Ground(RESULTS, 'Splits', (), 'octets split into frames and a rest'),
-        Ground('mrt_wire/src/laws.rt', 'one_split', ('',), 'they do so in one way, so the texts are a function of them'),
-        Ground('mrt_wire/src/laws.rt', 'no_octets_without_a_split', ('',),
+        Ground('mrt_wire/src/laws.rt', 'law_one_split', ('',), 'they do so in one way, so the texts are a function of them'),
+        Ground('mrt_wire/src/laws.rt', 'law_no_octets_without_a_split', ('',),
                'and no octets are without one. That it is a double negation suffices: what is said of texts can be '
                'decided'),
-        Ground('bgpdump_tool/src/laws.rt', 'one_script', ('one', 'some'), 'likewise a script and its lines'),
+        Ground('bgpdump_tool/src/laws.rt', 'law_one_script', ('one', 'some'), 'likewise a script and its lines'),
+    ),
+    'No line waits: before a read that may wait, both outputs are flushed': (
+        Ground(DUMP, 'run_dump', ('flushed',),
+               'where a read failed, the outputs hold nothing back, and nothing is flushed after a failed read. Any '
+               'read that asks the device may fail, so this holds before each of them'),
+        Ground(PLAY, 'run_play', ('flushed',), 'likewise'),
+        Ground('bgpdump_lines/specs/Flushing.antt', 'LeavesFlushed', (), 'by how the run ended'),
+        Ground('mrt_wire/src/source.rt', 'next', ('buffered',),
+               'a record that is buffered as a whole is read without asking the device'),
+        Ground(INPUT, 'take', ('buffered',), 'what an input owes: from its buffer it reads without a fault'),
+        Ground(INPUT, 'has_buffered_record', ('',), 'exactly where the buffer holds a whole record'),
+        Ground(OUTPUT, 'flush', ('flushed',), 'what an output owes: nothing is pending after it'),
     ),
     'For every input and every script of up to 1 MiB, even when memory allocation fails': (
         Ground(DUMP, 'run_dump', ('input_sound', 'out_sound', 'err_sound'),

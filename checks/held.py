@@ -170,10 +170,10 @@ CASES = (
     # peers are among them.
     Case('routes of a table', lambda: emptied(entries_of_peers(1_024, long_at_first)),
          lambda: emptied(entries_of_peers(1_024, lambda _: b'')), 560 * KIB),
-    # PEER_PLACES of mrt_wire/src/peers.rt: 256 places of 1,344 octets.
+    # PEER_SLOTS of mrt_wire/src/peers.rt: 256 places of 1,344 octets.
     Case('places for peers', lambda: emptied(entries_of_peers(1_024, partial(plain_of, 1))),
          lambda: emptied(entries_of_peers(1_024, lambda _: b'')), 256 * 1_344),
-    # LONGEST_PLACED of mrt_wire/src/read_routes.rt: 192 octets.
+    # LONGEST_CACHED of mrt_wire/src/route_cache.rt: 192 octets.
     Case('attributes of places', lambda: emptied(entries_of_peers(256, lambda number: plain_of(40, number) +
                                                                   communities(*range(80)))),
          lambda: emptied(entries_of_peers(256, lambda _: b'')), 256 * KIB),
@@ -186,14 +186,14 @@ CASES = (
     # MOST_SPARE of bgp_wire/src/attrs.rt: 32 communities.
     Case('spare communities', lambda: announced_behind(EACH, communities(*range(129))),
          lambda: announced_behind(EACH, b''), EACH * 144, ALL_STEPS),
-    # MOST_TIMES and LEAST_ROOM of rib_player/src/room.rt: room for 4 times 1,024 steps, and as many peers and marks.
+    # MOST_TIMES and LEAST_ROOM of rib_player/src/spare_capacity.rt: room for 4 times 1,024 steps, and as many peers and marks.
     Case('room for steps', lambda: steps_of(10_000), lambda: steps_of(0), 4 * 1_024 * 32, forgotten_at(10_000)),
     Case('room for peers', lambda: peers_of(10_000), lambda: peers_of(0), 4 * 1_024 * 128, forgotten_at(20_000)),
     Case('marks of peers', lambda: marked_peers_of(10_000), lambda: marked_peers_of(5_000), 4 * 1_024 * 8,
          forgotten_at(10_002)),
-    # FIRST_PLACES and LASTS of known_routes, and PLACES of rib_player/src/stores.rt.
+    # MIN_SLOTS and LASTS of known_routes, and PLACES of rib_player/src/stores.rt.
     Case('places at first', lambda: steps_of(0), lambda: [change()] * 4, 64 * KIB, ALL_STEPS),
-    # MOST_TIMES of known_routes/src/places.rt: 3 places of 17 octets for each of the routes, and 1,024 more.
+    # MOST_TIMES of known_routes/src/slots.rt: 3 places of 17 octets for each of the routes, and 1,024 more.
     Case('places of known routes', lambda: routes_of(10_000, 2_000), lambda: routes_of(2_000, 2_000),
          (3 * 2_000 + 1_024 - 3_136) * 17, forgotten_at(18_000)),
     # RELEASED_ROOM and RELEASED_SHARE of known_routes/src/routes.rt: a MiB besides a quarter.

@@ -33,8 +33,8 @@ PLAYER = 'rib_player/src/player.rt'
 # None for all public calls of a type or a trait, which then has the list's name.
 CALLS = {
     'laws of histories': {'rib_player/src/laws.rt': (
-        'history_after_one_call', 'history_after_all_calls', 'tables_by_position', 'one_step_back',
-        'steps_back_and_forth', 'forgotten_steps')},
+        'law_history_after_one_call', 'law_history_after_all_calls', 'law_tables_by_position', 'law_one_step_back',
+        'law_steps_back_and_forth', 'law_forgotten_steps')},
     'Player::table': {PLAYER: ('table',)},
     'Player::play': {PLAYER: ('play',)},
     'Player::undo': {PLAYER: ('undo',)},
@@ -43,11 +43,13 @@ CALLS = {
     'Source::next': {'mrt_wire/src/source.rt': ('next',)},
     'run_dump': {'bgpdump_lines/src/dump.rt': ('run_dump',)},
     'run_play': {'bgpdump_tool/src/play.rt': ('run_play',)},
-    'dump': {'bgpdump/src/run.rt': ('dump',), 'bgpdump/src/in_memory.rt': ('dump_known',)},
-    'play': {'bgpdump/src/run.rt': ('play',), 'bgpdump/src/in_memory.rt': ('play_known',)},
+    'dump': {'bgpdump/src/run.rt': ('dump',), 'bgpdump/src/in_memory.rt': ('dump_in_memory',)},
+    'play': {'bgpdump/src/run.rt': ('play',), 'bgpdump/src/in_memory.rt': ('play_in_memory',)},
+    'Input': {'mrt_frames/src/input.rt': None},
+    'Output': {'bgpdump_lines/src/output.rt': None},
     'laws of splits and scripts': {
-        'mrt_wire/src/laws.rt': ('one_split', 'no_octets_without_a_split', 'one_content'),
-        'bgpdump_tool/src/laws.rt': ('one_script', 'one_command', 'best_match')},
+        'mrt_wire/src/laws.rt': ('law_one_split', 'law_no_octets_without_a_split', 'law_one_content'),
+        'bgpdump_tool/src/laws.rt': ('law_one_script', 'law_one_command', 'law_best_match')},
     'Player': {PLAYER: None},
     'Table': {'rib_player/src/table.rt': None},
     'PrefixStore': {'prefix_store/src/store.rt': None},

@@ -22,20 +22,20 @@ KNOWN = {
     ('bgpdump_command_line/src/usage.rt', 'from'): 1,
     ('bgpdump/src/ending.rt', 'from'): 1,
     # Of that, and of the fault of what a record's body holds.
-    ('mrt_wire/src/judging.rt', 'from'): 2,
+    ('mrt_wire/src/decoding.rt', 'from'): 2,
     # Of a refusal of what judging a record asked for.
     ('mrt_wire/src/source.rt', 'record_answer'): 1,
     # Of std's refusal, of a source's fault or one that is spent, which no run asks again, and of that of writing.
     ('bgpdump_lines/src/fault.rt', 'from'): 3,
     # Of the only fault that an event which is played may have.
     ('bgpdump_tool/src/session.rt', 'step'): 1,
-    ('bgpdump_tool/src/carrying/moves.rt', 'play_loss'): 1,
+    ('bgpdump_tool/src/execution/moves.rt', 'play_session_loss'): 1,
     # Of an error of `clap` that says so.
-    ('bgpdump_command_line/src/command_line.rt', 'parse_fault'): 1,
+    ('bgpdump_command_line/src/command_line.rt', 'fault_of_parse_error'): 1,
     # Of an error of the system, or of std's readers, that says so.
-    ('bgpdump/src/files.rt', 'read_outcome'): 1,
-    ('bgpdump/src/files.rt', 'not_opened'): 1,
-    ('bgpdump/src/files.rt', 'not_read'): 1,
+    ('bgpdump/src/files.rt', 'outcome_of_read_error'): 1,
+    ('bgpdump/src/files.rt', 'ending_of_open_error'): 1,
+    ('bgpdump/src/files.rt', 'ending_of_read_error'): 1,
     # The status of words that were refused for it.
     ('bgpdump/src/ending.rt', 'status'): 1,
 }

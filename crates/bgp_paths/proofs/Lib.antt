@@ -1,4 +1,4 @@
-pub mod OneFront
+pub mod HasOneFront
 pub mod Counting
 pub mod Refusing
 pub mod Words

@@ -1,7 +1,7 @@
 -- What is refused when a part of it is.
 use Rattle.std.proofs.Common.{◌≡◌, ℕ, ◌*◌, IfErr, IsErrAnd, Option, Some, None, Result, Ok, Err, List, [], ◌∷◌, ◌++◌, length, get_or, drop, ap, sym, subst, ◌∙◌, arith}
 use Rattle.ip_prefix.specs.Sequences.{Begins, SpellsAll}
-use Rattle.ip_prefix.specs.Fronts.{IsCode}
+use Rattle.ip_prefix.specs.Fronts.{IsSelfDelimiting}
 use Rattle.octet_forms.proofs.Lists.{append_parts}
 use Rattle.octet_forms.proofs.Sequences.{none_at_all}
 use Rattle.bgp_paths.specs.declared.fault.WireFault.{WireFault}
@@ -9,13 +9,13 @@ use Rattle.bgp_paths.specs.declared.fault.WireFault.TheVariants.{Malformed, Memo
 use Rattle.bgp_paths.specs.declared.numbers.AsWidth.{AsWidth}
 use Rattle.bgp_paths.specs.declared.segment.SegmentKind.{SegmentKind}
 use Rattle.bgp_paths.specs.declared.segment.Segment.{Segment}
-use Rattle.bgp_paths.specs.Path.{octets_at, SpellsAsn, kind_code, SpellsSegment}
-use Rattle.bgp_paths.specs.Readers.{IsFramed, Finds, Refuses, RefusesFront}
-use Rattle.bgp_paths.proofs.OneFront.{segment_begun, length-numbers}
+use Rattle.bgp_paths.specs.Path.{asn_size, SpellsAsn, kind_code, SpellsSegment}
+use Rattle.bgp_paths.specs.Readers.{IsSplitSegment, ParsesTo, Refuses, RefusesFront}
+use Rattle.bgp_paths.proofs.HasOneFront.{segment_begun, length-numbers}
 
 -- what is found by a part is found by the whole, where the two spell the same values
 pub finds_whole : {A C D : Type 0} (Part : A → D → Type 0) (Whole : A → C → Type 0) (part : D) (octets : C) (answer : Option A)
-    → ((a : A) → Part a part → Whole a octets) → ((a : A) → Whole a octets → Part a part) → Finds Part part answer → Finds Whole octets answer
+    → ((a : A) → Part a part → Whole a octets) → ((a : A) → Whole a octets → Part a part) → ParsesTo Part part answer → ParsesTo Whole octets answer
 finds_whole Part Whole part octets None up down h = λ a s. h a (down a s)
 finds_whole Part Whole part octets (Some a) up down h = up a h
 
@@ -37,32 +37,32 @@ refused_always Spells octets Malformed none = none
 refused_always Spells octets Memory none = tt
 
 -- where no value stands in front of what is left of a list, no list is spelled
-pub refused_rest : {A : Type 0} (Spells : A → List ℕ → Type 0) → IsCode Spells → (values : List A) (rest octets : List ℕ) (fault : WireFault) → (rest ≡ [] → ⊥) → Begins (SpellsAll Spells) values rest octets
+pub refused_rest : {A : Type 0} (Spells : A → List ℕ → Type 0) → IsSelfDelimiting Spells → (values : List A) (rest octets : List ℕ) (fault : WireFault) → (rest ≡ [] → ⊥) → Begins (SpellsAll Spells) values rest octets
     → RefusesFront Spells rest fault → Refuses (SpellsAll Spells) octets fault
 refused_rest Spells code values rest octets Malformed some b none = none_at_all Spells code values rest octets some b none
 refused_rest Spells code values rest octets Memory some b none = tt
 
 -- a segment in front has the numbers that stand where it is framed
-numbers_framed : (width : AsWidth) (kind : SegmentKind) (count : ℕ) (body rest octets : List ℕ) → IsFramed width kind count body rest octets
+numbers_framed : (width : AsWidth) (kind : SegmentKind) (count : ℕ) (body rest octets : List ℕ) → IsSplitSegment width kind count body rest octets
     → (segment : Segment) (more : List ℕ) → Begins (SpellsSegment width) segment more octets → SpellsAll (SpellsAsn width) segment.numbers body
 numbers_framed width kind count body rest octets f segment more b =
     let s = b.spelled in
     let one : kind_code kind ∷ count ∷ (body ++ rest) ≡ kind_code segment.kind ∷ length segment.numbers ∷ (s.body ++ more) = sym f.whole ∙ segment_begun width segment more octets b in
     let counts : count ≡ length segment.numbers = ap (λ l. get_or l 1 0) one in
-    let sizes : length body ≡ length s.body = f.size ∙ ap (λ n. octets_at width * n) counts ∙ sym (length-numbers width segment.numbers s.body s.spelled) in
+    let sizes : length body ≡ length s.body = f.size ∙ ap (λ n. asn_size width * n) counts ∙ sym (length-numbers width segment.numbers s.body s.spelled) in
     let parts = append_parts body s.body rest more sizes (ap (drop 2) one) in
     subst (SpellsAll (SpellsAsn width) segment.numbers) (sym parts.0) s.spelled
 
-pub refused_numbers : (width : AsWidth) (kind : SegmentKind) (count : ℕ) (body rest octets : List ℕ) (fault : WireFault) → IsFramed width kind count body rest octets
+pub refused_numbers : (width : AsWidth) (kind : SegmentKind) (count : ℕ) (body rest octets : List ℕ) (fault : WireFault) → IsSplitSegment width kind count body rest octets
     → Refuses (SpellsAll (SpellsAsn width)) body fault → RefusesFront (SpellsSegment width) octets fault
 refused_numbers width kind count body rest octets Malformed f none = λ segment more b. none segment.numbers (numbers_framed width kind count body rest octets f segment more b)
 refused_numbers width kind count body rest octets Memory f none = tt
 
-same_count : (width : AsWidth) (m n : ℕ) → octets_at width * m ≡ octets_at width * n → m ≡ n
+same_count : (width : AsWidth) (m n : ℕ) → asn_size width * m ≡ asn_size width * n → m ≡ n
 same_count width m n e = grind arith
 
 -- a segment that is framed, with its numbers
-pub segment_framed : (width : AsWidth) (kind : SegmentKind) (count : ℕ) (body rest octets : List ℕ) (ns : List ℕ) → IsFramed width kind count body rest octets → SpellsAll (SpellsAsn width) ns body
+pub segment_framed : (width : AsWidth) (kind : SegmentKind) (count : ℕ) (body rest octets : List ℕ) (ns : List ℕ) → IsSplitSegment width kind count body rest octets → SpellsAll (SpellsAsn width) ns body
     → Begins (SpellsSegment width) record { numbers = ns; kind = kind } rest octets
 segment_framed width kind count body rest octets ns f s =
     let counts : count ≡ length ns = same_count width count (length ns) (sym f.size ∙ length-numbers width ns body s) in

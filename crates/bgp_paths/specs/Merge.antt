@@ -1,82 +1,95 @@
--- A path with two-octet AS numbers joined with the four-octet one that was sent beside it (RFC 6793, section 4.2.3).
+-- The merge of an AS_PATH with AS numbers of two octets and the AS4_PATH sent with it (RFC 6793, section
+-- 4.2.3).
 use Rattle.std.specs.Prelude.{◌≡◌, ℕ, suc, ◌-◌, ◌<◌, ◌≤◌, ◌==◌, if◌then◌else◌, List, [], ◌∷◌, ◌++◌, length, map, filter, sum_by}
 use Rattle.bgp_paths.specs.declared.segment.SegmentKind.{SegmentKind}
 use Rattle.bgp_paths.specs.declared.segment.SegmentKind.TheVariants.{AsSet, AsSequence}
 use Rattle.bgp_paths.specs.declared.segment.Segment.{Segment}
 use Rattle.bgp_paths.specs.declared.path.AsPath.{AsPath}
 
--- what counts by itself in a path, a number of a sequence or a whole segment of another kind, and the place of its segment in the path
-pub record Hop : Type 0 where
+-- a unit of a path, which the merge keeps or drops as a whole: an AS number of a sequence, as a sequence of
+-- this number alone, or a whole segment of another kind. `place` is the index of its segment in the path
+pub record PathUnit : Type 0 where
   pub place : ℕ
   pub part : Segment
 
--- the hops of a segment: of a sequence each number, as a segment
-abbrev pub hops_by : SegmentKind → ℕ → List ℕ → List Hop
-hops_by AsSequence place ns = map (λ n. record { place = place; part = record { numbers = n ∷ []; kind = AsSequence } }) ns
-hops_by kind place ns = record { place = place; part = record { numbers = ns; kind = kind } } ∷ []
+-- the units of a segment of this kind at the index `place`, with these AS numbers
+abbrev pub units_by_kind : SegmentKind → ℕ → List ℕ → List PathUnit
+units_by_kind AsSequence place ns = map (λ n. record { place = place; part = record { numbers = n ∷ []; kind = AsSequence } }) ns
+units_by_kind kind place ns = record { place = place; part = record { numbers = ns; kind = kind } } ∷ []
 
--- the hops of segments, the first of which has this place
-abbrev pub hops_from : ℕ → List Segment → List Hop
-hops_from place [] = []
-hops_from place (segment ∷ segments) = hops_by segment.kind place segment.numbers ++ hops_from (suc place) segments
+-- the units of segments, in order; the first segment has the index `place`
+abbrev pub units_from : ℕ → List Segment → List PathUnit
+units_from place [] = []
+units_from place (segment ∷ segments) = units_by_kind segment.kind place segment.numbers ++ units_from (suc place) segments
 
--- what a hop weighs (RFC 6793, section 4.2.3; RFC 5065, section 5.3): a set counts as one, the segments of a confederation don't count
+-- the number of ASes that a unit of this kind counts (RFC 6793, section 4.2.3; RFC 5065, section 5.3): one,
+-- but none for segments of a confederation
 abbrev pub kind_weight : SegmentKind → ℕ
 kind_weight AsSequence = 1
 kind_weight AsSet = 1
 kind_weight kind = 0
 
-abbrev pub hop_weight : Hop → ℕ
-hop_weight hop = kind_weight hop.part.kind
+-- the number of ASes that a unit counts
+abbrev pub unit_weight : PathUnit → ℕ
+unit_weight hop = kind_weight hop.part.kind
 
-abbrev pub weight_of : List Hop → ℕ
-weight_of hops = sum_by hop_weight hops
+-- the number of ASes that units count together
+abbrev pub units_weight : List PathUnit → ℕ
+units_weight hops = sum_by unit_weight hops
 
--- what a segment weighs, as its hops do
+-- the number of ASes that a segment of this kind with `size` AS numbers counts: each of a sequence, one for a
+-- set, none for a segment of a confederation
 abbrev pub weight_by : SegmentKind → ℕ → ℕ
 weight_by AsSequence size = size
 weight_by kind size = kind_weight kind
 
+-- the number of ASes that a segment counts
 abbrev pub segment_weight : Segment → ℕ
 segment_weight segment = weight_by segment.kind (length segment.numbers)
 
+-- the number of ASes that a path counts
 abbrev pub path_weight : AsPath → ℕ
 path_weight path = sum_by segment_weight path.segments
 
--- a hop before others: with the first of them in one segment, where both are of one
-abbrev pub joined_hops : Hop → List Hop → List Hop
-joined_hops hop [] = hop ∷ []
-joined_hops hop (next ∷ hops) =
+-- the unit and then the others; if the first of these is of the same segment, both become one unit with the
+-- AS numbers of both
+abbrev pub joined_units : PathUnit → List PathUnit → List PathUnit
+joined_units hop [] = hop ∷ []
+joined_units hop (next ∷ hops) =
     if hop.place == next.place
     then record { place = hop.place; part = record { numbers = hop.part.numbers ++ next.part.numbers; kind = hop.part.kind } } ∷ hops
     else hop ∷ next ∷ hops
 
-abbrev pub gathered_hops : List Hop → List Hop
-gathered_hops [] = []
-gathered_hops (hop ∷ hops) = joined_hops hop (gathered_hops hops)
+-- the units, those of one segment that follow each other made one
+abbrev pub gathered_units : List PathUnit → List PathUnit
+gathered_units [] = []
+gathered_units (hop ∷ hops) = joined_units hop (gathered_units hops)
 
--- the segments that the hops are put back into
-abbrev pub segments_of : List Hop → List Segment
-segments_of hops = map (λ hop. hop.part) (gathered_hops hops)
+-- the segments that units make: those of one sequence become one segment again
+abbrev pub segments_of : List PathUnit → List Segment
+segments_of hops = map (λ hop. hop.part) (gathered_units hops)
 
--- the segments but those of a confederation
-abbrev pub plain_segments : List Segment → List Segment
-plain_segments segments = filter (λ segment. kind_weight segment.kind == 1) segments
+-- the segments that aren't of a confederation, in order
+abbrev pub segments_without_confederations : List Segment → List Segment
+segments_without_confederations segments = filter (λ segment. kind_weight segment.kind == 1) segments
 
-abbrev pub plain_path : AsPath → AsPath
-plain_path path = record { segments = plain_segments path.segments }
+-- the path without its segments of a confederation
+abbrev pub path_without_confederations : AsPath → AsPath
+path_without_confederations path = record { segments = segments_without_confederations path.segments }
 
--- of the hops that the others begin with and that weigh so much these are the most
-pub record IsLongest (weighing : ℕ) (hops front : List Hop) : Type 0 where
-  pub rest : List Hop
+-- `front` begins `hops` and counts `weighing` ASes, and it is the longest beginning that does: units that
+-- count none at its end are in it
+pub record IsLongest (weighing : ℕ) (hops front : List PathUnit) : Type 0 where
+  pub rest : List PathUnit
   pub whole : hops ≡ front ++ rest
-  pub weighs : weight_of front ≡ weighing
-  pub longest : (other left : List Hop) → hops ≡ other ++ left → weight_of other ≡ weighing → length other ≤ length front
+  pub weighs : units_weight front ≡ weighing
+  pub longest : (other left : List PathUnit) → hops ≡ other ++ left → units_weight other ≡ weighing → length other ≤ length front
 
--- the path is the two joined: the first where it weighs less than the second, which counts without segments of a confederation, or else
--- as much of the first's front as weighs what the second lacks, and the second
+-- `path` is the merge of AS_PATH `first` and AS4_PATH `second`, whose segments of a confederation are
+-- dropped. If `first` counts fewer ASes than `second`, it is `first`; else it is the longest beginning of
+-- `first` that counts as many as `second` lacks, and then `second`
 pub record IsMerge (first second path : AsPath) : Type 0 where
-  pub shorter : path_weight first < path_weight (plain_path second) → path ≡ first
-  pub joined : path_weight (plain_path second) ≤ path_weight first
-      → (front : List Hop) × IsLongest (path_weight first - path_weight (plain_path second)) (hops_from 0 first.segments) front
-      × (path ≡ record { segments = segments_of front ++ plain_segments second.segments })
+  pub shorter : path_weight first < path_weight (path_without_confederations second) → path ≡ first
+  pub joined : path_weight (path_without_confederations second) ≤ path_weight first
+      → (front : List PathUnit) × IsLongest (path_weight first - path_weight (path_without_confederations second)) (units_from 0 first.segments) front
+      × (path ≡ record { segments = segments_of front ++ segments_without_confederations second.segments })

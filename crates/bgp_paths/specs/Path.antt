@@ -1,4 +1,5 @@
--- AS numbers and paths: what they are, and their octets (RFC 4271, section 4.3; RFC 5065, section 3; RFC 6793, section 3).
+-- AS numbers and AS paths, and the octets that encode them (RFC 4271, section 4.3; RFC 5065, section 3; RFC
+-- 6793, section 3).
 use Rattle.std.specs.Prelude.{◌≡◌, ℕ, ◌<◌, ◌*◌, ◌^◌, List, ◌∷◌, length}
 use Rattle.std.specs.Int.{Width, w16, w32, to_be_bytes}
 use Rattle.bgp_paths.specs.declared.numbers.AsWidth.{AsWidth}
@@ -10,53 +11,53 @@ use Rattle.bgp_paths.specs.declared.segment.Segment.{Segment}
 use Rattle.bgp_paths.specs.declared.path_reader.TheConstants.{AS_SET, AS_SEQUENCE, AS_CONFED_SEQUENCE, AS_CONFED_SET}
 use Rattle.bgp_paths.specs.declared.path.AsPath.{AsPath}
 
--- ---- how numbers are sent: the most significant octet first
+-- ---- numbers in network byte order
 
--- the octets of a number of so many bits, which is below a limit
+-- the octets are `n` as a big-endian number of `bits` bits, and `n` is below `limit`
 pub record SpellsNumber (bits : Width) (limit : ℕ) (n : ℕ) (octets : List ℕ) : Type 0 where
   pub fits : n < limit
   pub whole : octets ≡ to_be_bytes bits n
 
--- the octets of a number of 32 bits
-abbrev pub SpellsWord : ℕ → List ℕ → Type 0
-SpellsWord n octets = SpellsNumber w32 (2 ^ 32) n octets
+-- the octets are a big-endian number of 32 bits
+abbrev pub SpellsU32 : ℕ → List ℕ → Type 0
+SpellsU32 n octets = SpellsNumber w32 (2 ^ 32) n octets
 
 -- ---- AS numbers (RFC 4271, section 4.3; RFC 6793, section 3)
 
--- how many bits an AS number has
-abbrev pub bits_at : AsWidth → Width
-bits_at Two = w16
-bits_at Four = w32
+-- the number of bits of an AS number: 16 or 32
+abbrev pub asn_bits : AsWidth → Width
+asn_bits Two = w16
+asn_bits Four = w32
 
--- how many octets an AS number has
-abbrev pub octets_at : AsWidth → ℕ
-octets_at Two = 2
-octets_at Four = 4
+-- the number of octets of an AS number: 2 or 4
+abbrev pub asn_size : AsWidth → ℕ
+asn_size Two = 2
+asn_size Four = 4
 
--- AS numbers of a width are below this
-abbrev pub limit_at : AsWidth → ℕ
-limit_at width = 2 ^ (8 * octets_at width)
+-- the exclusive upper bound of AS numbers of this width: 2^16 or 2^32
+abbrev pub asn_limit : AsWidth → ℕ
+asn_limit width = 2 ^ (8 * asn_size width)
 
--- the octets of an AS number
+-- the octets are a big-endian AS number of this width
 abbrev pub SpellsAsn : AsWidth → ℕ → List ℕ → Type 0
-SpellsAsn width n octets = SpellsNumber (bits_at width) (limit_at width) n octets
+SpellsAsn width n octets = SpellsNumber (asn_bits width) (asn_limit width) n octets
 
 -- ---- octets that spell no value
 
--- no value is spelled by the octets
+-- the octets (of any type `B`) spell no value
 abbrev pub IsNoSpelling : {A B : Type 0} → (A → B → Type 0) → B → Type 0
 IsNoSpelling {A} Spells octets = (value : A) → Spells value octets → ⊥
 
--- ---- how an AS path is sent (RFC 4271, section 4.3; RFC 5065, section 3)
+-- ---- AS paths as BGP sends them (RFC 4271, section 4.3; RFC 5065, section 3)
 
--- the octet that stands for a kind of segment
+-- the type of a kind of segment: 1 to 4
 abbrev pub kind_code : SegmentKind → ℕ
 kind_code AsSet = AS_SET
 kind_code AsSequence = AS_SEQUENCE
 kind_code ConfedSequence = AS_CONFED_SEQUENCE
 kind_code ConfedSet = AS_CONFED_SET
 
--- the octets of a segment: its kind, how many numbers it has, at least one, and the numbers
+-- the octets are the type of a segment, the count of its AS numbers, from 1 to 255, and these numbers
 pub record SpellsSegment (width : AsWidth) (segment : Segment) (octets : List ℕ) : Type 0 where
   pub some : 0 < length segment.numbers
   pub count_fits : length segment.numbers < 256
@@ -64,6 +65,6 @@ pub record SpellsSegment (width : AsWidth) (segment : Segment) (octets : List �
   pub spelled : SpellsAll (SpellsAsn width) segment.numbers body
   pub whole : octets ≡ kind_code segment.kind ∷ length segment.numbers ∷ body
 
--- the octets of a path: its segments, one behind the other
+-- the octets are the segments of a path, in order
 abbrev pub SpellsPath : AsWidth → AsPath → List ℕ → Type 0
 SpellsPath width path octets = SpellsAll (SpellsSegment width) path.segments octets

@@ -1,10 +1,10 @@
 -- Private.
--- What decoders answer, framed segments, and the words that are printed.
+-- What parsers return, segments whose AS numbers aren't parsed, and texts of words.
 use Rattle.std.specs.Prelude.{ℕ, List, Option, Some, None, Result, Ok, Err, ◌≡◌, ◌*◌, ◌<◌, [], ◌∷◌, ◌++◌, length}
 use Rattle.ip_prefix.specs.Fronts.{BeginsWithNone}
 use Rattle.bgp_paths.specs.declared.fault.WireFault.{WireFault}
 use Rattle.bgp_paths.specs.declared.fault.WireFault.TheVariants.{Malformed, Memory}
-use Rattle.bgp_paths.specs.Path.{IsNoSpelling, octets_at, kind_code}
+use Rattle.bgp_paths.specs.Path.{IsNoSpelling, asn_size, kind_code}
 use Rattle.bgp_paths.specs.declared.numbers.AsWidth.{AsWidth}
 use Rattle.bgp_paths.specs.declared.segment.SegmentKind.{SegmentKind}
 use Rattle.bgp_paths.specs.declared.segment.SegmentKind.TheVariants.{AsSequence}
@@ -12,60 +12,64 @@ use Rattle.bgp_paths.specs.declared.segment.Segment.{Segment}
 use Rattle.bgp_paths.specs.declared.path.AsPath.{AsPath}
 use Rattle.std.specs.List.{join_with_byte}
 use Rattle.ip_prefix.specs.Written.{ended_words}
-use Rattle.bgp_paths.specs.declared.text.Marks.{Marks}
+use Rattle.bgp_paths.specs.declared.text.Brackets.{Brackets}
 
--- ---- what functions that read octets answer
+-- ---- what parsers return
 
--- the answer is a value that the octets spell, exactly where they spell one
-abbrev pub Finds : {A B : Type 0} → (A → B → Type 0) → B → Option A → Type 0
-Finds Spells octets (Some value) = Spells value octets
-Finds Spells octets None = IsNoSpelling Spells octets
+-- what a parser returns for the octets: a value that they spell, or `None` if they spell none
+abbrev pub ParsesTo : {A B : Type 0} → (A → B → Type 0) → B → Option A → Type 0
+ParsesTo Spells octets (Some value) = Spells value octets
+ParsesTo Spells octets None = IsNoSpelling Spells octets
 
--- malformed is what no value is spelled by
+-- an error that a parser may return for the octets: `Malformed` only if they spell no value, `Memory` always
 abbrev pub Refuses : {A B : Type 0} → (A → B → Type 0) → B → WireFault → Type 0
 Refuses Spells octets Malformed = IsNoSpelling Spells octets
 Refuses Spells octets Memory = Unit {0}
 
--- the answer is a value that the octets spell, or a fault where it is due
-abbrev pub Reads : {A B : Type 0} → (A → B → Type 0) → B → Result A WireFault → Type 0
-Reads Spells octets (Ok value) = Spells value octets
-Reads Spells octets (Err fault) = Refuses Spells octets fault
+-- what a parser returns for the octets: a value that they spell, or an error; `Malformed` only if they spell
+-- no value
+abbrev pub ParsesOrFails : {A B : Type 0} → (A → B → Type 0) → B → Result A WireFault → Type 0
+ParsesOrFails Spells octets (Ok value) = Spells value octets
+ParsesOrFails Spells octets (Err fault) = Refuses Spells octets fault
 
--- malformed is what begins with no value
+-- an error that a parser of a value at the start of the octets may return: `Malformed` only if they begin
+-- with a spelling of none, `Memory` always
 abbrev pub RefusesFront : {A : Type 0} → (A → List ℕ → Type 0) → List ℕ → WireFault → Type 0
 RefusesFront Spells octets Malformed = BeginsWithNone Spells octets
 RefusesFront Spells octets Memory = Unit {0}
 
--- ---- a path without segments, one segment as it is joined, and its front in octets
+-- ---- an empty path, a segment that may be empty, and a segment at the start of octets
 
--- a path without segments
-abbrev pub no_path : AsPath
-no_path = record { segments = [] }
+-- the path without segments
+abbrev pub empty_path : AsPath
+empty_path = record { segments = [] }
 
--- a segment of these numbers, but no sequence of none
-abbrev pub piece : SegmentKind → List ℕ → List Segment
-piece AsSequence [] = []
-piece kind ns = record { numbers = ns; kind = kind } ∷ []
+-- the list of one segment of this kind and these AS numbers, but no segment for a sequence of none
+abbrev pub segment_unless_empty : SegmentKind → List ℕ → List Segment
+segment_unless_empty AsSequence [] = []
+segment_unless_empty kind ns = record { numbers = ns; kind = kind } ∷ []
 
--- the octets begin with the kind of a segment, its count, which isn't 0, and as many octets as its numbers have
-pub record IsFramed (width : AsWidth) (kind : SegmentKind) (count : ℕ) (body rest octets : List ℕ) : Type 0 where
+-- the octets are the type of a segment of this kind, its count of AS numbers, from 1 to 255, as many octets
+-- `body` as these numbers take, and then `rest`
+pub record IsSplitSegment (width : AsWidth) (kind : SegmentKind) (count : ℕ) (body rest octets : List ℕ) : Type 0 where
   pub some : 0 < count
   pub fits : count < 256
-  pub size : length body ≡ octets_at width * count
+  pub size : length body ≡ asn_size width * count
   pub whole : octets ≡ kind_code kind ∷ count ∷ (body ++ rest)
 
--- ---- what printing does to a text, and the marks in the order in which it prints them
+-- ---- texts
 
--- the marks in the order in which they are printed
-abbrev pub all_marks : Marks → List ℕ
-all_marks marks = marks.open ∷ marks.separator ∷ marks.close ∷ []
+-- the octets of the marks in the order in which they are printed
+abbrev pub brackets_as_printed : Brackets → List ℕ
+brackets_as_printed marks = marks.open ∷ marks.separator ∷ marks.close ∷ []
 
--- the old text still stands in front of the new one
+-- the new text begins with the old one
 abbrev pub StillBegins : List ℕ → List ℕ → Type 0
 StillBegins old new = (more : List ℕ) × (new ≡ old ++ more)
 
--- words behind a text of this length, each ended by a separator, are joined by it now
-abbrev pub WordsJoined : ℕ → List ℕ → List ℕ → Type 0
-WordsJoined before old new =
+-- `new` is `old` without the separator after its last word: wherever `old` is a text of `before` octets and
+-- then words with a separator after each, `new` is this text and the words joined by the separator
+abbrev pub JoinsWords : ℕ → List ℕ → List ℕ → Type 0
+JoinsWords before old new =
     (text : List ℕ) (separator : ℕ) (words : List (List ℕ)) → length text ≡ before
     → old ≡ text ++ ended_words separator words → new ≡ text ++ join_with_byte separator words

@@ -1,4 +1,4 @@
-//! The errors of parsers of BGP octets. The parsers of `bgp_paths` and `bgp_wire` return them. Read
+//! The error of parsers of BGP octets, which the parsers of `bgp_paths` and `bgp_wire` return. Read
 //! [`WireFault`].
 
 ghost use Rattle.std.specs.Prelude.{◌≡◌};
@@ -10,7 +10,7 @@ use thiserror::Error;
 /// An error of a parser of BGP octets.
 #[derive(Clone, Copy, Debug, PartialEq, Eq, Error)]
 pub enum WireFault {
-    /// The octets don't have the form of the value to parse.
+    /// The octets don't have the form of the value that was to be parsed.
     #[error("malformed")]
     Malformed,
     /// Memory allocation failed.

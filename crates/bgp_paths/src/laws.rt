@@ -1,49 +1,50 @@
 //! Theorems about the definitions that the contracts of this crate cite. The functions have no code
-//! and nothing calls them: what they state is proved as the crate is checked. `docs/proved.md`
-//! names them.
+//! and nothing calls them: their `ensures` clauses are proved as the crate is checked.
+//! `docs/proved.md` names them.
 
 ghost use Rattle.std.specs.Prelude.{◌≡◌, ℕ, List, [], ◌∷◌, codes};
 ghost use Rattle.ip_prefix.specs.declared.text.TheConstants.{COLON};
 ghost use Rattle.octet_text.specs.declared.cursor.TheConstants.{SPACE};
-ghost use Rattle.bgp_paths.specs.declared.text.TheConstants.{AS_SET_MARKS, CONFED_SEQUENCE_MARKS, CONFED_SET_MARKS, NO_EXPORT, NO_ADVERTISE, NO_EXPORT_SUBCONFED};
+ghost use Rattle.bgp_paths.specs.declared.text.TheConstants.{AS_SET_BRACKETS, CONFED_SEQUENCE_BRACKETS, CONFED_SET_BRACKETS, NO_EXPORT, NO_ADVERTISE, NO_EXPORT_SUBCONFED};
 ghost use Rattle.bgp_paths.specs.declared.path_reader.TheConstants.{AS_SET, AS_SEQUENCE, AS_CONFED_SEQUENCE, AS_CONFED_SET};
 ghost use Rattle.bgp_paths.specs.declared.numbers.AsWidth.{AsWidth};
 ghost use Rattle.bgp_paths.specs.declared.path.AsPath.{AsPath};
 ghost use Rattle.bgp_paths.specs.Merge.{IsMerge, path_weight};
 ghost use Rattle.bgp_paths.specs.Path.{SpellsPath};
-ghost use Rattle.bgp_paths.specs.Readers.{all_marks};
+ghost use Rattle.bgp_paths.specs.Readers.{brackets_as_printed};
 
-/// Proves that octets spell at most one path with AS numbers of one width.
-pub fn one_path()
+/// States that octets encode at most one AS path with AS numbers of a given width.
+pub fn law_octets_have_one_path()
     ensures { (width : AsWidth) (octets : List ℕ) (path other : AsPath) →
         SpellsPath width path octets → SpellsPath width other octets → path ≡ other }
 {}
 
-/// Proves that a merged path counts as many ASes as the first of the two paths (RFC 6793, section
+/// States that the merge of two paths counts as many ASes as the first of them (RFC 6793, section
 /// 4.2.3).
-pub fn merge_keeps_the_weight()
+pub fn law_merge_keeps_weight()
     ensures { (first second path : AsPath) → IsMerge first second path →
         path_weight path ≡ path_weight first }
 {}
 
-/// Proves that any two paths have a merged path, and only one.
-pub fn one_merge()
+/// States that any two paths have exactly one merge.
+pub fn law_paths_have_one_merge()
     ensures some { (first second : AsPath) → (path : AsPath) × IsMerge first second path }
     ensures one { (first second path other : AsPath) →
         IsMerge first second path → IsMerge first second other → path ≡ other }
 {}
 
-/// Proves which characters the marks of the printed texts are.
-pub fn text_marks()
+/// States which characters the constants are that printed paths and communities are joined and
+/// bracketed with.
+pub fn law_text_punctuation()
     ensures between { SPACE ∷ COLON ∷ [] ≡ codes " :" }
-    ensures sets { all_marks AS_SET_MARKS ≡ codes "{,}" }
-    ensures confederation_sequences { all_marks CONFED_SEQUENCE_MARKS ≡ codes "( )" }
-    ensures confederation_sets { all_marks CONFED_SET_MARKS ≡ codes "[,]" }
+    ensures sets { brackets_as_printed AS_SET_BRACKETS ≡ codes "{,}" }
+    ensures confederation_sequences { brackets_as_printed CONFED_SEQUENCE_BRACKETS ≡ codes "( )" }
+    ensures confederation_sets { brackets_as_printed CONFED_SET_BRACKETS ≡ codes "[,]" }
 {}
 
-/// Proves the values of the numbers that the definitions name: the types of segments (RFC 4271,
+/// States the values of the constants that the definitions name: the types of segments (RFC 4271,
 /// section 4.3; RFC 5065, section 3) and the well-known communities (RFC 1997).
-pub fn path_numbers()
+pub fn law_path_constants()
     ensures segments { (AS_SET ≡ 1) × (AS_SEQUENCE ≡ 2) × (AS_CONFED_SEQUENCE ≡ 3)
         × (AS_CONFED_SET ≡ 4) }
     ensures communities { (NO_EXPORT ≡ 4294967041) × (NO_ADVERTISE ≡ 4294967042)

@@ -1,6 +1,6 @@
-//! AS numbers, AS paths and communities of BGP: the parser of AS paths, the merge of AS_PATH with
-//! AS4_PATH (RFC 6793), and the printed texts of paths and communities. `bgp_wire` and
-//! `bgpdump_lines` call it. Read `path.rt` first, then `path_reader.rt` and `merge.rt`.
+//! AS numbers, AS paths and communities of BGP: their parsers, the merge of AS_PATH with AS4_PATH
+//! (RFC 6793, section 4.2.3), and their printed texts. `bgp_wire` and `bgpdump_lines` call it. Read
+//! `path.rt` first, then `path_reader.rt` and `merge.rt`.
 #![tactic(auto)]
 
 mod fault;
@@ -15,7 +15,10 @@ mod segment;
 mod text;
 
 pub use fault::WireFault;
-pub use laws::{merge_keeps_the_weight, one_merge, one_path, path_numbers, text_marks};
+pub use laws::{
+    law_merge_keeps_weight, law_octets_have_one_path, law_path_constants, law_paths_have_one_merge,
+    law_text_punctuation,
+};
 pub use list_of::ListOf;
 pub use merge::merge_paths;
 pub use numbers::{AsWidth, fill_numbers};

@@ -1,13 +1,12 @@
-//! Lists that contracts see as their elements alone. Paths, segments and communities hold them.
-//! Read [`ListOf`] first.
+//! Lists that contracts see as their elements alone. AS paths, their segments, communities and the
+//! prefixes of messages are such lists. Read [`ListOf`] first.
 
 ghost use Rattle.std.specs.Prelude.{◌≡◌, []};
 
 use std::alloc::{AllocError, Global};
 use std::marker::Model;
 
-/// A list of values. Its value in contracts is the list of its elements, whatever the capacity of
-/// the vector.
+/// A list of values: a vector of which contracts see the elements, and not the capacity.
 #[derive(Debug, Drop)]
 pub struct ListOf<T> {
     /// The elements.
@@ -23,7 +22,7 @@ impl<T> Model for ListOf<T> {
 }
 
 impl<T: Drop> ListOf<T> {
-    /// Returns a list of the elements of `items`.
+    /// Converts a vector into a list of its elements, without copying them.
     #[inline]
     pub fn from_vec(items: Vec<T>) -> Self
         ensures { result ≡ items.items }
@@ -33,13 +32,13 @@ impl<T: Drop> ListOf<T> {
 
     /// Returns an empty list, without allocating memory.
     #[inline]
-    pub fn none(alloc: Global) -> Self
+    pub fn empty(alloc: Global) -> Self
         ensures { result ≡ [] }
     {
         ListOf::from_vec(Vec::new(alloc))
     }
 
-    /// Returns the elements as a vector.
+    /// Converts the list into a vector of its elements, without copying them.
     #[inline]
     pub fn into_vec(self) -> Vec<T>
         ensures { result.items ≡ self }

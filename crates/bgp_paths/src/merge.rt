@@ -1,57 +1,60 @@
-//! The merge of an AS_PATH of two-octet AS numbers with the AS4_PATH beside it (RFC 6793, section
-//! 4.2.3). `bgp_wire` calls [`merge_paths`] for the attributes of a route; read that first.
+//! The merge of an AS_PATH with AS numbers of two octets and the AS4_PATH sent with it (RFC 6793,
+//! section 4.2.3). `bgp_wire` calls [`merge_paths`] for the attributes of a route; read that
+//! function first.
 
 ghost use Rattle.std.specs.Prelude.{◌≡◌, ℕ, ◌≤◌, List, ◌++◌, IfOk, OnOk, sum_by};
-ghost use Rattle.bgp_paths.specs.Merge.{IsMerge, IsLongest, path_weight, segment_weight, Hop, hops_from, segments_of};
-ghost use Rattle.bgp_paths.specs.Readers.{piece};
+ghost use Rattle.bgp_paths.specs.Merge.{IsMerge, IsLongest, path_weight, segment_weight, PathUnit, units_from, segments_of};
+ghost use Rattle.bgp_paths.specs.Readers.{segment_unless_empty};
 ghost use Rattle.bgp_paths.specs.declared.path.AsPath.{AsPath};
 
 use crate::path::{AsPath, Segments};
-use crate::path_reader::fit;
+use crate::path_reader::shrink_if_spare;
 use crate::segment::{AsNumbers, Segment, SegmentKind};
 use std::alloc::{AllocError, Global};
 
-/// Returns the AS_PATH `first` merged with the AS4_PATH `second` (RFC 6793, section 4.2.3): the
-/// beginning of `first` that counts as many ASes as `second` lacks, then `second` without its
-/// confederation segments. If `first` counts fewer ASes than `second`, returns a copy of `first`.
+/// Merges the AS_PATH `first` with the AS4_PATH `second` (RFC 6793, section 4.2.3). Returns the
+/// longest beginning of `first` that counts as many ASes as `second` lacks, followed by `second`
+/// without its confederation segments. If `first` counts fewer ASes than `second`, returns a copy
+/// of `first`.
 pub fn merge_paths(alloc: Global, first: &AsPath, second: &AsPath) -> Result<AsPath, AllocError>
     ensures { IfOk result (IsMerge first.now second.now) }
 {
-    let total = weigh(first);
-    let replaced = weigh(second);
+    let total = count_ases(first);
+    let replaced = count_ases(second);
     if total < replaced {
         return first.clone();
     }
     let front = first.segments.as_slice();
     let back = second.segments.as_slice();
     let mut segments = Vec::with_capacity(alloc, front.len().saturating_add(back.len()))?;
-    push_front(alloc, front, total - replaced, &mut segments)?;
+    push_leading_segments(alloc, front, total - replaced, &mut segments)?;
     for segment in back {
         match segment.kind {
             SegmentKind::AsSequence | SegmentKind::AsSet => segments.push(segment.clone()?)?,
             SegmentKind::ConfedSequence | SegmentKind::ConfedSet => {}
         }
     }
-    fit(&mut segments);
+    shrink_if_spare(&mut segments);
     Ok(AsPath {
         segments: Segments::from_vec(segments),
     })
 }
 
-/// Returns the number of ASes that a path counts (RFC 6793, section 4.2.3).
-fn weigh(path: &AsPath) -> u128
+/// Returns the number of ASes that `path` counts, as [`count_ases_of_segment`] counts them (RFC 6793,
+/// section 4.2.3).
+fn count_ases(path: &AsPath) -> u128
     ensures { result ≡ path_weight path.now }
 {
     let mut total = 0;
     for segment in path.segments.as_slice() {
-        total += weigh_segment(segment) as u128;
+        total += count_ases_of_segment(segment) as u128;
     }
     total
 }
 
-/// Returns the number of ASes that a segment counts: all of a sequence, one for a set, and none for
-/// a confederation segment (RFC 5065, section 5.3).
-fn weigh_segment(segment: &Segment) -> usize
+/// Returns the number of ASes that `segment` counts: each of a sequence, one for a set, and none
+/// for a confederation segment (RFC 4271, section 9.1.2.2; RFC 5065, section 5.3).
+fn count_ases_of_segment(segment: &Segment) -> usize
     ensures { result ≡ segment_weight segment.now }
 {
     match segment.kind {
@@ -61,22 +64,22 @@ fn weigh_segment(segment: &Segment) -> usize
     }
 }
 
-/// Appends to `path` the longest beginning of `segments` that counts `weight` ASes. A sequence may
-/// be cut. On error, `path` is unspecified.
-fn push_front(
+/// Appends to `path` the longest beginning of `segments` that counts `weight` ASes, which
+/// `segments` must count at least. A sequence may be cut. On error, `path` is unspecified.
+fn push_leading_segments(
     alloc: Global,
     segments: &[Segment],
     weight: u128,
     path: &mut Vec<Segment>,
 ) -> Result<(), AllocError>
     requires { weight ≤ sum_by segment_weight segments.now }
-    ensures { OnOk result ((front : List Hop) × IsLongest weight (hops_from 0 segments.now) front
+    ensures { OnOk result ((front : List PathUnit) × IsLongest weight (units_from 0 segments.now) front
         × (path.new.items ≡ path.old.items ++ segments_of front)) }
 {
     let mut left = weight;
     for segment in segments {
         let numbers = segment.numbers.as_slice();
-        let needed = weigh_segment(segment) as u128;
+        let needed = count_ases_of_segment(segment) as u128;
         if left < needed {
             // Only a sequence is cut. A set counts one AS, so nothing of it is left.
             return push_segment(
@@ -92,15 +95,15 @@ fn push_front(
     Ok(())
 }
 
-/// Appends to `path` a segment of these AS numbers, or nothing if it is a sequence without numbers.
-/// On error, `path` is unspecified.
+/// Appends a segment of `kind` and `numbers` to `path`, or nothing if it would be a sequence
+/// without AS numbers. On error, `path` is unspecified.
 fn push_segment(
     alloc: Global,
     kind: SegmentKind,
     numbers: &[u32],
     path: &mut Vec<Segment>,
 ) -> Result<(), AllocError>
-    ensures { OnOk result (path.new.items ≡ path.old.items ++ piece kind numbers.now) }
+    ensures { OnOk result (path.new.items ≡ path.old.items ++ segment_unless_empty kind numbers.now) }
 {
     if kind == SegmentKind::AsSequence && numbers.is_empty() {
         return Ok(());

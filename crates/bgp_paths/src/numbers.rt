@@ -1,18 +1,18 @@
-//! Parsing lists of AS numbers and of communities, which are sent in network byte order.
-//! `path_reader.rt` parses segments with it, and `bgp_wire` communities. Read [`fill_numbers`]
-//! first.
+//! Parsers of lists of AS numbers and of communities, which are sent in network byte order.
+//! `path_reader.rt` parses segments with [`fill_numbers`], and `bgp_wire` communities; read that
+//! function first.
 
 ghost use Rattle.std.specs.Prelude.{◌≡◌, ◌≤◌, ◌<◌, ◌+◌, ◌/◌, ◌%◌, ◌^◌, [], length, OnOk, IfErr, vec_capacity};
 ghost use Rattle.std.specs.Int.{to_be_bytes, w16};
 ghost use Rattle.ip_prefix.specs.Sequences.{SpellsAll};
-ghost use Rattle.bgp_paths.specs.Path.{SpellsAsn, octets_at};
+ghost use Rattle.bgp_paths.specs.Path.{SpellsAsn, asn_size};
 ghost use Rattle.bgp_paths.specs.Readers.{Refuses};
 
 use crate::fault::WireFault;
 use byteorder::{BigEndian, ByteOrder};
 use std::alloc::AllocError;
 
-/// The size of an AS number in octets.
+/// The size of AS numbers.
 #[derive(Clone, Copy, Debug, PartialEq, Eq)]
 pub enum AsWidth {
     /// Two octets, as before RFC 6793.
@@ -22,10 +22,10 @@ pub enum AsWidth {
 }
 
 impl AsWidth {
-    /// Returns the size of an AS number, in octets.
+    /// Returns the size of an AS number, in octets: 2 or 4.
     #[inline]
     pub fn octets(self) -> usize
-        ensures { result ≡ octets_at self }
+        ensures { result ≡ asn_size self }
     {
         match self {
             AsWidth::Two => 2,
@@ -33,11 +33,10 @@ impl AsWidth {
         }
     }
 
-    /// Returns the big-endian AS number that `octets` spell. There must be [`AsWidth::octets`] of
-    /// them.
+    /// Parses `octets` as a big-endian AS number. There must be [`AsWidth::octets`] of them.
     #[inline]
     pub fn number(self, octets: &[u8]) -> u32
-        requires { length octets.now ≡ octets_at self }
+        requires { length octets.now ≡ asn_size self }
         ensures { SpellsAsn self result octets.now }
     {
         match self {
@@ -47,10 +46,9 @@ impl AsWidth {
     }
 }
 
-/// Replaces `numbers` with an empty list whose capacity is exactly `count`. On error, `numbers` is
-/// unspecified.
+/// Replaces `numbers` with an empty vector of capacity `count`. On error, `numbers` is unspecified.
 #[inline(never)]
-fn replace_room(numbers: &mut Vec<u32>, count: usize) -> Result<(), AllocError>
+fn replace_with_capacity(numbers: &mut Vec<u32>, count: usize) -> Result<(), AllocError>
     ensures none { OnOk result (numbers.new.items ≡ []) }
     ensures exact { OnOk result (vec_capacity numbers.new ≡ count) }
 {
@@ -59,31 +57,35 @@ fn replace_room(numbers: &mut Vec<u32>, count: usize) -> Result<(), AllocError>
     Ok(())
 }
 
-/// Clears `numbers`, and makes its capacity at least `count` and at most `count + spare`. On error,
-/// `numbers` is unspecified.
+/// Clears `numbers`, and reallocates it if its capacity isn't from `count` to `count + max_spare`. On
+/// error, `numbers` is unspecified.
 #[inline(always)]
-pub(crate) fn make_room(numbers: &mut Vec<u32>, count: usize, spare: u8) -> Result<(), AllocError>
+pub(crate) fn clear_and_reserve(
+    numbers: &mut Vec<u32>,
+    count: usize,
+    max_spare: u8,
+) -> Result<(), AllocError>
     requires small { count < 2 ^ 62 }
     ensures none { OnOk result (numbers.new.items ≡ []) }
     ensures room { OnOk result (count ≤ vec_capacity numbers.new) }
-    ensures bound { OnOk result (vec_capacity numbers.new ≤ count + spare) }
+    ensures bound { OnOk result (vec_capacity numbers.new ≤ count + max_spare) }
 {
     // The upper bound lets a list take about the memory that it needs, whatever it held before.
     numbers.clear();
     // If the capacity is below `count`, the wrapped difference is a large number.
-    if numbers.capacity().wrapping_sub(count) > usize::from(spare) {
-        replace_room(numbers, count)?;
+    if numbers.capacity().wrapping_sub(count) > usize::from(max_spare) {
+        replace_with_capacity(numbers, count)?;
     }
     Ok(())
 }
 
-/// Appends the big-endian numbers of `width` of which `octets` consist to `numbers`, which must be
-/// empty and have capacity for them.
+/// Parses `octets` as big-endian numbers of `width`, and appends them to `numbers`, which must be
+/// empty and have capacity for them. `octets` must not end inside a number.
 #[inline(always)]
 fn push_numbers(width: AsWidth, octets: &[u8], numbers: &mut Vec<u32>)
-    requires whole { length octets.now % octets_at width ≡ 0 }
+    requires whole { length octets.now % asn_size width ≡ 0 }
     requires none { numbers.old.items ≡ [] }
-    requires room { length octets.now / octets_at width ≤ vec_capacity numbers.old }
+    requires room { length octets.now / asn_size width ≤ vec_capacity numbers.old }
     ensures numbers { SpellsAll (SpellsAsn width) numbers.new.items octets.now }
     ensures kept { vec_capacity numbers.new ≡ vec_capacity numbers.old }
 {
@@ -97,26 +99,27 @@ fn push_numbers(width: AsWidth, octets: &[u8], numbers: &mut Vec<u32>)
     }
 }
 
-/// Replaces `numbers` with the big-endian numbers of `width` of which `octets` consist. The
-/// capacity is at most `spare` above their count. Returns `Malformed` if `octets` ends inside a
-/// number. On error, `numbers` is unspecified.
+/// Parses `octets` as big-endian numbers of `width`, and replaces `numbers` with them. The memory
+/// of `numbers` is reused unless its capacity is too small, or more than `max_spare` above what is
+/// needed. Returns `Malformed` if `octets` ends inside a number. On error, `numbers` is
+/// unspecified.
 #[inline(always)]
 pub fn fill_numbers(
     numbers: &mut Vec<u32>,
     width: AsWidth,
     octets: &[u8],
-    spare: u8,
+    max_spare: u8,
 ) -> Result<(), WireFault>
     ensures filled { OnOk result (SpellsAll (SpellsAsn width) numbers.new.items octets.now) }
     ensures bound { OnOk result
-        (vec_capacity numbers.new ≤ length octets.now / octets_at width + spare) }
+        (vec_capacity numbers.new ≤ length octets.now / asn_size width + max_spare) }
     ensures refused { IfErr result (Refuses (SpellsAll (SpellsAsn width)) octets.now) }
 {
     let size = width.octets();
     if octets.len() % size != 0 {
         return Err(WireFault::Malformed);
     }
-    make_room(numbers, octets.len() / size, spare)?;
+    clear_and_reserve(numbers, octets.len() / size, max_spare)?;
     match width {
         AsWidth::Two => push_numbers(AsWidth::Two, octets, numbers),
         AsWidth::Four => push_numbers(AsWidth::Four, octets, numbers),

@@ -3,13 +3,13 @@
 
 ghost use Rattle.std.specs.Prelude.{◌≡◌, [], OnOk, IfErr};
 ghost use Rattle.ip_prefix.specs.Sequences.{SpellsAll};
-ghost use Rattle.bgp_paths.specs.Readers.{no_path, Refuses};
+ghost use Rattle.bgp_paths.specs.Readers.{empty_path, Refuses};
 ghost use Rattle.bgp_paths.specs.Path.{SpellsSegment, SpellsPath};
 
 use crate::fault::WireFault;
 use crate::list_of::ListOf;
 use crate::numbers::AsWidth;
-use crate::path_reader::{fill_segments, fit};
+use crate::path_reader::{fill_segments, shrink_if_spare};
 use crate::segment::Segment;
 use std::alloc::{AllocError, Global};
 
@@ -24,36 +24,37 @@ impl Clone for ListOf<Segment> {
     }
 }
 
-/// An AS path: the ASes that a route has passed through (RFC 4271, section 4.3).
+/// An AS path: the ASes that a route has passed through (RFC 4271, section 5.1.2).
 #[derive(Clone, Debug, Drop)]
 pub struct AsPath {
-    /// The segments, the latest first.
+    /// The segments as they are sent, those of the latest ASes first.
     pub segments: Segments,
 }
 
 impl AsPath {
     /// Returns a path without segments, without allocating memory.
     #[inline]
-    pub fn none(alloc: Global) -> AsPath
-        ensures { result ≡ no_path }
+    pub fn empty(alloc: Global) -> AsPath
+        ensures { result ≡ empty_path }
     {
         AsPath {
-            segments: Segments::none(alloc),
+            segments: Segments::empty(alloc),
         }
     }
 
-    /// Removes all segments from the path.
+    /// Removes all segments. Capacity for more than four segments is freed.
     #[inline]
     pub fn clear(&mut self)
-        ensures { self.new ≡ no_path }
+        ensures { self.new ≡ empty_path }
     {
         let segments = &mut self.segments.items;
         segments.clear();
-        fit(segments);
+        shrink_if_spare(segments);
     }
 
-    /// Replaces the path with the one that `octets` spell with AS numbers of `width`, reusing its
-    /// memory. Returns `Malformed` if `octets` spell no path. On error, the path is unspecified.
+    /// Parses `octets` as an AS path with AS numbers of `width` (RFC 4271, section 4.3), and
+    /// replaces the path with it, reusing its memory. Returns `Malformed` if `octets` has another
+    /// form. On error, the path is unspecified.
     #[inline]
     pub fn fill(&mut self, alloc: Global, width: AsWidth, octets: &[u8]) -> Result<(), WireFault>
         ensures filled { OnOk result (SpellsPath width self.new octets.now) }

@@ -1,11 +1,11 @@
-//! Parsing AS paths (RFC 4271, section 4.3; RFC 5065, section 3). `AsPath::fill` calls
-//! [`fill_segments`]; read that first.
+//! A parser of AS paths (RFC 4271, section 4.3; RFC 5065, section 3). `AsPath::fill` calls
+//! [`fill_segments`]; read that function first.
 
 ghost use Rattle.std.specs.Prelude.{◌≡◌, ℕ, [], ◌∷◌, ◌++◌, OnOk, IfErr, IfSome, IfNone};
 ghost use Rattle.ip_prefix.specs.Sequences.{SpellsAll};
 ghost use Rattle.ip_prefix.specs.Fronts.{BeginsWithNone};
 ghost use Rattle.bgp_paths.specs.Path.{SpellsAsn, SpellsSegment};
-ghost use Rattle.bgp_paths.specs.Readers.{IsFramed, Refuses};
+ghost use Rattle.bgp_paths.specs.Readers.{IsSplitSegment, Refuses};
 
 use crate::fault::WireFault;
 use crate::numbers::{AsWidth, fill_numbers};
@@ -25,21 +25,22 @@ const AS_CONFED_SET: u8 = 4;
 /// one more, the capacity is shrunk to their number.
 const MOST_SPARE: usize = 4;
 
-/// The segment at the start of octets: its kind (RFC 4271, section 4.3; RFC 5065, section 3), the
+/// A segment at the start of a slice: its kind (RFC 4271, section 4.3; RFC 5065, section 3), the
 /// octets of its AS numbers, and the octets after it.
 #[derive(Clone, Copy)]
-struct FramedSegment<'a> {
+struct SegmentAndRest<'a> {
     kind: SegmentKind,
     body: &'a [u8],
     rest: &'a [u8],
 }
 
-/// Finds the segment with AS numbers of `width` at the start of `octets`. Returns `None` if its
-/// type is unknown, its count of AS numbers is 0, or `octets` ends inside it.
+/// Splits a segment with AS numbers of `width` off the start of `octets`. Its AS numbers aren't
+/// parsed. Returns `None` if its type is unknown, its count of AS numbers is 0, or `octets` ends
+/// inside it.
 #[inline(always)]
-fn frame_segment(width: AsWidth, octets: &[u8]) -> Option<FramedSegment<'_>>
+fn split_segment(width: AsWidth, octets: &[u8]) -> Option<SegmentAndRest<'_>>
     ensures some { IfSome result (λ f. (count : ℕ)
-        × IsFramed width f.kind count f.body.now f.rest.now octets.now) }
+        × IsSplitSegment width f.kind count f.body.now f.rest.now octets.now) }
     ensures none { IfNone result (BeginsWithNone (SpellsSegment width) octets.now) }
 {
     let (&code, after_code) = octets.split_first()?;
@@ -56,11 +57,11 @@ fn frame_segment(width: AsWidth, octets: &[u8]) -> Option<FramedSegment<'_>>
     }
     let size = usize::from(count) * width.octets();
     let (body, rest) = numbers.split_at_checked(size)?;
-    Some(FramedSegment { kind, body, rest })
+    Some(SegmentAndRest { kind, body, rest })
 }
 
-/// Shrinks the capacity of `segments` to their number. If memory allocation fails, the capacity
-/// stays.
+/// Shrinks the capacity of `segments` to their number. If memory allocation fails, the capacity is
+/// unchanged.
 #[inline(never)]
 fn shrink(segments: &mut Vec<Segment>)
     ensures { segments.new.items ≡ segments.old.items }
@@ -69,10 +70,10 @@ fn shrink(segments: &mut Vec<Segment>)
     segments.shrink_to_fit();
 }
 
-/// Shrinks the capacity of `segments` to their number if it exceeds that by more than
-/// [`MOST_SPARE`]. If memory allocation fails, the capacity stays.
+/// Shrinks the capacity of `segments` to their number if it is more than [`MOST_SPARE`] above it.
+/// If memory allocation fails, the capacity is unchanged.
 #[inline(always)]
-pub(crate) fn fit(segments: &mut Vec<Segment>)
+pub(crate) fn shrink_if_spare(segments: &mut Vec<Segment>)
     ensures { segments.new.items ≡ segments.old.items }
 {
     if segments.capacity() - segments.len() > MOST_SPARE {
@@ -82,7 +83,10 @@ pub(crate) fn fit(segments: &mut Vec<Segment>)
 
 /// Appends a sequence without AS numbers to `segments`. On error, `segments` is unspecified.
 #[inline(never)]
-pub(crate) fn push_empty(alloc: Global, segments: &mut Vec<Segment>) -> Result<(), AllocError>
+pub(crate) fn push_empty_segment(
+    alloc: Global,
+    segments: &mut Vec<Segment>,
+) -> Result<(), AllocError>
     ensures { OnOk result (segments.new.items ≡ segments.old.items
         ++ record { numbers = []; kind = SegmentKind.AsSequence } ∷ []) }
 {
@@ -90,13 +94,14 @@ pub(crate) fn push_empty(alloc: Global, segments: &mut Vec<Segment>) -> Result<(
     if segments.capacity() == 0 {
         segments.reserve_exact(1)?;
     }
-    let (numbers, kind) = (AsNumbers::none(alloc), SegmentKind::AsSequence);
+    let (numbers, kind) = (AsNumbers::empty(alloc), SegmentKind::AsSequence);
     segments.push(Segment { numbers, kind })?;
     Ok(())
 }
 
-/// Replaces `segments` with those that `octets` spell with AS numbers of `width`, reusing their
-/// memory. Returns `Malformed` if `octets` spell no path. On error, `segments` is unspecified.
+/// Parses `octets` as segments with AS numbers of `width`, and replaces `segments` with them,
+/// reusing their memory. Returns `Malformed` if `octets` has another form. On error, `segments` is
+/// unspecified.
 #[inline(always)]
 pub(crate) fn fill_segments(
     alloc: Global,
@@ -111,11 +116,11 @@ pub(crate) fn fill_segments(
     let mut count = 0;
     let mut rest = octets;
     while !rest.is_empty() {
-        let Some(framed) = frame_segment(width, rest) else {
+        let Some(framed) = split_segment(width, rest) else {
             return Err(WireFault::Malformed);
         };
         if count == segments.len() {
-            push_empty(alloc, segments)?;
+            push_empty_segment(alloc, segments)?;
         }
         let segment = &mut segments[count];
         segment.kind = framed.kind;
@@ -125,6 +130,6 @@ pub(crate) fn fill_segments(
         rest = framed.rest;
     }
     segments.truncate(count);
-    fit(segments);
+    shrink_if_spare(segments);
     Ok(())
 }

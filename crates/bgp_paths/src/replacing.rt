@@ -1,27 +1,28 @@
-//! Copies of paths and numbers that reuse the memory of others. `bgp_wire` calls [`copy_path`] and
-//! [`copy_numbers`] to copy the attributes of a route over those of another.
+//! Copies of AS paths and of numbers that reuse the memory of others. `bgp_wire` calls
+//! [`copy_path`] and [`copy_numbers`] to copy the attributes of a route over those of another.
 
 ghost use Rattle.std.specs.Prelude.{◌≡◌, IfOk};
 
-use crate::numbers::make_room;
+use crate::numbers::clear_and_reserve;
 use crate::path::{AsPath, Segments};
-use crate::path_reader::{fit, push_empty};
+use crate::path_reader::{push_empty_segment, shrink_if_spare};
 use crate::segment::MOST_SPARE;
 use std::alloc::{AllocError, Global};
 use std::mem;
 
-/// Returns a copy of `numbers` that reuses the memory of `old`. Memory is allocated if the capacity
-/// of `old` is too small, or more than `spare` above the number of `numbers`.
-pub fn copy_numbers(old: Vec<u32>, numbers: &[u32], spare: u8) -> Result<Vec<u32>, AllocError>
+/// Returns a copy of `numbers` in the memory of `old`. Memory is allocated only if the capacity of
+/// `old` is too small, or more than `max_spare` above the length of `numbers`.
+pub fn copy_numbers(old: Vec<u32>, numbers: &[u32], max_spare: u8) -> Result<Vec<u32>, AllocError>
     ensures { IfOk result (λ copy. copy.items ≡ numbers.now) }
 {
     let mut copy = old;
-    make_room(&mut copy, numbers.len(), spare)?;
+    clear_and_reserve(&mut copy, numbers.len(), max_spare)?;
     copy.extend_from_slice(numbers)?;
     Ok(copy)
 }
 
-/// Returns a copy of `path` that reuses the memory of `old`.
+/// Returns a copy of `path` in the memory of `old`. More memory is allocated where that of `old` is
+/// too small.
 pub fn copy_path(alloc: Global, old: AsPath, path: &AsPath) -> Result<AsPath, AllocError>
     ensures { IfOk result (λ copy. copy ≡ path.now) }
 {
@@ -32,7 +33,7 @@ pub fn copy_path(alloc: Global, old: AsPath, path: &AsPath) -> Result<AsPath, Al
     let mut count = 0;
     for segment in path.segments.as_slice() {
         if count == segments.len() {
-            push_empty(alloc, &mut segments)?;
+            push_empty_segment(alloc, &mut segments)?;
         }
         let copy = &mut segments[count];
         let old = mem::replace(&mut copy.numbers.items, Vec::new(alloc));
@@ -41,7 +42,7 @@ pub fn copy_path(alloc: Global, old: AsPath, path: &AsPath) -> Result<AsPath, Al
         count += 1;
     }
     segments.truncate(count);
-    fit(&mut segments);
+    shrink_if_spare(&mut segments);
     Ok(AsPath {
         segments: Segments::from_vec(segments),
     })

@@ -3,8 +3,8 @@
 
 use crate::list_of::ListOf;
 
-/// The greatest number by which the capacity of a segment may exceed the number of its AS numbers.
-/// At one more, they move to memory without spare capacity.
+/// The greatest spare capacity of a segment, in AS numbers. With capacity for one more, they are
+/// copied to memory of their size.
 pub(crate) const MOST_SPARE: u8 = 8;
 
 /// The kind of a segment of an AS path (RFC 4271, section 4.3; RFC 5065, section 3).

@@ -1,15 +1,15 @@
-//! Printing AS paths and communities. `bgpdump_lines` calls [`AsPath::append_to`] and
+//! Printing AS paths and communities as text. `bgpdump_lines` calls [`AsPath::append_to`] and
 //! [`append_communities`] for each printed route; read those first.
 
 ghost use Rattle.std.specs.Prelude.{◌≡◌, ◌+◌, ◌<◌, ◌≤◌, [], ◌∷◌, ◌++◌, OnOk, OnErr, length, map, decimal, flat_map};
 ghost use Rattle.bgp_paths.specs.Text.{bracketed_numbers, segment_words, path_text, halves_text, communities_text};
 ghost use Rattle.ip_prefix.specs.Written.{IsWritten, ended_words};
 ghost use Rattle.octet_text.specs.declared.cursor.TheConstants.{SPACE};
-ghost use Rattle.bgp_paths.specs.Readers.{StillBegins, WordsJoined};
+ghost use Rattle.bgp_paths.specs.Readers.{StillBegins, JoinsWords};
 
 use crate::path::AsPath;
 use crate::segment::{Segment, SegmentKind};
-use ip_prefix::{COLON, SPACE, Text, WORD_ROOM, Word, put_octets, write_ended_decimal};
+use ip_prefix::{COLON, SPACE, Text, WORD_ROOM, WordFormat, put_octets, write_ended_decimal};
 use std::alloc::AllocError;
 
 /// The community of routes that are not to be announced outside the AS or confederation (RFC 1997).
@@ -20,9 +20,9 @@ const NO_ADVERTISE: u32 = 0xFFFF_FF02;
 /// confederation (RFC 1997).
 const NO_EXPORT_SUBCONFED: u32 = 0xFFFF_FF03;
 
-/// The octets around the numbers of a segment in brackets, and between them.
+/// The octets around the numbers of a segment in brackets, and between the numbers.
 #[derive(Clone, Copy)]
-struct Marks {
+struct Brackets {
     /// The octet before the first number.
     open: u8,
     /// The octet between two numbers.
@@ -31,22 +31,22 @@ struct Marks {
     close: u8,
 }
 
-/// The marks of a set, as in `{1,2}`.
-const AS_SET_MARKS: Marks = Marks {
+/// The octets of a set, as in `{1,2}`.
+const AS_SET_BRACKETS: Brackets = Brackets {
     open: b'{',
     separator: b',',
     close: b'}',
 };
 
-/// The marks of a sequence of members of a confederation, as in `(1 2)`.
-const CONFED_SEQUENCE_MARKS: Marks = Marks {
+/// The octets of a sequence of members of a confederation, as in `(1 2)`.
+const CONFED_SEQUENCE_BRACKETS: Brackets = Brackets {
     open: b'(',
     separator: SPACE,
     close: b')',
 };
 
-/// The marks of a set of members of a confederation, as in `[1,2]`.
-const CONFED_SET_MARKS: Marks = Marks {
+/// The octets of a set of members of a confederation, as in `[1,2]`.
+const CONFED_SET_BRACKETS: Brackets = Brackets {
     open: b'[',
     separator: b',',
     close: b']',
@@ -54,7 +54,7 @@ const CONFED_SET_MARKS: Marks = Marks {
 
 impl AsPath {
     /// Appends the path as text: the AS numbers of sequences, and each other segment in brackets,
-    /// joined by spaces. If memory allocation fails, `text` is unchanged.
+    /// joined by spaces. A path without segments has no octets. On error, `text` is unchanged.
     #[tactic(auto, unfolding(crate::specs::Text::path_text))]
     pub fn append_to(&self, text: &mut Text) -> Result<(), AllocError>
         ensures appended { OnOk result (text.new ≡ text.old ++ path_text self.now) }
@@ -70,8 +70,8 @@ impl AsPath {
         result
     }
 
-    /// Appends the path as text to a vector, in the form of [`AsPath::append_to`]. If memory
-    /// allocation fails, the vector is unchanged.
+    /// Appends the path as text to a vector, in the form of [`AsPath::append_to`]. On error, `text`
+    /// is unchanged.
     pub fn put_text(&self, text: &mut Vec<u8>) -> Result<(), AllocError>
         ensures appended { OnOk result (text.new.items ≡ text.old.items ++ path_text self.now) }
         ensures unchanged { OnErr result (text.new.items ≡ text.old.items) }
@@ -83,21 +83,21 @@ impl AsPath {
     }
 }
 
-/// Appends the communities (RFC 1997) as text, joined by spaces. Each is its two 16-bit halves in
-/// decimal, joined by a colon, but three have names: `no-export`, `no-advertise` and `local-AS`. If
-/// memory allocation fails, `text` is unchanged.
+/// Appends communities (RFC 1997) as text, joined by spaces. Each is its two 16-bit halves in
+/// decimal, joined by a colon, but three have names: `no-export`, `no-advertise` and `local-AS`. On
+/// error, `text` is unchanged.
 pub fn append_communities(communities: &[u32], text: &mut Text) -> Result<(), AllocError>
     ensures appended { OnOk result (text.new ≡ text.old ++ communities_text communities.now) }
     ensures unchanged { OnErr result (text.new ≡ text.old) }
 {
     let before = text.len();
-    text.put_ended_words::<CommunityWord>(communities, SPACE)?;
+    text.put_ended_words::<CommunityFormat>(communities, SPACE)?;
     drop_separator(before, text);
     Ok(())
 }
 
-/// Appends the communities as text to a vector, in the form of [`append_communities`]. If memory
-/// allocation fails, the vector is unchanged.
+/// Appends communities as text to a vector, in the form of [`append_communities`]. On error, `text`
+/// is unchanged.
 pub fn put_communities(communities: &[u32], text: &mut Vec<u8>) -> Result<(), AllocError>
     ensures appended { OnOk result
         (text.new.items ≡ text.old.items ++ communities_text communities.now) }
@@ -109,17 +109,17 @@ pub fn put_communities(communities: &[u32], text: &mut Vec<u8>) -> Result<(), Al
     result
 }
 
-/// Removes the separator after the last of the words that were appended to a text of `before`
-/// octets. If none were, `text` is unchanged.
+/// Removes the last octet of `text`, which is the separator after its last word. If `text` has only
+/// the `before` octets that it had before the words, it is unchanged.
 fn drop_separator(before: usize, text: &mut Text)
-    ensures { WordsJoined before text.old text.new }
+    ensures { JoinsWords before text.old text.new }
 {
     let end = text.len().saturating_sub(1).max(before);
     text.truncate(end);
 }
 
-/// Appends the words of each segment, each followed by a space. On error, `text` still begins with
-/// what it had, and the rest is unspecified.
+/// Appends the words of each of `segments`, a space after each word. On error, `text` still begins
+/// with what it had, and the rest is unspecified.
 fn put_segments(segments: &[Segment], text: &mut Text) -> Result<(), AllocError>
     ensures appended { OnOk result (text.new ≡
         text.old ++ ended_words SPACE (flat_map segment_words segments.now)) }
@@ -129,17 +129,17 @@ fn put_segments(segments: &[Segment], text: &mut Text) -> Result<(), AllocError>
         let numbers = segment.numbers.as_slice();
         match segment.kind {
             SegmentKind::AsSequence => text.put_ended_decimals(numbers, SPACE)?,
-            SegmentKind::AsSet => put_bracketed(numbers, AS_SET_MARKS, text)?,
-            SegmentKind::ConfedSequence => put_bracketed(numbers, CONFED_SEQUENCE_MARKS, text)?,
-            SegmentKind::ConfedSet => put_bracketed(numbers, CONFED_SET_MARKS, text)?,
+            SegmentKind::AsSet => put_bracketed(numbers, AS_SET_BRACKETS, text)?,
+            SegmentKind::ConfedSequence => put_bracketed(numbers, CONFED_SEQUENCE_BRACKETS, text)?,
+            SegmentKind::ConfedSet => put_bracketed(numbers, CONFED_SET_BRACKETS, text)?,
         }
     }
     Ok(())
 }
 
-/// Appends the numbers in brackets as one word, followed by a space. On error, `text` still begins
-/// with what it had, and the rest is unspecified.
-fn put_bracketed(numbers: &[u32], marks: Marks, text: &mut Text) -> Result<(), AllocError>
+/// Appends `numbers` in brackets, with the octets of `marks`, and then a space. On error, `text`
+/// still begins with what it had, and the rest is unspecified.
+fn put_bracketed(numbers: &[u32], marks: Brackets, text: &mut Text) -> Result<(), AllocError>
     ensures appended { OnOk result (text.new ≡
         text.old ++ ended_words SPACE (bracketed_numbers marks numbers.now ∷ [])) }
     ensures kept { OnErr result (StillBegins text.old text.new) }
@@ -151,11 +151,11 @@ fn put_bracketed(numbers: &[u32], marks: Marks, text: &mut Text) -> Result<(), A
     text.extend_from_slice(&[marks.close, SPACE])
 }
 
-/// The words of communities: names of `NO_EXPORT`, `NO_ADVERTISE` and `NO_EXPORT_SUBCONFED`, and
-/// the two 16-bit halves in decimal, joined by a colon, of all others.
-struct CommunityWord;
+/// How communities are written as words: three well-known ones by name, and each other as its two
+/// 16-bit halves in decimal, joined by a colon.
+struct CommunityFormat;
 
-impl Word for CommunityWord {
+impl WordFormat for CommunityFormat {
     ghost use Rattle.bgp_paths.specs.Text.{community_text};
 
     ghost word = { community_text };
@@ -165,9 +165,9 @@ impl Word for CommunityWord {
     fn write_ended(community: u32, end: u8, text: &mut [u8], at: usize) -> usize {
         match community {
             _ if community < NO_EXPORT => write_halves(community, end, text, at),
-            NO_EXPORT => write_name(b"no-export", end, text, at),
-            NO_ADVERTISE => write_name(b"no-advertise", end, text, at),
-            NO_EXPORT_SUBCONFED => write_name(b"local-AS", end, text, at),
+            NO_EXPORT => write_community_name(b"no-export", end, text, at),
+            NO_ADVERTISE => write_community_name(b"no-advertise", end, text, at),
+            NO_EXPORT_SUBCONFED => write_community_name(b"local-AS", end, text, at),
             _ => write_halves(community, end, text, at),
         }
     }
@@ -185,10 +185,10 @@ fn write_halves(number: u32, end: u8, text: &mut [u8], at: usize) -> usize
     write_ended_decimal(number % 0x1_0000, end, text, behind)
 }
 
-/// Writes `name` and then the octet `end` into `text` at offset `at`, and returns the offset of the
-/// octet after `end`.
+/// Writes `name`, which is of a community, and then the octet `end` into `text` at offset `at`.
+/// Returns the offset of the octet after `end`.
 #[inline(always)]
-fn write_name(name: &[u8], end: u8, text: &mut [u8], at: usize) -> usize
+fn write_community_name(name: &[u8], end: u8, text: &mut [u8], at: usize) -> usize
     requires { at + length name.now < length text.old }
     ensures written { IsWritten text.old at (name.now ++ end ∷ []) text.new result }
     ensures short { result ≡ at + length name.now + 1 }

@@ -7,10 +7,10 @@ use Rattle.ip_prefix.specs.Network.{Address, octet_count}
 use Rattle.ip_prefix.specs.Bits.{bits_of_octets}
 use Rattle.octet_forms.proofs.Lists.{append_parts}
 use Rattle.bgp_wire.specs.declared.next_hop.TheConstants.{FAMILY_SIZE, IPV6_SIZE, BOTH_SIZE}
-use Rattle.bgp_wire.specs.Reach.{IsLinkLocal, SpellsNextHop, SpellsHopAlone, SpellsRibHop}
+use Rattle.bgp_wire.specs.Reach.{MayTrailHop, SpellsNextHop, SpellsSizedHop, SpellsRibHop}
 
 -- the octets behind the first sixteen are none, or a link-local address
-link_local_size : (octets : List ℕ) → ((length octets ≡ IPV6_SIZE) ⊎ (length octets ≡ BOTH_SIZE)) → IsLinkLocal V6 (drop IPV6_SIZE octets)
+link_local_size : (octets : List ℕ) → ((length octets ≡ IPV6_SIZE) ⊎ (length octets ≡ BOTH_SIZE)) → MayTrailHop V6 (drop IPV6_SIZE octets)
 link_local_size octets (inl e) = inl (nil_from_length (drop IPV6_SIZE octets) (omega (arith, length-drop IPV6_SIZE octets, e)))
 link_local_size octets (inr e) = inr (omega (arith, length-drop IPV6_SIZE octets, e))
 
@@ -36,7 +36,7 @@ pub length-hop : (hop : Address) (octets : List ℕ) → SpellsNextHop hop octet
 length-hop hop octets s = omega (arith, some_octets hop.family, s.spelled.size, ap length s.whole, length-append s.address s.link_local)
 
 -- a next hop whose length stands in front is spelled by as many octets
-pub hop_in_front : (hop : Address) (len : ℕ) (rest octets : List ℕ) → octets ≡ len ∷ rest → SpellsHopAlone hop octets → (len ≤ length rest) × SpellsNextHop hop (take len rest)
+pub hop_in_front : (hop : Address) (len : ℕ) (rest octets : List ℕ) → octets ≡ len ∷ rest → SpellsSizedHop hop octets → (len ≤ length rest) × SpellsNextHop hop (take len rest)
 hop_in_front hop len rest octets e s =
     let one : len ∷ rest ≡ length s.front ∷ (s.front ++ s.more) = sym e ∙ s.whole in
     let lengths : len ≡ length s.front = ap (λ l. get_or l 0 0) one in
@@ -45,7 +45,7 @@ hop_in_front hop len rest octets e s =
     let parts = append_parts (take len rest) s.front (drop len rest) s.more (length-take-le len rest within ∙ lengths) (take-append-drop len rest ∙ rests) in
     (within, subst (SpellsNextHop hop) (sym parts.0) s.spelled)
 
-pub hop_alone : (hop : Address) (len : ℕ) (rest octets : List ℕ) → octets ≡ len ∷ rest → len ≤ length rest → SpellsNextHop hop (take len rest) → SpellsHopAlone hop octets
+pub hop_alone : (hop : Address) (len : ℕ) (rest octets : List ℕ) → octets ≡ len ∷ rest → len ≤ length rest → SpellsNextHop hop (take len rest) → SpellsSizedHop hop octets
 hop_alone hop len rest octets e within s = record {
   front = take len rest;
   spelled = s;
@@ -56,17 +56,17 @@ hop_alone hop len rest octets e within s = record {
 -- ---- RIB entries
 
 -- a first octet that isn't 0 tells the abbreviated form
-pub abbreviated : (hop : Address) (first : ℕ) (rest octets : List ℕ) → octets ≡ first ∷ rest → (first ≡ 0 → ⊥) → SpellsRibHop hop octets → SpellsHopAlone hop octets
+pub abbreviated : (hop : Address) (first : ℕ) (rest octets : List ℕ) → octets ≡ first ∷ rest → (first ≡ 0 → ⊥) → SpellsRibHop hop octets → SpellsSizedHop hop octets
 abbreviated hop first rest octets e other (inl s) = s
 abbreviated hop first rest octets e other (inr s) = absurd (other (ap (λ l. get_or l 0 0) (sym e ∙ s.whole)))
 
 -- and one that is 0 the full form
-pub in_full : (hop : Address) (first : ℕ) (rest octets : List ℕ) → octets ≡ first ∷ rest → first ≡ 0 → SpellsRibHop hop octets → (FAMILY_SIZE ≤ length octets) × SpellsHopAlone hop (drop FAMILY_SIZE octets)
+pub in_full : (hop : Address) (first : ℕ) (rest octets : List ℕ) → octets ≡ first ∷ rest → first ≡ 0 → SpellsRibHop hop octets → (FAMILY_SIZE ≤ length octets) × SpellsSizedHop hop (drop FAMILY_SIZE octets)
 in_full hop first rest octets e zero (inl s) =
     absurd (omega (arith, ap (λ l. get_or l 0 0) (sym e ∙ s.whole), zero, length-hop hop s.front s.spelled))
-in_full hop first rest octets e zero (inr s) = (omega (arith, ap length s.whole), subst (SpellsHopAlone hop) (sym (ap (drop FAMILY_SIZE) s.whole)) s.spelled)
+in_full hop first rest octets e zero (inr s) = (omega (arith, ap length s.whole), subst (SpellsSizedHop hop) (sym (ap (drop FAMILY_SIZE) s.whole)) s.spelled)
 
-pub full_form : (hop : Address) (first : ℕ) (rest octets : List ℕ) → octets ≡ first ∷ rest → first ≡ 0 → FAMILY_SIZE ≤ length octets → SpellsHopAlone hop (drop FAMILY_SIZE octets) → SpellsRibHop hop octets
+pub full_form : (hop : Address) (first : ℕ) (rest octets : List ℕ) → octets ≡ first ∷ rest → first ≡ 0 → FAMILY_SIZE ≤ length octets → SpellsSizedHop hop (drop FAMILY_SIZE octets) → SpellsRibHop hop octets
 full_form hop first rest octets e zero size s = inr record {
   family_end = get_or octets 1 0;
   subsequent = get_or octets 2 0;

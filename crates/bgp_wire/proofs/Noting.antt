@@ -4,8 +4,8 @@ use Rattle.std.proofs.lemmas.Grind.{common_steps}
 use Rattle.std.proofs.lemmas.Bool.Decides.{eqb_tells}
 use Rattle.bgp_wire.specs.declared.framing.TheConstants.{KINDS}
 use Rattle.bgp_wire.specs.Attribute.{Attribute, first_value, repeats}
-use Rattle.bgp_wire.specs.PlainValues.{value_or, value_at, with_value, Types, Tells}
-use Rattle.bgp_wire.specs.Content.{FirstOf, firsts_of}
+use Rattle.bgp_wire.specs.PlainValues.{value_or, value_at, with_value, SeenFlags, AreTypesOf}
+use Rattle.bgp_wire.specs.Content.{FirstValues, first_values}
 
 -- ---- the first value of a type, with one attribute more
 
@@ -18,18 +18,18 @@ value_or-Some first new = grind arith
 chosen_first : (test : Bool) (value : List ℕ) (old new : Option (List ℕ)) → (if test then Some value else value_or old new) ≡ value_or (if test then Some value else old) new
 chosen_first test value old new = grind arith
 
-first_value-more : (wanted : ℕ) (list : List Attribute) (a : Attribute) → first_value wanted (list ++ a ∷ []) ≡ with_value a.kind a.value (firsts_of list) wanted
+first_value-more : (wanted : ℕ) (list : List Attribute) (a : Attribute) → first_value wanted (list ++ a ∷ []) ≡ with_value a.kind a.value (first_values list) wanted
 first_value-more wanted [] a = sym (value_or-None (value_at a.kind a.value wanted))
 first_value-more wanted (x ∷ list) a =
     ap (λ more. if x.kind == wanted then Some x.value else more) (first_value-more wanted list a)
     ∙ chosen_first (x.kind == wanted) x.value (first_value wanted list) (value_at a.kind a.value wanted)
 
 -- the first values of a list with one attribute more
-pub firsts_of-more : (list : List Attribute) (a : Attribute) → firsts_of (list ++ a ∷ []) ≡ with_value a.kind a.value (firsts_of list)
-firsts_of-more list a = λ i wanted. first_value-more wanted list a i
+pub first_values-more : (list : List Attribute) (a : Attribute) → first_values (list ++ a ∷ []) ≡ with_value a.kind a.value (first_values list)
+first_values-more list a = λ i wanted. first_value-more wanted list a i
 
 -- a later value of a type has no part in it
-pub later_value : (kind : ℕ) (octets : List ℕ) (first : FirstOf) → is_some (first kind) ≡ true → with_value kind octets first ≡ first
+pub later_value : (kind : ℕ) (octets : List ℕ) (first : FirstValues) → is_some (first kind) ≡ true → with_value kind octets first ≡ first
 later_value kind octets first some = λ i wanted. kept wanted i
   where
     held : (old new : Option (List ℕ)) → is_some old ≡ true → value_or old new ≡ old
@@ -43,7 +43,7 @@ later_value kind octets first some = λ i wanted. kept wanted i
         ]
 
 -- the first of its type is its value
-pub first_of_type : (kind : ℕ) (octets : List ℕ) (first : FirstOf) → first kind ≡ None → with_value kind octets first kind ≡ Some octets
+pub first_of_type : (kind : ℕ) (octets : List ℕ) (first : FirstValues) → first kind ≡ None → with_value kind octets first kind ≡ Some octets
 first_of_type kind octets first none =
     ap (λ old. value_or old (value_at kind octets kind)) none
     ∙ value_or-None (value_at kind octets kind)
@@ -82,10 +82,10 @@ repeats-more wanted (x ∷ list) a =
     (seen-more wanted list a) (repeats-more wanted list a)
 
 -- the types with one attribute more, where each is told as before or by the new one
-pub noted : (old new : Types) (list : List Attribute) (a : Attribute)
+pub noted : (old new : SeenFlags) (list : List Attribute) (a : Attribute)
     → ((wanted : ℕ) → wanted < KINDS → get_or new.seen wanted false ≡ (get_or old.seen wanted false || (a.kind == wanted)))
     → ((wanted : ℕ) → wanted < KINDS → get_or new.again wanted false ≡ (get_or old.again wanted false || ((a.kind == wanted) && get_or old.seen wanted false)))
-    → Tells old list → Tells new (list ++ a ∷ [])
+    → AreTypesOf old list → AreTypesOf new (list ++ a ∷ [])
 noted old new list a each again h = record {
   each = λ wanted within. each wanted within ∙ ap (λ b. b || (a.kind == wanted)) (h.each wanted within) ∙ sym (seen-more wanted list a);
   repeated = λ wanted within. again wanted within ∙ (λ i. h.repeated wanted within i || ((a.kind == wanted) && h.each wanted within i)) ∙ sym (repeats-more wanted list a);

@@ -1,7 +1,7 @@
 -- No octets begin with spellings of two attributes.
 use Rattle.std.proofs.Common.{◌≡◌, ℕ, ◌<◌, Bool, true, false, List, [], ◌∷◌, ◌++◌, length, ap, sym, subst, ◌∙◌, append_assoc}
 use Rattle.ip_prefix.specs.Sequences.{Begins}
-use Rattle.ip_prefix.specs.Fronts.{IsCode}
+use Rattle.ip_prefix.specs.Fronts.{IsSelfDelimiting}
 use Rattle.octet_forms.proofs.Numbers.{one_w16}
 use Rattle.octet_forms.proofs.Lists.{append_parts}
 use Rattle.bgp_wire.specs.Attribute.{Attribute, is_extended, length_octets, length_limit, SpellsAttribute}
@@ -22,7 +22,7 @@ same_length false m n x y p q e =
     (first, rest)
 same_length true m n x y p q e = one_w16 m n x y p q e
 
-pub attribute_code : IsCode SpellsAttribute
+pub attribute_code : IsSelfDelimiting SpellsAttribute
 attribute_code = record { some = some; same = same }
   where
     some : (a : Attribute) → SpellsAttribute a [] → ⊥

@@ -9,11 +9,11 @@ use Rattle.octet_forms.proofs.Numbers.{same_w16}
 use Rattle.octet_forms.proofs.Lists.{append_parts}
 use Rattle.bgp_wire.specs.declared.message.TheConstants.{MARKER_SIZE}
 use Rattle.bgp_wire.specs.declared.lengths.TheConstants.{LENGTH_SIZE}
-use Rattle.bgp_wire.specs.Reach.{SpellsNextHop, Reach, family_code, unicast_octets, IsOfAnother, HopStands, SpellsUnicast, SaysReach}
-use Rattle.bgp_wire.specs.Update.{sized_octets, IsUpdate, IsMessage}
+use Rattle.bgp_wire.specs.Reach.{SpellsNextHop, Reach, family_code, unicast_octets, HasOtherAfiSafi, BeginsWithHop, SpellsReach, SpellsMpReach}
+use Rattle.bgp_wire.specs.Update.{with_u16_length, IsUpdate, IsMessage}
 
 -- a next hop whose length stands in front is spelled by as many octets, and another stands behind them
-pub hop_here : (hop : Address) (rest octets : List ℕ) (len : ℕ) (after : List ℕ) → octets ≡ len ∷ after → HopStands hop rest octets → SpellsNextHop hop (take len after)
+pub hop_here : (hop : Address) (rest octets : List ℕ) (len : ℕ) (after : List ℕ) → octets ≡ len ∷ after → BeginsWithHop hop rest octets → SpellsNextHop hop (take len after)
 hop_here hop rest octets len after e s =
     let one : len ∷ after ≡ length s.front ∷ (s.front ++ s.reserved ∷ rest) = sym e ∙ s.whole in
     let lengths : len ≡ length s.front = ap (λ l. get_or l 0 0) one in
@@ -23,7 +23,7 @@ hop_here hop rest octets len after e s =
     subst (SpellsNextHop hop) (sym parts.0) s.spelled
 
 -- what stands behind two next hops of one list is one
-pub same_stand : (hop other : Address) (rest more octets : List ℕ) (s : HopStands hop rest octets) (t : HopStands other more octets) → (s.front ≡ t.front) × (rest ≡ more)
+pub same_stand : (hop other : Address) (rest more octets : List ℕ) (s : BeginsWithHop hop rest octets) (t : BeginsWithHop other more octets) → (s.front ≡ t.front) × (rest ≡ more)
 same_stand hop other rest more octets s t =
     let one : length s.front ∷ (s.front ++ s.reserved ∷ rest) ≡ length t.front ∷ (t.front ++ t.reserved ∷ more) = sym s.whole ∙ t.whole in
     let parts = append_parts s.front t.front (s.reserved ∷ rest) (t.reserved ∷ more) (ap (λ l. get_or l 0 0) one) (ap (drop 1) one) in
@@ -40,18 +40,18 @@ same_unicast family other rest more octets p q =
     (same_family family_code (λ e. omega (arith, e)) family other (ap (λ l. get_or l 1 0) one), ap (drop 3) one)
 
 -- and with another then not
-pub not_another : (family : Family) (rest octets : List ℕ) → octets ≡ unicast_octets family ++ rest → IsOfAnother octets → ⊥
+pub not_another : (family : Family) (rest octets : List ℕ) → octets ≡ unicast_octets family ++ rest → HasOtherAfiSafi octets → ⊥
 not_another family rest octets e a = a.other family (ap (take 3) (sym a.whole ∙ e))
 
 -- behind unicast of a family stand the prefixes that are announced
-pub reach_part : (family : Family) (rest octets : List ℕ) → octets ≡ unicast_octets family ++ rest → (value : Option Reach) → SaysReach value (Some octets) → (reach : Reach) × SpellsUnicast family reach rest
+pub reach_part : (family : Family) (rest octets : List ℕ) → octets ≡ unicast_octets family ++ rest → (value : Option Reach) → SpellsMpReach value (Some octets) → (reach : Reach) × SpellsReach family reach rest
 reach_part family rest octets e None s = absurd (not_another family rest octets e s)
 reach_part family rest octets e (Some reach) s =
     let same = same_unicast s.family family s.rest rest octets s.whole e in
-    (reach, subst (SpellsUnicast family reach) same.1 (subst (λ f. SpellsUnicast f reach s.rest) same.0 s.spelled))
+    (reach, subst (SpellsReach family reach) same.1 (subst (λ f. SpellsReach f reach s.rest) same.0 s.spelled))
 
 -- octets behind their length are those in front of one list
-pub same_sized : (front other rest more : List ℕ) → length front < 2 ^ 16 → length other < 2 ^ 16 → sized_octets front ++ rest ≡ sized_octets other ++ more → (front ≡ other) × (rest ≡ more)
+pub same_sized : (front other rest more : List ℕ) → length front < 2 ^ 16 → length other < 2 ^ 16 → with_u16_length front ++ rest ≡ with_u16_length other ++ more → (front ≡ other) × (rest ≡ more)
 same_sized front other rest more p q e =
     let one : to_be_bytes w16 (length front) ++ (front ++ rest) ≡ to_be_bytes w16 (length other) ++ (other ++ more) = e in
     let parts = append_parts (to_be_bytes w16 (length front)) (to_be_bytes w16 (length other)) (front ++ rest) (other ++ more) refl one in
@@ -75,7 +75,7 @@ octet_behind octets front rest x each e = omega (arith, each (length front), ap 
 pub same_update : (withdrawn attributes announced other_withdrawn other_attributes other_announced body : List ℕ) → IsUpdate withdrawn attributes announced body → IsUpdate other_withdrawn other_attributes other_announced body
     → (withdrawn ≡ other_withdrawn) × (attributes ≡ other_attributes) × (announced ≡ other_announced)
 same_update withdrawn attributes announced other_withdrawn other_attributes other_announced body s t =
-    let first = same_sized withdrawn other_withdrawn (sized_octets attributes ++ announced) (sized_octets other_attributes ++ other_announced) s.withdrawn_fits t.withdrawn_fits (sym s.whole ∙ t.whole) in
+    let first = same_sized withdrawn other_withdrawn (with_u16_length attributes ++ announced) (with_u16_length other_attributes ++ other_announced) s.withdrawn_fits t.withdrawn_fits (sym s.whole ∙ t.whole) in
     let second = same_sized attributes other_attributes announced other_announced s.attributes_fit t.attributes_fit first.1 in
     (first.0, second.0, second.1)
 

@@ -1,4 +1,5 @@
--- Path attributes and their values (RFC 4271, section 4.3; RFC 1997; RFC 6793).
+-- Path attributes, and the octets that encode them and their values (RFC 4271, section 4.3; RFC 1997; RFC
+-- 6793).
 use Rattle.std.specs.Prelude.{◌≡◌, ◌==◌, ℕ, ◌<◌, ◌^◌, Bool, true, false, not, if◌then◌else◌, List, [], ◌∷◌, ◌++◌, length, Option, Some, None, bit_and, is_some}
 use Rattle.std.specs.Int.{to_be_bytes, w16}
 use Rattle.bgp_wire.specs.declared.framing.TheConstants.{EXTENDED_LENGTH}
@@ -12,87 +13,87 @@ use Rattle.bgp_wire.specs.declared.attrs.Aggregator.{Aggregator}
 use Rattle.bgp_wire.specs.declared.values.TheConstants.{ORIGIN_IGP, ORIGIN_EGP, ORIGIN_INCOMPLETE}
 use Rattle.bgp_paths.specs.Path.{SpellsAsn}
 
--- ---- how path attributes are sent, one behind the other (RFC 4271, section 4.3)
+-- ---- path attributes as BGP sends them (RFC 4271, section 4.3)
 
--- an attribute: its flags, the number of its type, and the octets of its value
+-- a path attribute: its flags, the number of its type, and the octets of its value
 pub record Attribute : Type 0 where
   pub flags : ℕ
   pub kind : ℕ
   pub value : List ℕ
 
--- the extended length flag: the length takes two octets
+-- whether the extended length flag is set, so that the length takes two octets
 abbrev pub is_extended : ℕ → Bool
 is_extended flags = not (bit_and flags EXTENDED_LENGTH == 0)
 
--- the octets of an attribute's length
+-- the octets of the length of a value: two, big-endian, if it is extended, or else one
 abbrev pub length_octets : Bool → ℕ → List ℕ
 length_octets false n = n ∷ []
 length_octets true n = to_be_bytes w16 n
 
--- lengths are below this
+-- the exclusive upper bound of the length of a value
 abbrev pub length_limit : Bool → ℕ
 length_limit false = 2 ^ 8
 length_limit true = 2 ^ 16
 
--- the octets of an attribute
+-- the octets are the flags, the type, the length and the value of an attribute
 pub record SpellsAttribute (a : Attribute) (octets : List ℕ) : Type 0 where
   pub flags_fit : a.flags < 256
   pub kind_fits : a.kind < 256
   pub length_fits : length a.value < length_limit (is_extended a.flags)
   pub whole : octets ≡ a.flags ∷ a.kind ∷ (length_octets (is_extended a.flags) (length a.value) ++ a.value)
 
--- the value of the first attribute of a type, if there is one
+-- the value of the first attribute of a type in a list, or `None` if the list has none
 abbrev pub first_value : ℕ → List Attribute → Option (List ℕ)
 first_value kind [] = None
 first_value kind (a ∷ list) = if a.kind == kind then Some a.value else first_value kind list
 
--- whether two attributes or more are of a type
+-- whether a list has two or more attributes of a type
 abbrev pub repeats : ℕ → List Attribute → Bool
 repeats kind [] = false
 repeats kind (a ∷ list) = if a.kind == kind then is_some (first_value kind list) else repeats kind list
 
--- ---- how the values of path attributes are sent (RFC 4271, section 4.3; RFC 1997; RFC 6793, section 3)
+-- ---- the values of path attributes (RFC 4271, section 4.3; RFC 1997; RFC 6793, section 3)
 
--- the value spells the content, and where one is absent so is the other
+-- the octets spell the content if both are present; otherwise both are absent
 abbrev pub SpellsOptional : {A : Type 0} → (A → List ℕ → Type 0) → Option A → Option (List ℕ) → Type 0
 SpellsOptional Spells None None = Unit {0}
 SpellsOptional Spells (Some content) (Some octets) = Spells content octets
 SpellsOptional Spells None (Some octets) = ⊥
 SpellsOptional Spells (Some content) None = ⊥
 
--- the value's octets, and none where it is absent
-abbrev pub octets_or_none : Option (List ℕ) → List ℕ
-octets_or_none None = []
-octets_or_none (Some octets) = octets
+-- the octets of a value, and no octets if it is absent
+abbrev pub octets_or_empty : Option (List ℕ) → List ℕ
+octets_or_empty None = []
+octets_or_empty (Some octets) = octets
 
--- the value is there, without octets, exactly where it is said to be
+-- an attribute without content is present, with no octets, exactly if the flag is true
 abbrev pub SpellsPresence : Bool → Option (List ℕ) → Type 0
 SpellsPresence false None = Unit {0}
 SpellsPresence true (Some octets) = octets ≡ []
 SpellsPresence false (Some octets) = ⊥
 SpellsPresence true None = ⊥
 
--- the number of an origin
+-- the number that stands for an origin: 0, 1 or 2
 abbrev pub origin_code : Origin → ℕ
 origin_code Igp = ORIGIN_IGP
 origin_code Egp = ORIGIN_EGP
 origin_code Incomplete = ORIGIN_INCOMPLETE
 
--- the octets of an origin
+-- the octets are one octet, the number of an origin
 abbrev pub SpellsOrigin : Origin → List ℕ → Type 0
 SpellsOrigin value octets = octets ≡ origin_code value ∷ []
 
--- the octets of an address
+-- the octets are those of an address: 4 for IPv4, 16 for IPv6
 pub record SpellsAddressOctets (address : Address) (octets : List ℕ) : Type 0 where
   pub size : length octets ≡ octet_count address.family
   pub bits : address.bits ≡ bits_of_octets octets
 
--- the octets of an IPv4 address
+-- the octets are those of an IPv4 address
 pub record SpellsIPv4 (address : Address) (octets : List ℕ) : Type 0 where
   pub of_family : address.family ≡ V4
   pub spelled : SpellsAddressOctets address octets
 
--- the octets of an aggregator with an AS number of this width, and an IPv4 address
+-- the octets are a big-endian AS number of this width and then an IPv4 address
 pub record SpellsAggregatorAt (width : AsWidth) (value : Aggregator) (octets : List ℕ) : Type 0 where
   pub number : List ℕ
   pub spelled : SpellsAsn width value.asn number
@@ -100,6 +101,6 @@ pub record SpellsAggregatorAt (width : AsWidth) (value : Aggregator) (octets : L
   pub addressed : SpellsIPv4 value.addr address
   pub whole : octets ≡ number ++ address
 
--- the octets of an aggregator with an AS number of either width
+-- the octets are an AS number of two or of four octets and then an IPv4 address
 abbrev pub SpellsAggregator : Aggregator → List ℕ → Type 0
 SpellsAggregator value octets = (width : AsWidth) × SpellsAggregatorAt width value octets

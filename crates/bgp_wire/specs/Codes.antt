@@ -1,5 +1,6 @@
 -- Private.
--- Paths and attributes as plain data, which the values of types that hold them are made of.
+-- Path attributes as plain data (`Coded`): a code of them and their values, from which types that contain
+-- them make theirs.
 use Rattle.std.specs.Prelude.{◌≡◌, ℕ, ◌==◌, if◌then◌else◌, Bool, List, Option, refl}
 use Rattle.std.specs.Coded.{Coded, code_by, coded×, coded_ℕ, coded_bool, coded_list, coded_option}
 use Rattle.ip_prefix.specs.Network.{Address}
@@ -13,20 +14,25 @@ use Rattle.bgp_wire.specs.declared.attrs.Attrs.{Attrs}
 use Rattle.bgp_wire.specs.declared.values.TheConstants.{ORIGIN_IGP, ORIGIN_EGP}
 use Rattle.bgp_wire.specs.Attribute.{origin_code}
 
+-- the origin with this number; of other numbers `Incomplete`
 abbrev origin_of : ℕ → Origin
 origin_of n = if n == ORIGIN_IGP then Igp else if n == ORIGIN_EGP then Egp else Incomplete
 
+-- an origin is the one of its number
 abbrev same_origin : (origin : Origin) → origin_of (origin_code origin) ≡ origin
 same_origin Igp = refl
 same_origin Egp = refl
 same_origin Incomplete = refl
 
+-- origins are coded by their numbers
 abbrev pub coded_origin : Coded Origin
 coded_origin = code_by ℕ coded_ℕ origin_code origin_of same_origin
 
+-- aggregators are coded by their address and their AS number
 abbrev pub coded_aggregator : Coded Aggregator
 coded_aggregator = code_by (Address × ℕ) (coded× coded_address coded_ℕ) (λ a. (a.addr, a.asn)) (λ p. record { addr = p.0; asn = p.1 }) (λ _. refl)
 
+-- attributes are coded by their fields
 abbrev pub coded_attrs : Coded Attrs
 coded_attrs =
     code_by ((AsPath × (Option Aggregator × Option Address)) × ((List ℕ × Bool) × (Option ℕ × (Option ℕ × Option Origin))))

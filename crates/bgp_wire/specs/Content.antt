@@ -1,4 +1,5 @@
--- What path attributes say, with AS4_PATH and AS4_AGGREGATOR (RFC 6793, section 4.2.3).
+-- The content of a list of path attributes, with the merge of AS4_PATH and AS4_AGGREGATOR (RFC 6793, section
+-- 4.2.3).
 use Rattle.std.specs.Prelude.{◌≡◌, ◌⊎◌, ◌==◌, ℕ, Bool, true, false, not, if◌then◌else◌, List, Option, Some, None}
 use Rattle.bgp_wire.specs.declared.as4.TheConstants.{AS_TRANS}
 use Rattle.bgp_wire.specs.declared.framing.TheConstants.{AS_PATH, AGGREGATOR, AS4_PATH, AS4_AGGREGATOR, ORIGIN, NEXT_HOP, MULTI_EXIT_DISC, LOCAL_PREF, ATOMIC_AGGREGATE, COMMUNITIES, MP_REACH_NLRI}
@@ -6,8 +7,8 @@ use Rattle.bgp_paths.specs.declared.numbers.AsWidth.{AsWidth}
 use Rattle.bgp_paths.specs.declared.numbers.AsWidth.TheVariants.{Two, Four}
 use Rattle.bgp_paths.specs.declared.path.AsPath.{AsPath}
 use Rattle.bgp_wire.specs.declared.attrs.Aggregator.{Aggregator}
-use Rattle.bgp_wire.specs.Attribute.{Attribute, first_value, SpellsAttribute, repeats, SpellsOptional, octets_or_none, SpellsAggregatorAt, SpellsAggregator, SpellsPresence, SpellsOrigin, SpellsIPv4}
-use Rattle.bgp_paths.specs.Path.{SpellsPath, IsNoSpelling, SpellsWord}
+use Rattle.bgp_wire.specs.Attribute.{Attribute, first_value, SpellsAttribute, repeats, SpellsOptional, octets_or_empty, SpellsAggregatorAt, SpellsAggregator, SpellsPresence, SpellsOrigin, SpellsIPv4}
+use Rattle.bgp_paths.specs.Path.{SpellsPath, IsNoSpelling, SpellsU32}
 use Rattle.bgp_paths.specs.Merge.{IsMerge}
 use Rattle.ip_prefix.specs.declared.addr.Family.{Family}
 use Rattle.ip_prefix.specs.Network.{Address}
@@ -15,83 +16,94 @@ use Rattle.ip_prefix.specs.Sequences.{SpellsAll}
 use Rattle.bgp_wire.specs.declared.attrs.Attrs.{Attrs}
 use Rattle.bgp_wire.specs.Reach.{SpellsRibHop, rib_hop}
 
--- ---- AS4_PATH and AS4_AGGREGATOR beside AS numbers of two octets (RFC 6793, section 4.2.3)
+-- ---- AS4_PATH and AS4_AGGREGATOR where AS_PATH and AGGREGATOR have AS numbers of two octets (RFC 6793,
+-- section 4.2.3)
 
--- a value that isn't of its form is as one that isn't there
-abbrev pub SpellsWhereFormed : {A : Type 0} → (A → List ℕ → Type 0) → Option A → Option (List ℕ) → Type 0
-SpellsWhereFormed Spells None None = Unit {0}
-SpellsWhereFormed Spells (Some content) (Some octets) = Spells content octets
-SpellsWhereFormed Spells None (Some octets) = IsNoSpelling Spells octets
-SpellsWhereFormed Spells (Some content) None = ⊥
+-- the octets spell the content if both are present; otherwise the content is absent, and the octets are
+-- absent or spell none
+abbrev pub SpellsIfWellFormed : {A : Type 0} → (A → List ℕ → Type 0) → Option A → Option (List ℕ) → Type 0
+SpellsIfWellFormed Spells None None = Unit {0}
+SpellsIfWellFormed Spells (Some content) (Some octets) = Spells content octets
+SpellsIfWellFormed Spells None (Some octets) = IsNoSpelling Spells octets
+SpellsIfWellFormed Spells (Some content) None = ⊥
 
--- what AS4_AGGREGATOR and AS4_PATH say is ignored where both aggregators are there and the number of AGGREGATOR stands for no other
+-- whether AS4_PATH and AS4_AGGREGATOR are ignored, by the contents of AGGREGATOR (`own`) and AS4_AGGREGATOR
+-- (`as4`): both are present, and the AS number of AGGREGATOR isn't AS_TRANS
 abbrev pub ignores_as4 : Option Aggregator → Option Aggregator → Bool
 ignores_as4 (Some own) (Some as4) = not (own.asn == AS_TRANS)
 ignores_as4 (Some own) None = false
 ignores_as4 None as4 = false
 
--- AS4_AGGREGATOR replaces AGGREGATOR, where both are there and it isn't ignored
-abbrev pub joined_aggregator : Option Aggregator → Option Aggregator → Option Aggregator
-joined_aggregator (Some own) (Some as4) = Some (if own.asn == AS_TRANS then as4 else own)
-joined_aggregator (Some own) None = Some own
-joined_aggregator None as4 = None
+-- the aggregator of a route, by the contents of AGGREGATOR (`own`) and AS4_AGGREGATOR (`as4`): AS4_AGGREGATOR
+-- if both are present and AGGREGATOR has AS_TRANS, or else AGGREGATOR
+abbrev pub merged_aggregator : Option Aggregator → Option Aggregator → Option Aggregator
+merged_aggregator (Some own) (Some as4) = Some (if own.asn == AS_TRANS then as4 else own)
+merged_aggregator (Some own) None = Some own
+merged_aggregator None as4 = None
 
--- AS4_PATH is joined with AS_PATH, where it is there in its form and isn't ignored
-abbrev pub IsJoined : Bool → AsPath → Option (List ℕ) → AsPath → Type 0
-IsJoined true own value path = path ≡ own
-IsJoined false own None path = path ≡ own
-IsJoined false own (Some octets) path =
+-- `path` is AS_PATH (`own`) merged with AS4_PATH, whose value is the third argument; it is `own` if AS4_PATH
+-- is ignored (the first argument), absent or malformed
+abbrev pub IsPathMerged : Bool → AsPath → Option (List ℕ) → AsPath → Type 0
+IsPathMerged true own value path = path ≡ own
+IsPathMerged false own None path = path ≡ own
+IsPathMerged false own (Some octets) path =
     ((as4 : AsPath) × SpellsPath Four as4 octets × IsMerge own as4 path)
     ⊎ (IsNoSpelling (SpellsPath Four) octets × (path ≡ own))
 
--- who has passed a route on and who has aggregated it, where AS numbers of two octets and of four stand beside each other
-pub record SaysJoined (path : AsPath) (aggregator : Option Aggregator) (list : List Attribute) : Type 0 where
+-- `path` and `aggregator` are what `list` says, whose AS_PATH has AS numbers of two octets: AS_PATH merged
+-- with AS4_PATH, and AGGREGATOR or AS4_AGGREGATOR. An absent AS_PATH has no segments
+pub record AreMergedWithAs4 (path : AsPath) (aggregator : Option Aggregator) (list : List Attribute) : Type 0 where
   pub own_path : AsPath
-  pub path_spelled : SpellsPath Two own_path (octets_or_none (first_value AS_PATH list))
+  pub path_spelled : SpellsPath Two own_path (octets_or_empty (first_value AS_PATH list))
   pub own : Option Aggregator
   pub own_spelled : SpellsOptional SpellsAggregator own (first_value AGGREGATOR list)
   pub as4 : Option Aggregator
-  pub as4_spelled : SpellsWhereFormed (SpellsAggregatorAt Four) as4 (first_value AS4_AGGREGATOR list)
-  pub path_joined : IsJoined (ignores_as4 own as4) own_path (first_value AS4_PATH list) path
-  pub aggregator_joined : aggregator ≡ joined_aggregator own as4
+  pub as4_spelled : SpellsIfWellFormed (SpellsAggregatorAt Four) as4 (first_value AS4_AGGREGATOR list)
+  pub path_joined : IsPathMerged (ignores_as4 own as4) own_path (first_value AS4_PATH list) path
+  pub aggregator_joined : aggregator ≡ merged_aggregator own as4
 
--- the same, where all AS numbers have four octets
-pub record SaysOwn (path : AsPath) (aggregator : Option Aggregator) (list : List Attribute) : Type 0 where
-  pub path_spelled : SpellsPath Four path (octets_or_none (first_value AS_PATH list))
+-- `path` and `aggregator` are AS_PATH and AGGREGATOR of `list`, whose AS_PATH has AS numbers of four octets;
+-- AS4_PATH and AS4_AGGREGATOR are ignored. An absent AS_PATH has no segments
+pub record AreAsSent (path : AsPath) (aggregator : Option Aggregator) (list : List Attribute) : Type 0 where
+  pub path_spelled : SpellsPath Four path (octets_or_empty (first_value AS_PATH list))
   pub own_spelled : SpellsOptional SpellsAggregator aggregator (first_value AGGREGATOR list)
 
--- who has passed a route on and who has aggregated it; an absent path has no segments
-abbrev pub SaysPassed : AsWidth → AsPath → Option Aggregator → List Attribute → Type 0
-SaysPassed Two path aggregator list = SaysJoined path aggregator list
-SaysPassed Four path aggregator list = SaysOwn path aggregator list
+-- `path` and `aggregator` are what a list of attributes says, whose AS_PATH has AS numbers of this width
+abbrev pub ArePathAndAggregatorOf : AsWidth → AsPath → Option Aggregator → List Attribute → Type 0
+ArePathAndAggregatorOf Two path aggregator list = AreMergedWithAs4 path aggregator list
+ArePathAndAggregatorOf Four path aggregator list = AreAsSent path aggregator list
 
--- ---- what a list of path attributes says (RFC 4271, section 5; RFC 1997; RFC 4760; RFC 6396, section 4.3.4; RFC 6793)
+-- ---- the content of a list of path attributes (RFC 4271, section 5; RFC 1997; RFC 4760; RFC 6396, section
+-- 4.3.4; RFC 6793)
 
--- by the types of attributes, the first value of each
-abbrev pub FirstOf : Type 0
-FirstOf = ℕ → Option (List ℕ)
+-- for each type of attribute the value of the first attribute of this type, or `None`
+abbrev pub FirstValues : Type 0
+FirstValues = ℕ → Option (List ℕ)
 
--- those of a list
-abbrev pub firsts_of : List Attribute → FirstOf
-firsts_of list kind = first_value kind list
+-- for each type the value of the first attribute of this type in the list
+abbrev pub first_values : List Attribute → FirstValues
+first_values list kind = first_value kind list
 
--- what values of a few octets say, each by itself
-abbrev pub SaysShort : Attrs → FirstOf → Type 0
-SaysShort attrs first =
+-- ORIGIN, MULTI_EXIT_DISC, LOCAL_PREF and ATOMIC_AGGREGATE of `attrs` are what these first values spell, and
+-- absent where they are
+abbrev pub AreShortAttrsOf : Attrs → FirstValues → Type 0
+AreShortAttrsOf attrs first =
     SpellsOptional SpellsOrigin attrs.origin (first ORIGIN)
-    × SpellsOptional SpellsWord attrs.med (first MULTI_EXIT_DISC)
-    × SpellsOptional SpellsWord attrs.local_pref (first LOCAL_PREF)
+    × SpellsOptional SpellsU32 attrs.med (first MULTI_EXIT_DISC)
+    × SpellsOptional SpellsU32 attrs.local_pref (first LOCAL_PREF)
     × SpellsPresence attrs.atomic (first ATOMIC_AGGREGATE)
 
--- what the first attributes of each type say, but for the next hop; absent communities are none
-pub record Says (width : AsWidth) (attrs : Attrs) (list : List Attribute) : Type 0 where
-  pub short : SaysShort attrs (firsts_of list)
-  pub passed : SaysPassed width attrs.path attrs.aggregator list
-  pub communities : SpellsAll SpellsWord attrs.communities (octets_or_none (first_value COMMUNITIES list))
+-- `attrs`, but for the next hop, is the content of `list`, whose AS_PATH has AS numbers of this width: of
+-- each type the first attribute counts. Absent communities are empty
+pub record AreAttrsOf (width : AsWidth) (attrs : Attrs) (list : List Attribute) : Type 0 where
+  pub short : AreShortAttrsOf attrs (first_values list)
+  pub passed : ArePathAndAggregatorOf width attrs.path attrs.aggregator list
+  pub communities : SpellsAll SpellsU32 attrs.communities (octets_or_empty (first_value COMMUNITIES list))
 
--- the next hop of a RIB entry for a prefix of this family, where its attributes name one
-pub record SaysRibHop (family : Family) (hop : Option Address) (list : List Attribute) : Type 0 where
-  -- the next hops of NEXT_HOP and of MP_REACH_NLRI, each where it is there
+-- `hop` is the next hop of a RIB entry with these attributes, for a prefix of this family; `None` if they
+-- have none. MP_REACH_NLRI must not be there twice
+pub record IsRibNextHopOf (family : Family) (hop : Option Address) (list : List Attribute) : Type 0 where
+  -- the next hops of NEXT_HOP (`own`) and of MP_REACH_NLRI (`reached`)
   pub own : Option Address
   pub reached : Option Address
   pub own_spelled : SpellsOptional SpellsIPv4 own (first_value NEXT_HOP list)
@@ -99,9 +111,10 @@ pub record SaysRibHop (family : Family) (hop : Option Address) (list : List Attr
   pub once : repeats MP_REACH_NLRI list ≡ false
   pub chosen : hop ≡ rib_hop family own reached
 
--- the octets of the attributes of a RIB entry for a prefix of this family
+-- the octets are a list of path attributes of which `attrs` is the content, as those of a RIB entry for a
+-- prefix of this family, with AS numbers of this width in AS_PATH
 pub record SpellsRibAttrs (family : Family) (width : AsWidth) (attrs : Attrs) (octets : List ℕ) : Type 0 where
   pub list : List Attribute
   pub spelled : SpellsAll SpellsAttribute list octets
-  pub said : Says width attrs list
-  pub hop_said : SaysRibHop family attrs.next_hop list
+  pub said : AreAttrsOf width attrs list
+  pub hop_said : IsRibNextHopOf family attrs.next_hop list

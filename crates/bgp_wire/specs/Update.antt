@@ -1,4 +1,4 @@
--- How messages are sent (RFC 4271, sections 4.1 and 4.3).
+-- BGP messages, and the octets that encode them (RFC 4271, sections 4.1 and 4.3).
 use Rattle.std.specs.Prelude.{◌≡◌, ℕ, ◌<◌, ◌^◌, false, List, ◌∷◌, ◌++◌, length, Option}
 use Rattle.std.specs.Int.{to_be_bytes, w16}
 use Rattle.ip_prefix.specs.declared.addr.Family.TheVariants.{V4}
@@ -12,10 +12,11 @@ use Rattle.bgp_wire.specs.declared.parts.Update.{Update}
 use Rattle.bgp_wire.specs.declared.message.Message.{Message}
 use Rattle.bgp_wire.specs.declared.message.Message.TheVariants as messages
 use Rattle.bgp_wire.specs.Attribute.{Attribute, SpellsAttribute, first_value, repeats, SpellsOptional, SpellsIPv4}
-use Rattle.bgp_wire.specs.Content.{Says}
-use Rattle.bgp_wire.specs.Reach.{Reach, SaysReach, SaysUnreach, reach_prefixes, reach_attrs}
+use Rattle.bgp_wire.specs.Content.{AreAttrsOf}
+use Rattle.bgp_wire.specs.Reach.{Reach, SpellsMpReach, SpellsMpUnreach, reach_prefixes, reach_attrs}
 
--- the octets are a message of a type, with this body; the marker may be any octets
+-- the octets are a message of this type with this body: a marker, which may be any octets, the length of all
+-- in two octets, the type, and the body
 pub record IsMessage (kind : ℕ) (body octets : List ℕ) : Type 0 where
   pub marker : List ℕ
   pub marker_size : length marker ≡ MARKER_SIZE
@@ -23,33 +24,36 @@ pub record IsMessage (kind : ℕ) (body octets : List ℕ) : Type 0 where
   pub length_fits : length octets < 2 ^ 16
   pub whole : octets ≡ marker ++ (to_be_bytes w16 (length octets) ++ (kind ∷ body))
 
--- octets behind their length
-abbrev pub sized_octets : List ℕ → List ℕ
-sized_octets octets = to_be_bytes w16 (length octets) ++ octets
+-- the length of the octets in two octets, big-endian, and then the octets
+abbrev pub with_u16_length : List ℕ → List ℕ
+with_u16_length octets = to_be_bytes w16 (length octets) ++ octets
 
--- the octets of an UPDATE's body: those of withdrawn prefixes, of attributes, and of announced prefixes
+-- the body of an UPDATE is made of these octets: those of withdrawn prefixes after their length, those of
+-- attributes after theirs, and those of announced prefixes
 pub record IsUpdate (withdrawn attributes announced body : List ℕ) : Type 0 where
   pub withdrawn_fits : length withdrawn < 2 ^ 16
   pub attributes_fit : length attributes < 2 ^ 16
-  pub whole : body ≡ sized_octets withdrawn ++ (sized_octets attributes ++ announced)
+  pub whole : body ≡ with_u16_length withdrawn ++ (with_u16_length attributes ++ announced)
 
--- what the attributes of an UPDATE say: their values with the next hop of NEXT_HOP, what MP_REACH_NLRI announces, and what MP_UNREACH_NLRI withdraws
-pub record SaysTogether (width : AsWidth) (attrs : Attrs) (reach : Option Reach) (withdrawn : List Network) (list : List Attribute) : Type 0 where
-  pub said : Says width attrs list
+-- `attrs` with the next hop of NEXT_HOP, the MP_REACH_NLRI `reach` and the prefixes `withdrawn` of
+-- MP_UNREACH_NLRI are the content of `list`, as that of an UPDATE. Neither of these two may be there twice
+pub record AreUpdateContentOf (width : AsWidth) (attrs : Attrs) (reach : Option Reach) (withdrawn : List Network) (list : List Attribute) : Type 0 where
+  pub said : AreAttrsOf width attrs list
   pub hop : SpellsOptional SpellsIPv4 attrs.next_hop (first_value NEXT_HOP list)
-  pub reached : SaysReach reach (first_value MP_REACH_NLRI list)
+  pub reached : SpellsMpReach reach (first_value MP_REACH_NLRI list)
   pub reached_once : repeats MP_REACH_NLRI list ≡ false
-  pub unreached : SaysUnreach withdrawn (first_value MP_UNREACH_NLRI list)
+  pub unreached : SpellsMpUnreach withdrawn (first_value MP_UNREACH_NLRI list)
   pub unreached_once : repeats MP_UNREACH_NLRI list ≡ false
 
--- what they say of an UPDATE
-pub record SaysInUpdate (width : AsWidth) (update : Update) (list : List Attribute) : Type 0 where
+-- the attributes of an UPDATE, and the prefixes of its MP_REACH_NLRI and MP_UNREACH_NLRI, are those of
+-- `list`. Its other prefixes may be any
+pub record IsUpdateOf (width : AsWidth) (update : Update) (list : List Attribute) : Type 0 where
   pub reach : Option Reach
-  pub together : SaysTogether width update.attrs reach update.mp_withdrawn list
+  pub together : AreUpdateContentOf width update.attrs reach update.mp_withdrawn list
   pub announced : update.mp_announced ≡ reach_prefixes reach
   pub attrs : update.mp_attrs ≡ reach_attrs update.attrs reach
 
--- the octets of an UPDATE's body
+-- the octets are the body of this UPDATE, with AS numbers of this width in AS_PATH
 pub record SpellsUpdate (width : AsWidth) (update : Update) (body : List ℕ) : Type 0 where
   pub withdrawn : List ℕ
   pub attributes : List ℕ
@@ -59,9 +63,10 @@ pub record SpellsUpdate (width : AsWidth) (update : Update) (body : List ℕ) : 
   pub announced_spelled : SpellsAll (SpellsNetwork V4) update.announced announced
   pub list : List Attribute
   pub spelled : SpellsAll SpellsAttribute list attributes
-  pub said : SaysInUpdate width update list
+  pub said : IsUpdateOf width update list
 
--- the octets of a message; the body of one that isn't an UPDATE may be any octets
+-- the octets are this message, with AS numbers of this width in AS_PATH; the body of one that isn't an UPDATE
+-- may be any octets
 abbrev pub SpellsMessage : AsWidth → Message → List ℕ → Type 0
 SpellsMessage width (messages.Update update) octets = (body : List ℕ) × IsMessage UPDATE body octets × SpellsUpdate width update body
 SpellsMessage width (messages.Other kind) octets = (kind ≡ UPDATE → ⊥) × (body : List ℕ) × IsMessage kind body octets

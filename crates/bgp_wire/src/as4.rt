@@ -1,37 +1,37 @@
-//! Merging of AS4_PATH and AS4_AGGREGATOR into attributes whose AS numbers have two octets (RFC
-//! 6793, section 4.2.3). The parsers of UPDATEs and of RIB entries call [`join_passed`] after they
+//! The merge of AS4_PATH and AS4_AGGREGATOR into attributes with AS numbers of two octets (RFC
+//! 6793, section 4.2.3). The parsers of UPDATEs and of RIB entries call [`merge_as4`] after they
 //! have parsed a list of attributes (`attribute_list.rt`).
 
 ghost use Rattle.std.specs.Prelude.{◌≡◌, List, OnOk, IfErr};
 ghost use Rattle.bgp_paths.specs.declared.numbers.AsWidth.TheVariants.{Two};
 ghost use Rattle.bgp_paths.specs.declared.fault.WireFault.TheVariants.{Memory};
 ghost use Rattle.bgp_wire.specs.Attribute.{Attribute};
-ghost use Rattle.bgp_wire.specs.Content.{firsts_of, Says};
-ghost use Rattle.bgp_wire.specs.PlainValues.{SaysPlainly, AreLater};
+ghost use Rattle.bgp_wire.specs.Content.{first_values, AreAttrsOf};
+ghost use Rattle.bgp_wire.specs.PlainValues.{AreUnmergedAttrsOf, AreDeferredValuesOf};
 
-use crate::attribute_list::LaterValues;
+use crate::attribute_list::DeferredValues;
 use crate::attrs::{Aggregator, Attrs};
 use crate::values::read_as4_aggregator;
 use bgp_paths::{AsPath, AsWidth, WireFault, merge_paths};
 use std::alloc::Global;
 
-/// The AS number that replaces one of four octets where only two are sent (RFC 6793, section 9).
+/// The AS number that stands for one of four octets where only two are sent (RFC 6793, section 9).
 const AS_TRANS: u32 = 23456;
 
-/// Merges AS4_PATH and AS4_AGGREGATOR into the path and the aggregator of `attrs`, if the AS
-/// numbers of these have two octets as `width` says (RFC 6793, section 4.2.3). The next hop is left
-/// as it was. On error, which means that memory allocation fails, the rest of `attrs` is
-/// unspecified.
+/// Merges the AS4_PATH and the AS4_AGGREGATOR of `later` into the path and the aggregator of
+/// `attrs`, if their AS numbers have two octets, as `width` says (RFC 6793, section 4.2.3). With
+/// four octets, both are ignored. The next hop is unchanged. On error, which is always `Memory`,
+/// the rest of `attrs` is unspecified.
 #[inline(always)]
-pub(crate) fn join_passed(
+pub(crate) fn merge_as4(
     alloc: Global,
     attrs: &mut Attrs,
     width: AsWidth,
-    later: &LaterValues,
+    later: &DeferredValues,
 ) -> Result<(), WireFault>
     ensures said { OnOk result ((list : List Attribute) →
-        SaysPlainly width attrs.old (firsts_of list) → AreLater later.now (firsts_of list) →
-        Says width attrs.new list) }
+        AreUnmergedAttrsOf width attrs.old (first_values list) → AreDeferredValuesOf later.now (first_values list) →
+        AreAttrsOf width attrs.new list) }
     ensures refused { IfErr result (λ fault. fault ≡ Memory) }
     ensures kept { attrs.new.next_hop ≡ attrs.old.next_hop }
 {
@@ -39,18 +39,24 @@ pub(crate) fn join_passed(
         AsWidth::Four => Ok(()),
         // This is the most frequent case of two octets, and needs no call.
         AsWidth::Two if later.as4_path.is_none() && later.as4_aggregator.is_none() => Ok(()),
-        AsWidth::Two => join_as4(alloc, attrs, later),
+        AsWidth::Two => merge_present_as4(alloc, attrs, later),
     }
 }
 
-/// Merges AS4_PATH and AS4_AGGREGATOR into the path and the aggregator of `attrs`, whose AS numbers
-/// have two octets (RFC 6793, section 4.2.3). The next hop is left as it was. On error, which means
-/// that memory allocation fails, the rest of `attrs` is unspecified.
+/// Merges the AS4_PATH and the AS4_AGGREGATOR of `later` into the path and the aggregator of
+/// `attrs`, whose AS numbers have two octets (RFC 6793, section 4.2.3). One that is absent or
+/// malformed is ignored, and so is AS4_AGGREGATOR without AGGREGATOR. If both aggregators are
+/// present and the AS number of AGGREGATOR isn't AS_TRANS, AS4_PATH is ignored too. The next hop is
+/// unchanged. On error, which is always `Memory`, the rest of `attrs` is unspecified.
 #[inline(never)]
-fn join_as4(alloc: Global, attrs: &mut Attrs, later: &LaterValues) -> Result<(), WireFault>
+fn merge_present_as4(
+    alloc: Global,
+    attrs: &mut Attrs,
+    later: &DeferredValues,
+) -> Result<(), WireFault>
     ensures said { OnOk result ((list : List Attribute) →
-        SaysPlainly Two attrs.old (firsts_of list) → AreLater later.now (firsts_of list) →
-        Says Two attrs.new list) }
+        AreUnmergedAttrsOf Two attrs.old (first_values list) → AreDeferredValuesOf later.now (first_values list) →
+        AreAttrsOf Two attrs.new list) }
     ensures refused { IfErr result (λ fault. fault ≡ Memory) }
     ensures kept { attrs.new.next_hop ≡ attrs.old.next_hop }
 {
@@ -66,7 +72,7 @@ fn join_as4(alloc: Global, attrs: &mut Attrs, later: &LaterValues) -> Result<(),
         return Ok(());
     };
     // A malformed AS4_PATH is discarded.
-    let mut path = AsPath::none(alloc);
+    let mut path = AsPath::empty(alloc);
     match path.fill(alloc, AsWidth::Four, octets) {
         Ok(()) => attrs.path = merge_paths(alloc, &attrs.path, &path)?,
         Err(WireFault::Malformed) => {}

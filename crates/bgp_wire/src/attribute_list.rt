@@ -1,68 +1,70 @@
-//! A parser of a list of path attributes (RFC 4271, section 4.3), which takes the first attribute
-//! of each type. The parsers of UPDATEs and of RIB entries call [`read_list`]; read that function
-//! first.
+//! A parser of lists of path attributes (RFC 4271, section 4.3). Of each type, the first attribute
+//! counts. The parsers of UPDATEs and of RIB entries call [`read_attribute_list`]; read that function first.
 
 ghost use Rattle.std.specs.Prelude.{◌≡◌, ◌<◌, [], Some, OnOk, OnErr, IfErr};
 ghost use Rattle.bgp_wire.specs.declared.framing.TheConstants.{KINDS};
-ghost use Rattle.bgp_wire.specs.PlainValues.{HoldsWithValue, AreCleared, AreLater, ReadSoFar, SaysPlainly, SpellsPlainly, ReadsList, Tells};
-ghost use Rattle.bgp_wire.specs.Content.{FirstOf, firsts_of};
+ghost use Rattle.bgp_wire.specs.PlainValues.{HoldsWithValue, AreCleared, AreDeferredValuesOf, ReadSoFar, AreUnmergedAttrsOf, SpellsUnmergedAttrs, ReadsList, AreTypesOf};
+ghost use Rattle.bgp_wire.specs.Content.{FirstValues, first_values};
 ghost use Rattle.bgp_paths.specs.Readers.{Refuses};
 
 use crate::attrs::{Attrs, Communities, MOST_SPARE};
 use crate::framing::{
-    AGGREGATOR, AS_PATH, AS4_AGGREGATOR, AS4_PATH, ATOMIC_AGGREGATE, COMMUNITIES, FramedAttribute,
+    AGGREGATOR, AS_PATH, AS4_AGGREGATOR, AS4_PATH, ATOMIC_AGGREGATE, AttributeAndRest, COMMUNITIES,
     LOCAL_PREF, MP_REACH_NLRI, MP_UNREACH_NLRI, MULTI_EXIT_DISC, NEXT_HOP, ORIGIN, split_attribute,
 };
 use crate::seen_types::SeenTypes;
-use crate::values::{fill_presence, put_found, read_aggregator, read_ipv4, read_origin, read_word};
+use crate::values::{
+    read_aggregator, read_ipv4, read_origin, read_u32, set_atomic_if_empty, set_if_found,
+};
 use bgp_paths::{AsWidth, WireFault, fill_numbers};
 use std::alloc::Global;
 
-/// The octets of a list of path attributes, and the width of the AS numbers in its AS_PATH.
+/// The octets of a list of path attributes, and the size of the AS numbers in its AS_PATH.
 #[derive(Clone, Copy)]
-pub(crate) struct SentList<'a> {
+pub(crate) struct AttributeOctets<'a> {
     pub(crate) octets: &'a [u8],
     pub(crate) width: AsWidth,
 }
 
-/// The values of the attributes that are parsed after the list, because they depend on other
-/// attributes or on the message that has the list. Each is of the first attribute of its type, or
-/// `None` if the list has none.
+/// The values that are parsed after the list, because they depend on other attributes or on the
+/// message: of MP_REACH_NLRI, MP_UNREACH_NLRI, AS4_PATH and AS4_AGGREGATOR. Each is of the first
+/// attribute of its type, or `None` if the list has none.
 #[derive(Clone, Copy, Default)]
-pub(crate) struct LaterValues<'a> {
+pub(crate) struct DeferredValues<'a> {
     pub(crate) reach: Option<&'a [u8]>,
     pub(crate) unreach: Option<&'a [u8]>,
     pub(crate) as4_path: Option<&'a [u8]>,
     pub(crate) as4_aggregator: Option<&'a [u8]>,
 }
 
-/// Parses the value of `framed`, the first attribute of its type, into `attrs`, or stores its
-/// octets in `later`. Other types are ignored. Fails with `Malformed` if the value has another
-/// form, or with `Memory` if memory allocation fails; `attrs` is unspecified then.
+/// Parses the value of `framed`, which must be the first attribute of its type, into `attrs`, or
+/// stores its octets in `later`. Values of other types are ignored. Fails with `Malformed` if the
+/// value doesn't have the form of its type, and with `Memory` if memory allocation fails. On error,
+/// `attrs` is unspecified.
 #[inline(always)]
-fn read_first<'a>(
+fn read_attribute<'a>(
     alloc: Global,
     width: AsWidth,
-    framed: FramedAttribute<'a>,
+    framed: AttributeAndRest<'a>,
     attrs: &mut Attrs,
-    later: &mut LaterValues<'a>,
+    later: &mut DeferredValues<'a>,
 ) -> Result<(), WireFault>
     ensures read { OnOk result (HoldsWithValue framed.entry.kind framed.entry.value.now
         (ReadSoFar width attrs.old later.old) (ReadSoFar width attrs.new later.new)) }
-    ensures refused { IfErr result (λ fault. (first : FirstOf) →
+    ensures refused { IfErr result (λ fault. (first : FirstValues) →
         first framed.entry.kind ≡ Some framed.entry.value.now →
-        Refuses (SaysPlainly width) first fault) }
+        Refuses (AreUnmergedAttrsOf width) first fault) }
     ensures known { OnErr result (framed.entry.kind < KINDS) }
 {
     let value = framed.value;
     match framed.kind {
-        ORIGIN => put_found(&mut attrs.origin, read_origin(value))?,
+        ORIGIN => set_if_found(&mut attrs.origin, read_origin(value))?,
         AS_PATH => attrs.path.fill(alloc, width, value)?,
-        NEXT_HOP => put_found(&mut attrs.next_hop, read_ipv4(value))?,
-        MULTI_EXIT_DISC => put_found(&mut attrs.med, read_word(value))?,
-        LOCAL_PREF => put_found(&mut attrs.local_pref, read_word(value))?,
-        ATOMIC_AGGREGATE => fill_presence(&mut attrs.atomic, value)?,
-        AGGREGATOR => put_found(&mut attrs.aggregator, read_aggregator(value))?,
+        NEXT_HOP => set_if_found(&mut attrs.next_hop, read_ipv4(value))?,
+        MULTI_EXIT_DISC => set_if_found(&mut attrs.med, read_u32(value))?,
+        LOCAL_PREF => set_if_found(&mut attrs.local_pref, read_u32(value))?,
+        ATOMIC_AGGREGATE => set_atomic_if_empty(&mut attrs.atomic, value)?,
+        AGGREGATOR => set_if_found(&mut attrs.aggregator, read_aggregator(value))?,
         COMMUNITIES => fill_numbers(
             &mut attrs.communities.items,
             AsWidth::Four,
@@ -78,11 +80,11 @@ fn read_first<'a>(
     Ok(())
 }
 
-/// Clears the path or the communities of `attrs` if the list whose types are `types` doesn't have
-/// them. Frees the memory of the cleared communities if it has capacity for more than
+/// Clears the path of `attrs` if `types` lacks AS_PATH, and the communities if it lacks
+/// COMMUNITIES. The memory of cleared communities is freed if it has capacity for more than
 /// [`MOST_SPARE`].
 #[inline]
-fn clear_unseen(attrs: &mut Attrs, types: &SeenTypes)
+fn clear_absent_lists(attrs: &mut Attrs, types: &SeenTypes)
     ensures { AreCleared types.now attrs.old attrs.new }
 {
     if !types.has(AS_PATH) {
@@ -91,14 +93,14 @@ fn clear_unseen(attrs: &mut Attrs, types: &SeenTypes)
     if !types.has(COMMUNITIES) {
         attrs.communities.items.clear();
         if attrs.communities.items.capacity() > usize::from(MOST_SPARE) {
-            let_go(&mut attrs.communities);
+            free_communities(&mut attrs.communities);
         }
     }
 }
 
 /// Clears the communities and frees their memory.
 #[inline(never)]
-fn let_go(communities: &mut Communities)
+fn free_communities(communities: &mut Communities)
     ensures { communities.new ≡ [] }
 {
     // This isn't inlined, since few lists have much memory.
@@ -107,21 +109,22 @@ fn let_go(communities: &mut Communities)
 
 /// Parses the list `sent` into `attrs`, whose memory is reused, and into `later` and `types`, which
 /// must be empty before. Attributes that the list doesn't have become `None`, false or empty. Fails
-/// with `Malformed` if the list has another form, or with `Memory` if memory allocation fails;
-/// `attrs`, `later` and `types` are unspecified then.
+/// with `Malformed` if `sent` isn't a list of attributes or if a value doesn't have the form of its
+/// type, and with `Memory` if memory allocation fails. On error, `attrs`, `later` and `types` are
+/// unspecified.
 #[inline(always)]
-pub(crate) fn read_list<'a>(
+pub(crate) fn read_attribute_list<'a>(
     alloc: Global,
     attrs: &mut Attrs,
-    sent: SentList<'a>,
-    later: &mut LaterValues<'a>,
+    sent: AttributeOctets<'a>,
+    later: &mut DeferredValues<'a>,
     types: &mut SeenTypes,
 ) -> Result<(), WireFault>
-    requires no_value { AreLater later.old (firsts_of []) }
-    requires no_type { Tells types.old [] }
+    requires no_value { AreDeferredValuesOf later.old (first_values []) }
+    requires no_type { AreTypesOf types.old [] }
     ensures read { OnOk result (ReadsList sent.entry.width attrs.new later.new types.new
         sent.entry.octets.now) }
-    ensures refused { IfErr result (Refuses (SpellsPlainly sent.entry.width)
+    ensures refused { IfErr result (Refuses (SpellsUnmergedAttrs sent.entry.width)
         sent.entry.octets.now) }
 {
     attrs.next_hop = None;
@@ -135,11 +138,11 @@ pub(crate) fn read_list<'a>(
         let Some(framed) = split_attribute(rest) else {
             return Err(WireFault::Malformed);
         };
-        if !types.note(framed.kind) {
-            read_first(alloc, sent.width, framed, attrs, later)?;
+        if !types.test_and_set(framed.kind) {
+            read_attribute(alloc, sent.width, framed, attrs, later)?;
         }
         rest = framed.rest;
     }
-    clear_unseen(attrs, types);
+    clear_absent_lists(attrs, types);
     Ok(())
 }

@@ -1,28 +1,27 @@
-//! The path attributes of a route, as the parsers of UPDATEs and of RIB entries set them. Read
-//! [`Attrs`] first.
+//! The path attributes of a route (RFC 4271, section 5), which the parsers of UPDATEs and of RIB
+//! entries set. Read [`Attrs`] first.
 
 ghost use Rattle.std.specs.Prelude.{◌≡◌, OnOk, OnErr};
-ghost use Rattle.bgp_wire.specs.Parts.{no_attrs, without_lists};
-ghost use Rattle.bgp_paths.specs.Readers.{no_path};
+ghost use Rattle.bgp_wire.specs.Parts.{absent_attrs, without_path_and_communities};
+ghost use Rattle.bgp_paths.specs.Readers.{empty_path};
 
 use bgp_paths::{AsPath, ListOf, copy_numbers, copy_path};
 use ip_prefix::Addr;
 use std::alloc::{AllocError, Global};
 use std::mem;
 
-/// The largest spare capacity of a list of communities, in communities, once it has held a longer
-/// one. With capacity for one more, its memory is freed, and it gets capacity for just what it
-/// needs.
+/// The greatest spare capacity of a list of communities, in communities. With capacity for one more
+/// than this above what is needed, a list is reallocated or freed.
 pub(crate) const MOST_SPARE: u8 = 32;
 
 /// The origin of a route (RFC 4271, section 5.1.1).
 #[derive(Clone, Copy, Debug, PartialEq, Eq)]
 pub enum Origin {
-    /// A route that originates inside its AS.
+    /// The route originates inside its AS.
     Igp,
-    /// A route learned through EGP.
+    /// The route was learned through EGP (RFC 904).
     Egp,
-    /// A route learned in another way.
+    /// The route was learned in another way.
     Incomplete,
 }
 
@@ -38,7 +37,8 @@ pub struct Aggregator {
 /// The communities of a route (RFC 1997), each a 32-bit number.
 pub type Communities = ListOf<u32>;
 
-/// The path attributes of a route. Absent attributes are `None`, false or empty.
+/// The path attributes of a route (RFC 4271, section 5). Absent attributes are `None`, false or
+/// empty.
 #[derive(Debug, Drop)]
 pub struct Attrs {
     /// The next hop of NEXT_HOP (RFC 4271, section 5.1.3) or MP_REACH_NLRI (RFC 4760, section 3).
@@ -61,14 +61,14 @@ pub struct Attrs {
 
 impl Attrs {
     /// Returns attributes that are all absent, without allocating memory.
-    pub fn none(alloc: Global) -> Attrs
-        ensures { result ≡ no_attrs }
+    pub fn empty(alloc: Global) -> Attrs
+        ensures { result ≡ absent_attrs }
     {
         Attrs {
             next_hop: None,
             aggregator: None,
-            path: AsPath::none(alloc),
-            communities: Communities::none(alloc),
+            path: AsPath::empty(alloc),
+            communities: Communities::empty(alloc),
             med: None,
             local_pref: None,
             origin: None,
@@ -77,15 +77,15 @@ impl Attrs {
     }
 }
 
-/// Copies `other` into `attrs`, whose memory is reused. On error, which means that memory
-/// allocation fails, the path and the communities of `attrs` are empty, and the rest of it is
-/// unchanged.
-pub fn replace_attrs(alloc: Global, attrs: &mut Attrs, other: &Attrs) -> Result<(), AllocError>
+/// Replaces `attrs` with a copy of `other`, and reuses its memory. On error, which means that
+/// memory allocation fails, the path and the communities of `attrs` are empty, and the rest of it
+/// is unchanged.
+pub fn clone_attrs_from(alloc: Global, attrs: &mut Attrs, other: &Attrs) -> Result<(), AllocError>
     ensures replaced { OnOk result (attrs.new ≡ other.now) }
-    ensures left { OnErr result (attrs.new ≡ without_lists attrs.old) }
+    ensures left { OnErr result (attrs.new ≡ without_path_and_communities attrs.old) }
 {
-    let none = Communities::none(alloc);
-    let path = mem::replace(&mut attrs.path, AsPath::none(alloc));
+    let none = Communities::empty(alloc);
+    let path = mem::replace(&mut attrs.path, AsPath::empty(alloc));
     let communities = mem::replace(&mut attrs.communities, none).into_vec();
     let path = copy_path(alloc, path, &other.path)?;
     let communities = copy_numbers(communities, other.communities.as_slice(), MOST_SPARE)?;

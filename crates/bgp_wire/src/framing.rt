@@ -1,5 +1,6 @@
-//! The framing of path attributes: flags, a type, a length and a value (RFC 4271, section 4.3). The
-//! parser of lists (`attribute_list.rt`) calls [`split_attribute`]; read that function first.
+//! Splitting lists of path attributes into attributes: flags, a type, a length and a value each
+//! (RFC 4271, section 4.3). The parser of lists (`attribute_list.rt`) calls [`split_attribute`];
+//! read that function first.
 
 ghost use Rattle.std.specs.Prelude.{◌≡◌, ℕ, ◌<◌, List, ◌++◌, IfSome, IfNone};
 ghost use Rattle.ip_prefix.specs.Sequences.{Begins};
@@ -8,11 +9,11 @@ ghost use Rattle.bgp_wire.specs.Attribute.{SpellsAttribute, is_extended, length_
 
 use crate::lengths::{LENGTH_SIZE, read_length};
 
-/// The flag of an attribute whose length takes two octets (RFC 4271, section 4.3).
+/// The bit of the flags of an attribute whose length takes two octets (RFC 4271, section 4.3).
 pub const EXTENDED_LENGTH: u8 = 0x10;
 
-/// The exclusive upper bound of the attribute types that are parsed. Of an attribute of this type
-/// or one above, only the frame is read, and a list may have several of them.
+/// The exclusive upper bound of the attribute types that are parsed. Attributes of other types are
+/// skipped, and a list may have several of one such type.
 pub(crate) const KINDS: usize = 19;
 
 /// The attribute type of ORIGIN (RFC 4271, section 4.3).
@@ -40,17 +41,17 @@ pub(crate) const AS4_PATH: u8 = 17;
 /// The attribute type of AS4_AGGREGATOR (RFC 6793, section 3).
 pub(crate) const AS4_AGGREGATOR: u8 = 18;
 
-/// The type and the value of an attribute at the start of a slice, and the octets after it.
+/// An attribute at the start of a slice: its type, its value, and the octets after it.
 #[derive(Clone, Copy)]
-pub(crate) struct FramedAttribute<'a> {
+pub(crate) struct AttributeAndRest<'a> {
     pub(crate) value: &'a [u8],
     pub(crate) rest: &'a [u8],
     pub(crate) kind: u8,
 }
 
-/// Parses the length of an attribute with these flags at the start of `octets`, of two octets,
-/// big-endian, if [`EXTENDED_LENGTH`] is set, or else of one (RFC 4271, section 4.3). Returns it
-/// with the octets after it, or `None` if `octets` has too few.
+/// Splits the length of an attribute with these `flags` off the start of `octets`: two octets,
+/// big-endian, if [`EXTENDED_LENGTH`] is set, or else one (RFC 4271, section 4.3). Returns the
+/// length and the octets after it, or `None` if `octets` has too few.
 fn split_length(flags: u8, octets: &[u8]) -> Option<(usize, &[u8])>
     ensures some { IfSome result (λ found. (found.0 < length_limit (is_extended flags))
         × (octets.now ≡ length_octets (is_extended flags) found.0 ++ found.1.now)) }
@@ -68,10 +69,10 @@ fn split_length(flags: u8, octets: &[u8]) -> Option<(usize, &[u8])>
     Some((read_length(front), rest))
 }
 
-/// Splits an attribute off the start of `octets` (RFC 4271, section 4.3), or returns `None` if
-/// `octets` is shorter than the attribute.
+/// Splits an attribute off the start of `octets` (RFC 4271, section 4.3). Returns `None` if
+/// `octets` ends inside the attribute.
 #[inline]
-pub(crate) fn split_attribute(octets: &[u8]) -> Option<FramedAttribute<'_>>
+pub(crate) fn split_attribute(octets: &[u8]) -> Option<AttributeAndRest<'_>>
     ensures some { IfSome result (λ f. (flags : ℕ) × Begins SpellsAttribute
         record { flags = flags; kind = f.kind; value = f.value.now } f.rest.now octets.now) }
     ensures none { IfNone result (BeginsWithNone SpellsAttribute octets.now) }
@@ -80,5 +81,5 @@ pub(crate) fn split_attribute(octets: &[u8]) -> Option<FramedAttribute<'_>>
     let (&kind, after_kind) = after_flags.split_first()?;
     let (len, body) = split_length(flags, after_kind)?;
     let (value, rest) = body.split_at_checked(len)?;
-    Some(FramedAttribute { value, rest, kind })
+    Some(AttributeAndRest { value, rest, kind })
 }

@@ -1,4 +1,4 @@
-//! The error of parsers that allocate no memory. Parsers that do allocate convert it to a
+//! The error of parsers that allocate no memory. Their callers, which do allocate, convert it to a
 //! [`WireFault`].
 
 ghost use Rattle.std.specs.Prelude.{◌≡◌};
@@ -6,7 +6,7 @@ ghost use Rattle.bgp_paths.specs.declared.fault.WireFault.TheVariants.{Malformed
 
 use bgp_paths::WireFault;
 
-/// The octets don't have the expected form.
+/// An error of a parser: the octets don't have the form of the value that was to be parsed.
 #[derive(Clone, Copy)]
 pub(crate) struct IllFormed;
 

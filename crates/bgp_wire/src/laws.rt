@@ -1,11 +1,11 @@
 //! Theorems about the definitions that the contracts of this crate cite. The functions have no code
-//! and nothing calls them: what they state is proved as the crate is checked. `docs/proved.md`
-//! names them.
+//! and nothing calls them: their `ensures` clauses are proved as the crate is checked.
+//! `docs/proved.md` names them.
 
 ghost use Rattle.std.specs.Prelude.{◌≡◌};
 ghost use Rattle.ip_prefix.specs.declared.addr.Family.{Family};
 ghost use Rattle.ip_prefix.specs.Sequences.{SpellsAll};
-ghost use Rattle.ip_prefix.specs.Fronts.{IsOne};
+ghost use Rattle.ip_prefix.specs.Fronts.{IsUnambiguous};
 ghost use Rattle.bgp_wire.specs.declared.as4.TheConstants.{AS_TRANS};
 ghost use Rattle.bgp_wire.specs.declared.framing.TheConstants.{KINDS, EXTENDED_LENGTH, ORIGIN, AS_PATH, NEXT_HOP, MULTI_EXIT_DISC, LOCAL_PREF, ATOMIC_AGGREGATE, AGGREGATOR, COMMUNITIES, MP_REACH_NLRI, MP_UNREACH_NLRI, AS4_PATH, AS4_AGGREGATOR};
 ghost use Rattle.bgp_wire.specs.declared.message.TheConstants.{UPDATE, HEADER_SIZE, MARKER_SIZE};
@@ -17,28 +17,28 @@ ghost use Rattle.bgp_wire.specs.Attribute.{SpellsAttribute};
 ghost use Rattle.bgp_wire.specs.Content.{SpellsRibAttrs};
 ghost use Rattle.bgp_wire.specs.Update.{SpellsMessage, SpellsUpdate};
 
-/// Proves that octets encode at most one list of path attributes (RFC 4271, section 4.3).
-pub fn one_attribute_list()
-    ensures { IsOne (SpellsAll SpellsAttribute) }
+/// States that octets encode at most one list of path attributes (RFC 4271, section 4.3).
+pub fn law_octets_have_one_attribute_list()
+    ensures { IsUnambiguous (SpellsAll SpellsAttribute) }
 {}
 
-/// Proves that octets encode at most one set of attributes of a RIB entry, for a family and a width
+/// States that octets encode the attributes of at most one RIB entry, for a given family and size
 /// of AS numbers (RFC 6396, section 4.3.4).
-pub fn one_table_entry()
-    ensures { (family : Family) (width : AsWidth) → IsOne (SpellsRibAttrs family width) }
+pub fn law_octets_have_one_rib_entry()
+    ensures { (family : Family) (width : AsWidth) → IsUnambiguous (SpellsRibAttrs family width) }
 {}
 
-/// Proves that octets encode at most one message, and as a body at most one UPDATE, for a width of
-/// AS numbers (RFC 4271, sections 4.1 and 4.3).
-pub fn one_message()
-    ensures message { (width : AsWidth) → IsOne (SpellsMessage width) }
-    ensures update { (width : AsWidth) → IsOne (SpellsUpdate width) }
+/// States that octets encode at most one message, and at most one body of an UPDATE, for a given
+/// size of AS numbers (RFC 4271, sections 4.1 and 4.3).
+pub fn law_octets_have_one_message()
+    ensures message { (width : AsWidth) → IsUnambiguous (SpellsMessage width) }
+    ensures update { (width : AsWidth) → IsUnambiguous (SpellsUpdate width) }
 {}
 
-/// Proves the values of the numbers that the definitions name: of attributes (RFC 4271, section
+/// States the values of the constants that the definitions name: of attributes (RFC 4271, section
 /// 4.3; RFC 4760; RFC 6793), of messages (RFC 4271, section 4.1) and of address families (RFC
 /// 4760).
-pub fn attribute_numbers()
+pub fn law_attribute_constants()
     ensures extended_length { EXTENDED_LENGTH ≡ 16 }
     ensures kinds { KINDS ≡ 19 }
     ensures types { (ORIGIN ≡ 1) × (AS_PATH ≡ 2) × (NEXT_HOP ≡ 3) × (MULTI_EXIT_DISC ≡ 4)

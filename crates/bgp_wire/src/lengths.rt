@@ -1,15 +1,16 @@
-//! Length fields of two octets. The parsers of messages (`message.rt`), of UPDATEs (`update.rt`)
-//! and of attributes (`framing.rt`) call [`read_length`].
+//! The parser of length fields of two octets, which the parsers of messages (`message.rt`), of
+//! UPDATEs (`update.rt`) and of attributes (`framing.rt`) call.
 
 ghost use Rattle.std.specs.Prelude.{◌≡◌, ◌<◌, ◌^◌, length};
 ghost use Rattle.std.specs.Int.{to_be_bytes, w16};
 
 use byteorder::{BigEndian, ByteOrder};
 
-/// The size of a length field that isn't of one octet, in octets (RFC 4271, sections 4.1 and 4.3).
+/// The size of a length field, in octets (RFC 4271, sections 4.1 and 4.3). Some lengths of
+/// attributes have one octet instead.
 pub(crate) const LENGTH_SIZE: usize = 2;
 
-/// Returns the big-endian number that `octets`, which must be two, encode.
+/// Parses `octets`, which must be two, as a big-endian length.
 #[inline]
 pub(crate) fn read_length(octets: &[u8]) -> usize
     requires { length octets.now ≡ LENGTH_SIZE }

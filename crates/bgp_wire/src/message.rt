@@ -1,11 +1,11 @@
 //! A parser of BGP messages (RFC 4271, section 4). Parsers of BGP4MP records call
-//! [`replace_message`], which reuses memory. Read `parts.rt`, for what is parsed, and then
+//! [`read_message_into`], which reuses memory. Read `parts.rt`, for what is parsed, and then
 //! [`fill_message`].
 
 ghost use Rattle.std.specs.Prelude.{◌≡◌, ℕ, List, Ok, IfSome, IfNone, IfOk, IfErr, OnErr};
 ghost use Rattle.bgp_wire.specs.Update.{IsMessage, SpellsMessage};
-ghost use Rattle.bgp_paths.specs.Readers.{Reads, Refuses};
-ghost use Rattle.bgp_wire.specs.Parts.{message_in, no_parts};
+ghost use Rattle.bgp_paths.specs.Readers.{ParsesOrFails, Refuses};
+ghost use Rattle.bgp_wire.specs.Parts.{message_of_parts, empty_parts};
 
 use crate::lengths::{LENGTH_SIZE, read_length};
 use crate::parts::{MessageKind, Update, UpdateParts};
@@ -32,9 +32,9 @@ const HEADER_SIZE: usize = 19;
 /// The size of the marker, in octets (RFC 4271, section 4.1).
 const MARKER_SIZE: usize = 16;
 
-/// The type and the body of a message.
+/// A message split into its type and its body, which isn't parsed.
 #[derive(Clone, Copy)]
-struct FramedMessage<'a> {
+struct TypeAndBody<'a> {
     kind: u8,
     body: &'a [u8],
 }
@@ -42,7 +42,7 @@ struct FramedMessage<'a> {
 /// Splits the message `octets` into its type and its body (RFC 4271, section 4.1). Returns `None`
 /// if `octets` is shorter than a header, or if its length isn't the one in the header. The marker
 /// isn't checked.
-fn frame_message(octets: &[u8]) -> Option<FramedMessage<'_>>
+fn split_message(octets: &[u8]) -> Option<TypeAndBody<'_>>
     ensures some { IfSome result (λ f. IsMessage f.kind f.body.now octets.now) }
     ensures none { IfNone result ((kind : ℕ) (body : List ℕ) →
         IsMessage kind body octets.now → ⊥) }
@@ -56,24 +56,25 @@ fn frame_message(octets: &[u8]) -> Option<FramedMessage<'_>>
         return None;
     }
     let (&kind, body) = rest.split_first()?;
-    Some(FramedMessage { kind, body })
+    Some(TypeAndBody { kind, body })
 }
 
-/// Parses the message `octets`, whose AS_PATH has AS numbers of `width`. Fails with `Malformed` if
-/// the octets have another form, or with `Memory` if memory allocation fails.
+/// Parses `octets` as a message, with AS numbers of `width` in AS_PATH. Fails with `Malformed` if
+/// `octets` isn't one message of the length in its header, or if it is an UPDATE whose body is
+/// malformed, and with `Memory` if memory allocation fails. The marker isn't checked.
 pub fn read_message(alloc: Global, width: AsWidth, octets: &[u8]) -> Result<Message, WireFault>
-    ensures { Reads (SpellsMessage width) octets.now result }
+    ensures { ParsesOrFails (SpellsMessage width) octets.now result }
 {
-    let mut parts = UpdateParts::none(alloc);
+    let mut parts = UpdateParts::empty(alloc);
     match fill_message(alloc, &mut parts, width, octets)? {
         MessageKind::Update => Ok(Message::Update(parts.into_update()?)),
         MessageKind::Other(kind) => Ok(Message::Other(kind)),
     }
 }
 
-/// Parses the message `octets`, whose AS_PATH has AS numbers of `width`, into `parts` if it is an
-/// UPDATE; a message of another type leaves them unchanged. Fails with `Malformed` if the octets
-/// have another form, or with `Memory` if memory allocation fails; `parts` is unspecified then.
+/// Parses `octets` as a message, with AS numbers of `width` in AS_PATH, and returns its kind. Sets
+/// `parts` to an UPDATE; a message of another type leaves them unchanged. Fails as [`read_message`]
+/// does. On error, `parts` is unspecified.
 #[inline]
 fn fill_message(
     alloc: Global,
@@ -82,11 +83,11 @@ fn fill_message(
     octets: &[u8],
 ) -> Result<MessageKind, WireFault>
     ensures filled { IfOk result (λ kind.
-        SpellsMessage width (message_in kind parts.new) octets.now) }
+        SpellsMessage width (message_of_parts kind parts.new) octets.now) }
     ensures refused { IfErr result (Refuses (SpellsMessage width) octets.now) }
     ensures other { (kind : ℕ) → result ≡ Ok (MessageKind.Other kind) → parts.new ≡ parts.old }
 {
-    let Some(framed) = frame_message(octets) else {
+    let Some(framed) = split_message(octets) else {
         return Err(WireFault::Malformed);
     };
     if framed.kind != UPDATE {
@@ -96,25 +97,24 @@ fn fill_message(
     Ok(MessageKind::Update)
 }
 
-/// Parses the message `octets`, whose AS_PATH has AS numbers of `width`, into `parts` if it is an
-/// UPDATE, and reuses their memory. A message of another type leaves them unchanged. Fails with
-/// `Malformed` if the octets have another form, or with `Memory` if memory allocation fails;
-/// `parts` is empty then.
-pub fn replace_message(
+/// Parses `octets` as a message, with AS numbers of `width` in AS_PATH, and returns its kind. Sets
+/// `parts` to an UPDATE, reusing their memory; a message of another type leaves them unchanged.
+/// Fails as [`read_message`] does. On error, `parts` is empty.
+pub fn read_message_into(
     alloc: Global,
     parts: &mut UpdateParts,
     width: AsWidth,
     octets: &[u8],
 ) -> Result<MessageKind, WireFault>
     ensures replaced { IfOk result (λ kind.
-        SpellsMessage width (message_in kind parts.new) octets.now) }
+        SpellsMessage width (message_of_parts kind parts.new) octets.now) }
     ensures refused { IfErr result (Refuses (SpellsMessage width) octets.now) }
     ensures other { (kind : ℕ) → result ≡ Ok (MessageKind.Other kind) → parts.new ≡ parts.old }
-    ensures left { OnErr result (parts.new ≡ no_parts) }
+    ensures left { OnErr result (parts.new ≡ empty_parts) }
 {
     let result = fill_message(alloc, parts, width, octets);
     if result.is_err() {
-        *parts = UpdateParts::none(alloc);
+        *parts = UpdateParts::empty(alloc);
     }
     result
 }

@@ -1,9 +1,9 @@
 //! A parsed UPDATE (RFC 4271, section 4.3), in two forms. Messages are parsed into [`UpdateParts`],
-//! whose memory is reused for the next; [`Update`] is for a caller that keeps it.
+//! whose memory is reused for the next message; [`Update`] is for a caller that keeps it.
 
 ghost use Rattle.std.specs.Prelude.{◌≡◌, IfOk};
-ghost use Rattle.bgp_wire.specs.Reach.{attrs_with};
-ghost use Rattle.bgp_wire.specs.Parts.{no_parts, update_in};
+ghost use Rattle.bgp_wire.specs.Reach.{attrs_with_next_hop};
+ghost use Rattle.bgp_wire.specs.Parts.{empty_parts, update_of_parts};
 
 use crate::attrs::Attrs;
 use crate::prefixes::Prefixes;
@@ -59,24 +59,24 @@ pub enum MessageKind {
 }
 
 impl UpdateParts {
-    /// Returns the parts of an UPDATE without prefixes and attributes, without allocating memory.
-    pub fn none(alloc: Global) -> UpdateParts
-        ensures { result ≡ no_parts }
+    /// Returns an UPDATE without prefixes and attributes, without allocating memory.
+    pub fn empty(alloc: Global) -> UpdateParts
+        ensures { result ≡ empty_parts }
     {
         UpdateParts {
-            withdrawn: Prefixes::none(alloc),
-            mp_withdrawn: Prefixes::none(alloc),
-            attrs: Attrs::none(alloc),
-            announced: Prefixes::none(alloc),
+            withdrawn: Prefixes::empty(alloc),
+            mp_withdrawn: Prefixes::empty(alloc),
+            attrs: Attrs::empty(alloc),
+            announced: Prefixes::empty(alloc),
             mp_hop: None,
-            mp_announced: Prefixes::none(alloc),
+            mp_announced: Prefixes::empty(alloc),
         }
     }
 
-    /// Converts the parts into an [`Update`]. The attributes are copied if `mp_announced` has
-    /// prefixes; fails if memory allocation for the copy fails.
+    /// Converts the parts into an [`Update`]. If `mp_announced` has prefixes, the attributes are
+    /// copied for them, which fails if memory allocation fails.
     pub fn into_update(self) -> Result<Update, AllocError>
-        ensures { IfOk result (λ update. update ≡ update_in self) }
+        ensures { IfOk result (λ update. update ≡ update_of_parts self) }
     {
         let UpdateParts {
             withdrawn,

@@ -1,5 +1,5 @@
-//! A parser of lists of prefixes (RFC 4271, section 4.3). The parser of UPDATEs calls
-//! [`fill_prefixes`] for each of their lists.
+//! A parser of lists of prefixes (RFC 4271, section 4.3). The parsers of UPDATEs and of
+//! MP_REACH_NLRI and MP_UNREACH_NLRI call [`fill_prefixes`] for each list.
 
 ghost use Rattle.std.specs.Prelude.{OnOk, IfErr};
 ghost use Rattle.ip_prefix.specs.Sequences.{SpellsAll};
@@ -9,12 +9,13 @@ ghost use Rattle.bgp_paths.specs.Readers.{Refuses};
 use bgp_paths::{ListOf, WireFault};
 use ip_prefix::{Family, Prefix};
 
-/// The prefixes that a message announces or withdraws together.
+/// The prefixes that a field of a message announces or withdraws.
 pub type Prefixes = ListOf<Prefix>;
 
-/// Parses `octets`, prefixes of `family` one after the other, into `prefixes` (RFC 4271, section
-/// 4.3). Fails with `Malformed` if the octets have another form, or with `Memory` if memory
-/// allocation fails; `prefixes` is unspecified then.
+/// Parses `octets` as prefixes of `family`, one after the other (RFC 4271, section 4.3), and
+/// replaces `prefixes` with them. Fails with `Malformed` if `octets` ends inside a prefix or if a
+/// length is more than 32 or 128 bits, and with `Memory` if memory allocation fails. On error,
+/// `prefixes` is unspecified.
 #[inline(always)]
 pub(crate) fn fill_prefixes(
     prefixes: &mut Prefixes,
@@ -28,13 +29,12 @@ pub(crate) fn fill_prefixes(
         prefixes.items.clear();
         return Ok(());
     }
-    fill_some_prefixes(prefixes, family, octets)
+    fill_nonempty_prefixes(prefixes, family, octets)
 }
 
-/// Parses `octets`, prefixes of `family` one after the other, into `prefixes` as [`fill_prefixes`]
-/// does.
+/// Parses `octets` as [`fill_prefixes`] does, out of line.
 #[inline(never)]
-fn fill_some_prefixes(
+fn fill_nonempty_prefixes(
     prefixes: &mut Prefixes,
     family: Family,
     octets: &[u8],

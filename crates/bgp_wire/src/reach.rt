@@ -1,11 +1,11 @@
 //! Parsers of MP_REACH_NLRI and MP_UNREACH_NLRI in UPDATEs (RFC 4760, sections 3 and 4). The parser
-//! of UPDATEs calls [`fill_reach`] and [`fill_unreach`]. Read [`Scope`] first.
+//! of UPDATEs calls [`fill_mp_reach`] and [`fill_mp_unreach`]. Read [`AfiSafi`] first.
 
 ghost use Rattle.std.specs.Prelude.{◌≡◌, ℕ, List, Option, IfSome, IfNone, IfErr, OnOk};
 ghost use Rattle.ip_prefix.specs.Network.{Address};
-ghost use Rattle.bgp_wire.specs.PlainValues.{octets_of};
-ghost use Rattle.bgp_wire.specs.Reach.{HopStands, Reach, SaysReach, SaysUnreach, reach_hop, reach_prefixes};
-ghost use Rattle.bgp_wire.specs.Parts.{BeginsIn};
+ghost use Rattle.bgp_wire.specs.PlainValues.{lent_octets};
+ghost use Rattle.bgp_wire.specs.Reach.{BeginsWithHop, Reach, SpellsMpReach, SpellsMpUnreach, reach_hop, reach_prefixes};
+ghost use Rattle.bgp_wire.specs.Parts.{IsAfiSafiOf};
 ghost use Rattle.bgp_paths.specs.Readers.{Refuses};
 
 use crate::next_hop::{FAMILY_SIZE, read_next_hop};
@@ -13,50 +13,50 @@ use crate::prefixes::{Prefixes, fill_prefixes};
 use bgp_paths::WireFault;
 use ip_prefix::{Addr, Family};
 
-/// The address family of IPv4, which is sent in two octets (RFC 4760, section 3).
+/// The AFI of IPv4, which is sent in two octets (RFC 4760, section 3).
 const AFI_IPV4: u8 = 1;
-/// The address family of IPv6, which is sent in two octets (RFC 4760, section 3).
+/// The AFI of IPv6, which is sent in two octets (RFC 4760, section 3).
 const AFI_IPV6: u8 = 2;
-/// The subsequent address family of unicast (RFC 4760, section 6).
+/// The SAFI of unicast (RFC 4760, section 6).
 const SAFI_UNICAST: u8 = 1;
 
-/// The address families at the start of the value of MP_REACH_NLRI or MP_UNREACH_NLRI.
+/// The AFI and the SAFI at the start of the value of MP_REACH_NLRI or MP_UNREACH_NLRI (RFC 4760,
+/// sections 3 and 4).
 #[derive(Clone, Copy)]
-enum Scope<'a> {
-    /// Unicast of a family, and the octets after the address families.
+enum AfiSafi<'a> {
+    /// Unicast of IPv4 or IPv6, and the octets after the SAFI.
     Unicast(Family, &'a [u8]),
-    /// Another address family, or another subsequent address family.
+    /// Another AFI, or another SAFI.
     Another,
 }
 
-/// Parses the address family, of two octets, and the subsequent address family, of one, at the
-/// start of `octets` (RFC 4760, sections 3 and 4). Returns `None` if `octets` has fewer than three
-/// octets.
-fn read_scope(octets: &[u8]) -> Option<Scope<'_>>
-    ensures { BeginsIn octets.now result }
+/// Parses the AFI, of two octets, and the SAFI, of one, at the start of `octets` (RFC 4760,
+/// sections 3 and 4). Returns `None` if `octets` has fewer than three octets.
+fn read_afi_safi(octets: &[u8]) -> Option<AfiSafi<'_>>
+    ensures { IsAfiSafiOf octets.now result }
 {
     let (front, rest) = octets.split_at_checked(FAMILY_SIZE)?;
     match front {
-        [0, AFI_IPV4, SAFI_UNICAST] => Some(Scope::Unicast(Family::V4, rest)),
-        [0, AFI_IPV6, SAFI_UNICAST] => Some(Scope::Unicast(Family::V6, rest)),
-        _ => Some(Scope::Another),
+        [0, AFI_IPV4, SAFI_UNICAST] => Some(AfiSafi::Unicast(Family::V4, rest)),
+        [0, AFI_IPV6, SAFI_UNICAST] => Some(AfiSafi::Unicast(Family::V6, rest)),
+        _ => Some(AfiSafi::Another),
     }
 }
 
-/// A next hop at the start of a slice, and the octets after it and after its reserved octet.
+/// A next hop at the start of a slice, and the octets after the reserved octet that follows it.
 #[derive(Clone, Copy)]
-struct FramedHop<'a> {
+struct NextHopAndRest<'a> {
     hop: Addr,
     rest: &'a [u8],
 }
 
-/// Parses the next hop at the start of `octets`, between its length, of one octet, and a reserved
-/// octet (RFC 4760, section 3). Returns `None` if `octets` is shorter, or if no next hop has that
-/// length.
-fn split_next_hop(octets: &[u8]) -> Option<FramedHop<'_>>
-    ensures some { IfSome result (λ f. HopStands f.hop f.rest.now octets.now) }
+/// Splits a next hop off the start of `octets`: its length, of one octet, its address, and a
+/// reserved octet, which is ignored (RFC 4760, section 3). Returns `None` if `octets` ends before
+/// the reserved octet, or if no next hop has that length.
+fn split_next_hop(octets: &[u8]) -> Option<NextHopAndRest<'_>>
+    ensures some { IfSome result (λ f. BeginsWithHop f.hop f.rest.now octets.now) }
     ensures none { IfNone result ((hop : Address) (rest : List ℕ) →
-        HopStands hop rest octets.now → ⊥) }
+        BeginsWithHop hop rest octets.now → ⊥) }
 {
     let (&len, after_len) = octets.split_first()?;
     let size = usize::from(len);
@@ -66,30 +66,30 @@ fn split_next_hop(octets: &[u8]) -> Option<FramedHop<'_>>
     let (front, after_hop) = after_len.split_at(size);
     let hop = read_next_hop(front)?;
     let (_, rest) = after_hop.split_at(1);
-    Some(FramedHop { hop, rest })
+    Some(NextHopAndRest { hop, rest })
 }
 
-/// Parses the value of MP_REACH_NLRI into `next_hop` and `prefixes` (RFC 4760, section 3). If it is
-/// absent or isn't of IPv4 or IPv6 unicast, they become `None` and empty. Fails with `Malformed` if
-/// the value has another form, or with `Memory` if memory allocation fails; both are unspecified
-/// then.
-pub(crate) fn fill_reach(
+/// Parses `value`, the value of MP_REACH_NLRI, into `next_hop` and `prefixes` (RFC 4760, section
+/// 3). If it is absent or isn't of IPv4 or IPv6 unicast, they become `None` and empty. Fails with
+/// `Malformed` if the value has another form, and with `Memory` if memory allocation fails. On
+/// error, both are unspecified.
+pub(crate) fn fill_mp_reach(
     next_hop: &mut Option<Addr>,
     prefixes: &mut Prefixes,
     value: Option<&[u8]>,
 ) -> Result<(), WireFault>
-    ensures filled { OnOk result ((reach : Option Reach) × SaysReach reach (octets_of value.entry)
+    ensures filled { OnOk result ((reach : Option Reach) × SpellsMpReach reach (lent_octets value.entry)
         × (next_hop.new ≡ reach_hop reach) × (prefixes.new ≡ reach_prefixes reach)) }
-    ensures refused { IfErr result (Refuses SaysReach (octets_of value.entry)) }
+    ensures refused { IfErr result (Refuses SpellsMpReach (lent_octets value.entry)) }
 {
     *next_hop = None;
     prefixes.items.clear();
     let Some(octets) = value else {
         return Ok(());
     };
-    match read_scope(octets).ok_or(WireFault::Malformed)? {
-        Scope::Another => Ok(()),
-        Scope::Unicast(family, rest) => {
+    match read_afi_safi(octets).ok_or(WireFault::Malformed)? {
+        AfiSafi::Another => Ok(()),
+        AfiSafi::Unicast(family, rest) => {
             let Some(framed) = split_next_hop(rest) else {
                 return Err(WireFault::Malformed);
             };
@@ -100,19 +100,23 @@ pub(crate) fn fill_reach(
     }
 }
 
-/// Parses the value of MP_UNREACH_NLRI into `prefixes` (RFC 4760, section 4). If it is absent or
-/// isn't of IPv4 or IPv6 unicast, they become empty. Fails with `Malformed` if the value has
-/// another form, or with `Memory` if memory allocation fails; `prefixes` is unspecified then.
-pub(crate) fn fill_unreach(prefixes: &mut Prefixes, value: Option<&[u8]>) -> Result<(), WireFault>
-    ensures filled { OnOk result (SaysUnreach prefixes.new (octets_of value.entry)) }
-    ensures refused { IfErr result (Refuses SaysUnreach (octets_of value.entry)) }
+/// Parses `value`, the value of MP_UNREACH_NLRI, into `prefixes` (RFC 4760, section 4). If it is
+/// absent or isn't of IPv4 or IPv6 unicast, they become empty. Fails with `Malformed` if the value
+/// has another form, and with `Memory` if memory allocation fails. On error, `prefixes` is
+/// unspecified.
+pub(crate) fn fill_mp_unreach(
+    prefixes: &mut Prefixes,
+    value: Option<&[u8]>,
+) -> Result<(), WireFault>
+    ensures filled { OnOk result (SpellsMpUnreach prefixes.new (lent_octets value.entry)) }
+    ensures refused { IfErr result (Refuses SpellsMpUnreach (lent_octets value.entry)) }
 {
     prefixes.items.clear();
     let Some(octets) = value else {
         return Ok(());
     };
-    match read_scope(octets).ok_or(WireFault::Malformed)? {
-        Scope::Another => Ok(()),
-        Scope::Unicast(family, rest) => fill_prefixes(prefixes, family, rest),
+    match read_afi_safi(octets).ok_or(WireFault::Malformed)? {
+        AfiSafi::Another => Ok(()),
+        AfiSafi::Unicast(family, rest) => fill_prefixes(prefixes, family, rest),
     }
 }

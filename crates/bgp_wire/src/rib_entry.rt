@@ -1,24 +1,24 @@
-//! A parser of the path attributes of RIB entries (RFC 6396, section 4.3.4). The parser of RIB
-//! records calls [`replace_rib_attrs`]; read [`fill_rib_attrs`] first.
+//! Parsers of the path attributes of RIB entries (RFC 6396, section 4.3.4). The parser of RIB
+//! records calls [`read_rib_attrs_into`]; read [`fill_rib_attrs`] first.
 
 ghost use Rattle.std.specs.Prelude.{◌≡◌, OnOk, OnErr, IfErr};
 ghost use Rattle.bgp_wire.specs.Content.{SpellsRibAttrs};
-ghost use Rattle.bgp_wire.specs.Parts.{no_attrs};
-ghost use Rattle.bgp_paths.specs.Readers.{Reads, Refuses};
+ghost use Rattle.bgp_wire.specs.Parts.{absent_attrs};
+ghost use Rattle.bgp_paths.specs.Readers.{ParsesOrFails, Refuses};
 
-use crate::as4::join_passed;
-use crate::attribute_list::{LaterValues, SentList, read_list};
+use crate::as4::merge_as4;
+use crate::attribute_list::{AttributeOctets, DeferredValues, read_attribute_list};
 use crate::attrs::Attrs;
 use crate::framing::MP_REACH_NLRI;
-use crate::next_hop::fill_rib_hop;
+use crate::next_hop::set_rib_next_hop;
 use crate::seen_types::SeenTypes;
 use bgp_paths::{AsWidth, WireFault};
 use ip_prefix::Family;
 use std::alloc::Global;
 
-/// Parses the path attributes `octets` of a RIB entry for a prefix of `family` into `attrs`, with
-/// AS numbers of `width` in AS_PATH (RFC 6396, section 4.3.4). Fails with `Malformed` if the octets
-/// have another form, or with `Memory` if memory allocation fails; `attrs` is unspecified then.
+/// Parses `octets` as the path attributes of a RIB entry for a prefix of `family` into `attrs`,
+/// with AS numbers of `width` in AS_PATH (RFC 6396, section 4.3.4). The memory of `attrs` is
+/// reused. Fails as [`read_rib_attrs`] does. On error, `attrs` is unspecified.
 #[inline]
 fn fill_rib_attrs(
     alloc: Global,
@@ -30,38 +30,40 @@ fn fill_rib_attrs(
     ensures filled { OnOk result (SpellsRibAttrs family width attrs.new octets.now) }
     ensures refused { IfErr result (Refuses (SpellsRibAttrs family width) octets.now) }
 {
-    let mut later = LaterValues::default();
-    let mut types = SeenTypes::none();
-    let sent = SentList { octets, width };
-    read_list(alloc, attrs, sent, &mut later, &mut types)?;
+    let mut later = DeferredValues::default();
+    let mut types = SeenTypes::empty();
+    let sent = AttributeOctets { octets, width };
+    read_attribute_list(alloc, attrs, sent, &mut later, &mut types)?;
     if types.repeats(MP_REACH_NLRI) {
         return Err(WireFault::Malformed);
     }
-    join_passed(alloc, attrs, width, &later)?;
-    fill_rib_hop(family, &mut attrs.next_hop, later.reach)?;
+    merge_as4(alloc, attrs, width, &later)?;
+    set_rib_next_hop(family, &mut attrs.next_hop, later.reach)?;
     Ok(())
 }
 
-/// Parses the path attributes `octets` of a RIB entry for a prefix of `family`, with AS numbers of
-/// `width` in AS_PATH (RFC 6396, section 4.3.4). Fails with `Malformed` if the octets have another
-/// form, or with `Memory` if memory allocation fails.
+/// Parses `octets` as the path attributes of a RIB entry for a prefix of `family`, with AS numbers
+/// of `width` in AS_PATH (RFC 6396, section 4.3.4). Fails with `Malformed` if `octets` isn't a list
+/// of attributes, if the first value of a type doesn't have the form of the type (but AS4_PATH and
+/// AS4_AGGREGATOR are then ignored), or if MP_REACH_NLRI is there twice. Fails with `Memory` if
+/// memory allocation fails.
 pub fn read_rib_attrs(
     alloc: Global,
     family: Family,
     width: AsWidth,
     octets: &[u8],
 ) -> Result<Attrs, WireFault>
-    ensures { Reads (SpellsRibAttrs family width) octets.now result }
+    ensures { ParsesOrFails (SpellsRibAttrs family width) octets.now result }
 {
-    let mut attrs = Attrs::none(alloc);
+    let mut attrs = Attrs::empty(alloc);
     fill_rib_attrs(alloc, &mut attrs, family, width, octets)?;
     Ok(attrs)
 }
 
-/// Parses the path attributes `octets` of a RIB entry, as [`read_rib_attrs`] does, into `attrs`,
-/// whose memory is reused. Fails with `Malformed` if the octets have another form, or with `Memory`
-/// if memory allocation fails; all attributes are absent then.
-pub fn replace_rib_attrs(
+/// Parses `octets` as the path attributes of a RIB entry for a prefix of `family` into `attrs`,
+/// with AS numbers of `width` in AS_PATH (RFC 6396, section 4.3.4). The memory of `attrs` is
+/// reused. Fails as [`read_rib_attrs`] does. On error, all attributes are absent.
+pub fn read_rib_attrs_into(
     alloc: Global,
     attrs: &mut Attrs,
     family: Family,
@@ -70,11 +72,11 @@ pub fn replace_rib_attrs(
 ) -> Result<(), WireFault>
     ensures replaced { OnOk result (SpellsRibAttrs family width attrs.new octets.now) }
     ensures refused { IfErr result (Refuses (SpellsRibAttrs family width) octets.now) }
-    ensures left { OnErr result (attrs.new ≡ no_attrs) }
+    ensures left { OnErr result (attrs.new ≡ absent_attrs) }
 {
     let result = fill_rib_attrs(alloc, attrs, family, width, octets);
     if result.is_err() {
-        *attrs = Attrs::none(alloc);
+        *attrs = Attrs::empty(alloc);
     }
     result
 }

@@ -1,31 +1,31 @@
-//! A parser of UPDATE messages (RFC 4271, section 4.3). The parser of messages calls
-//! [`fill_update`]; read that function first.
+//! A parser of the bodies of UPDATE messages (RFC 4271, section 4.3). The parser of messages
+//! (`message.rt`) calls [`fill_update`]; read that function first.
 
 ghost use Rattle.std.specs.Prelude.{◌≡◌, ℕ, ◌<◌, ◌^◌, ◌++◌, List, length, IfSome, IfNone, IfErr, OnOk};
-ghost use Rattle.bgp_wire.specs.Parts.{update_in, SpellsParts};
+ghost use Rattle.bgp_wire.specs.Parts.{update_of_parts, SpellsParts};
 ghost use Rattle.bgp_paths.specs.Readers.{Refuses};
-ghost use Rattle.bgp_wire.specs.Update.{sized_octets, SpellsUpdate};
+ghost use Rattle.bgp_wire.specs.Update.{with_u16_length, SpellsUpdate};
 
-use crate::as4::join_passed;
-use crate::attribute_list::{LaterValues, SentList, read_list};
+use crate::as4::merge_as4;
+use crate::attribute_list::{AttributeOctets, DeferredValues, read_attribute_list};
 use crate::framing::{MP_REACH_NLRI, MP_UNREACH_NLRI};
 use crate::lengths::{LENGTH_SIZE, read_length};
 use crate::parts::UpdateParts;
 use crate::prefixes::fill_prefixes;
-use crate::reach::{fill_reach, fill_unreach};
+use crate::reach::{fill_mp_reach, fill_mp_unreach};
 use crate::seen_types::SeenTypes;
 use bgp_paths::{AsWidth, WireFault};
 use ip_prefix::Family;
 use std::alloc::Global;
 
-/// Splits a field off that begins with its length, a big-endian 16-bit number of octets. Returns
-/// the field's octets without the length, and the octets after the field. Returns `None` if
-/// `octets` is shorter than the field.
-fn split_sized(octets: &[u8]) -> Option<(&[u8], &[u8])>
+/// Splits a field off the start of `octets` that begins with its length, of two octets, big-endian.
+/// Returns the octets of the field after its length, and the octets after the field. Returns `None`
+/// if `octets` ends inside the field.
+fn split_length_prefixed(octets: &[u8]) -> Option<(&[u8], &[u8])>
     ensures some { IfSome result (λ found. (length found.0.now < 2 ^ 16)
-        × (octets.now ≡ sized_octets found.0.now ++ found.1.now)) }
+        × (octets.now ≡ with_u16_length found.0.now ++ found.1.now)) }
     ensures none { IfNone result ((front rest : List ℕ) →
-        length front < 2 ^ 16 → octets.now ≡ sized_octets front ++ rest → ⊥) }
+        length front < 2 ^ 16 → octets.now ≡ with_u16_length front ++ rest → ⊥) }
 {
     if octets.len() < LENGTH_SIZE {
         return None;
@@ -34,12 +34,14 @@ fn split_sized(octets: &[u8]) -> Option<(&[u8], &[u8])>
     rest.split_at_checked(read_length(len))
 }
 
-/// Parses the path attributes `octets` of an UPDATE into `parts`: its attributes, with AS numbers
-/// of `width` in AS_PATH, and what MP_REACH_NLRI and MP_UNREACH_NLRI announce and withdraw. Fails
-/// with `Malformed` if the octets have another form, or with `Memory` if memory allocation fails;
-/// `parts` is unspecified then.
+/// Parses `octets` as the path attributes of an UPDATE into `parts`: its attributes, with AS
+/// numbers of `width` in AS_PATH, and the prefixes of MP_REACH_NLRI and MP_UNREACH_NLRI. The other
+/// two lists of prefixes are unchanged. Fails with `Malformed` if `octets` isn't a list of
+/// attributes, if the first value of a type doesn't have the form of the type (but AS4_PATH and
+/// AS4_AGGREGATOR are then ignored), or if MP_REACH_NLRI or MP_UNREACH_NLRI is there twice, and
+/// with `Memory` if memory allocation fails. On error, `parts` is unspecified.
 #[inline]
-fn fill_said(
+fn fill_from_attributes(
     alloc: Global,
     parts: &mut UpdateParts,
     width: AsWidth,
@@ -48,22 +50,23 @@ fn fill_said(
     ensures filled { OnOk result (SpellsParts width parts.new octets.now) }
     ensures refused { IfErr result (Refuses (SpellsParts width) octets.now) }
 {
-    let mut later = LaterValues::default();
-    let mut types = SeenTypes::none();
-    let sent = SentList { octets, width };
-    read_list(alloc, &mut parts.attrs, sent, &mut later, &mut types)?;
+    let mut later = DeferredValues::default();
+    let mut types = SeenTypes::empty();
+    let sent = AttributeOctets { octets, width };
+    read_attribute_list(alloc, &mut parts.attrs, sent, &mut later, &mut types)?;
     if types.repeats(MP_REACH_NLRI) || types.repeats(MP_UNREACH_NLRI) {
         return Err(WireFault::Malformed);
     }
-    join_passed(alloc, &mut parts.attrs, width, &later)?;
-    fill_reach(&mut parts.mp_hop, &mut parts.mp_announced, later.reach)?;
-    fill_unreach(&mut parts.mp_withdrawn, later.unreach)?;
+    merge_as4(alloc, &mut parts.attrs, width, &later)?;
+    fill_mp_reach(&mut parts.mp_hop, &mut parts.mp_announced, later.reach)?;
+    fill_mp_unreach(&mut parts.mp_withdrawn, later.unreach)?;
     Ok(())
 }
 
-/// Parses the body of an UPDATE into `parts`, with AS numbers of `width` in AS_PATH (RFC 4271,
-/// section 4.3). Fails with `Malformed` if the body has another form, or with `Memory` if memory
-/// allocation fails; `parts` is unspecified then.
+/// Parses `body` as the body of an UPDATE into `parts`, with AS numbers of `width` in AS_PATH (RFC
+/// 4271, section 4.3). Fails with `Malformed` if `body` isn't two fields with lengths and prefixes,
+/// or if the attributes or the prefixes are malformed, and with `Memory` if memory allocation
+/// fails. On error, `parts` is unspecified.
 #[inline]
 pub(crate) fn fill_update(
     alloc: Global,
@@ -71,16 +74,16 @@ pub(crate) fn fill_update(
     width: AsWidth,
     body: &[u8],
 ) -> Result<(), WireFault>
-    ensures filled { OnOk result (SpellsUpdate width (update_in parts.new) body.now) }
+    ensures filled { OnOk result (SpellsUpdate width (update_of_parts parts.new) body.now) }
     ensures refused { IfErr result (Refuses (SpellsUpdate width) body.now) }
 {
-    let Some((withdrawn, rest)) = split_sized(body) else {
+    let Some((withdrawn, rest)) = split_length_prefixed(body) else {
         return Err(WireFault::Malformed);
     };
-    let Some((attributes, announced)) = split_sized(rest) else {
+    let Some((attributes, announced)) = split_length_prefixed(rest) else {
         return Err(WireFault::Malformed);
     };
-    fill_said(alloc, parts, width, attributes)?;
+    fill_from_attributes(alloc, parts, width, attributes)?;
     fill_prefixes(&mut parts.withdrawn, Family::V4, withdrawn)?;
     fill_prefixes(&mut parts.announced, Family::V4, announced)?;
     Ok(())

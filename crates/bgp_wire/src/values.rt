@@ -3,11 +3,11 @@
 //! type.
 
 ghost use Rattle.std.specs.Prelude.{◌≡◌, ◌+◌, length, Some, None, IsSome, OnOk, OnErr};
-ghost use Rattle.bgp_wire.specs.PlainValues.{octets_of};
-ghost use Rattle.bgp_wire.specs.Content.{SpellsWhereFormed};
-ghost use Rattle.bgp_paths.specs.Path.{IsNoSpelling, SpellsWord, octets_at};
+ghost use Rattle.bgp_wire.specs.PlainValues.{lent_octets};
+ghost use Rattle.bgp_wire.specs.Content.{SpellsIfWellFormed};
+ghost use Rattle.bgp_paths.specs.Path.{IsNoSpelling, SpellsU32, asn_size};
 ghost use Rattle.bgp_wire.specs.Attribute.{SpellsPresence, SpellsOrigin, SpellsIPv4, SpellsAggregatorAt, SpellsAggregator};
-ghost use Rattle.bgp_paths.specs.Readers.{Finds};
+ghost use Rattle.bgp_paths.specs.Readers.{ParsesTo};
 
 use crate::attrs::{Aggregator, Origin};
 use crate::ill_formed::IllFormed;
@@ -26,7 +26,7 @@ const ORIGIN_INCOMPLETE: u8 = 2;
 pub(crate) const IPV4_SIZE: usize = 4;
 
 /// The size of MULTI_EXIT_DISC and of LOCAL_PREF, in octets (RFC 4271, section 4.3).
-const WORD_SIZE: usize = 4;
+const U32_SIZE: usize = 4;
 
 /// The size of AGGREGATOR with an AS number of two octets, in octets (RFC 4271, section 4.3).
 const AGGREGATOR_SIZE: usize = 6;
@@ -35,11 +35,11 @@ const AGGREGATOR_SIZE: usize = 6;
 /// 6793, section 3).
 const AS4_AGGREGATOR_SIZE: usize = 8;
 
-/// Parses the value of ORIGIN (RFC 4271, section 4.3), or returns `None` if it isn't one octet of
-/// 0, 1 or 2.
+/// Parses `value`, the value of ORIGIN (RFC 4271, section 4.3). Returns `None` if it isn't one
+/// octet of 0, 1 or 2.
 #[inline]
 pub(crate) fn read_origin(value: &[u8]) -> Option<Origin>
-    ensures { Finds SpellsOrigin value.now result }
+    ensures { ParsesTo SpellsOrigin value.now result }
 {
     match value {
         [ORIGIN_IGP] => Some(Origin::Igp),
@@ -49,34 +49,34 @@ pub(crate) fn read_origin(value: &[u8]) -> Option<Origin>
     }
 }
 
-/// Parses the value of MULTI_EXIT_DISC or of LOCAL_PREF, a big-endian 32-bit number (RFC 4271,
-/// section 4.3), or returns `None` if it doesn't have four octets.
+/// Parses `value`, the value of MULTI_EXIT_DISC or LOCAL_PREF: a big-endian 32-bit number (RFC
+/// 4271, section 4.3). Returns `None` if it doesn't have four octets.
 #[inline]
-pub(crate) fn read_word(value: &[u8]) -> Option<u32>
-    ensures { Finds SpellsWord value.now result }
+pub(crate) fn read_u32(value: &[u8]) -> Option<u32>
+    ensures { ParsesTo SpellsU32 value.now result }
 {
-    if value.len() != WORD_SIZE {
+    if value.len() != U32_SIZE {
         return None;
     }
     Some(AsWidth::Four.number(value))
 }
 
-/// Parses the value of NEXT_HOP, an IPv4 address (RFC 4271, section 4.3), or returns `None` if it
-/// doesn't have four octets.
+/// Parses `value`, the value of NEXT_HOP: an IPv4 address (RFC 4271, section 4.3). Returns `None`
+/// if it doesn't have four octets.
 #[inline]
 pub(crate) fn read_ipv4(value: &[u8]) -> Option<Addr>
-    ensures { Finds SpellsIPv4 value.now result }
+    ensures { ParsesTo SpellsIPv4 value.now result }
 {
     if value.len() != IPV4_SIZE {
         return None;
     }
-    Some(ipv4(value))
+    Some(ipv4_addr(value))
 }
 
-/// Parses the value of AGGREGATOR (RFC 4271, section 4.3; RFC 6793, section 3). Its length, of 6 or
-/// 8 octets, gives the width of the AS number. Returns `None` for another length.
+/// Parses `value`, the value of AGGREGATOR: an AS number of two or four octets, and an IPv4 address
+/// (RFC 4271, section 4.3; RFC 6793, section 3). Returns `None` if it has neither 6 nor 8 octets.
 pub(crate) fn read_aggregator(value: &[u8]) -> Option<Aggregator>
-    ensures { Finds SpellsAggregator value.now result }
+    ensures { ParsesTo SpellsAggregator value.now result }
 {
     match value.len() {
         AGGREGATOR_SIZE => Some(aggregator(AsWidth::Two, value)),
@@ -85,10 +85,12 @@ pub(crate) fn read_aggregator(value: &[u8]) -> Option<Aggregator>
     }
 }
 
-/// Sets `place` to `found` if that is some value. Fails if `found` is `None`, and leaves `place` as
-/// it was.
+/// Sets `place` to `found`. Fails if `found` is `None`, and then leaves `place` unchanged.
 #[inline(always)]
-pub(crate) fn put_found<T: Copy>(place: &mut Option<T>, found: Option<T>) -> Result<(), IllFormed>
+pub(crate) fn set_if_found<T: Copy>(
+    place: &mut Option<T>,
+    found: Option<T>,
+) -> Result<(), IllFormed>
     ensures put { OnOk result (IsSome found × (place.new ≡ found)) }
     ensures none { OnErr result (found ≡ None) }
 {
@@ -99,10 +101,10 @@ pub(crate) fn put_found<T: Copy>(place: &mut Option<T>, found: Option<T>) -> Res
     Ok(())
 }
 
-/// Sets `atomic` if `value`, the value of ATOMIC_AGGREGATE, is empty (RFC 4271, section 4.3). Fails
-/// if it isn't, and leaves `atomic` as it was.
+/// Sets `atomic` to true if `value`, the value of ATOMIC_AGGREGATE, is empty (RFC 4271, section
+/// 4.3). Fails if it isn't, and then leaves `atomic` unchanged.
 #[inline]
-pub(crate) fn fill_presence(atomic: &mut bool, value: &[u8]) -> Result<(), IllFormed>
+pub(crate) fn set_atomic_if_empty(atomic: &mut bool, value: &[u8]) -> Result<(), IllFormed>
     ensures filled { OnOk result (SpellsPresence atomic.new (Some value.now)) }
     ensures refused { OnErr result (IsNoSpelling SpellsPresence (Some value.now)) }
 {
@@ -113,10 +115,10 @@ pub(crate) fn fill_presence(atomic: &mut bool, value: &[u8]) -> Result<(), IllFo
     Ok(())
 }
 
-/// Parses the value of AS4_AGGREGATOR (RFC 6793, section 3), or returns `None` if it is absent or
-/// doesn't have eight octets.
+/// Parses `value`, the value of AS4_AGGREGATOR: an AS number of four octets, and an IPv4 address
+/// (RFC 6793, section 3). Returns `None` if it is absent or doesn't have eight octets.
 pub(crate) fn read_as4_aggregator(value: Option<&[u8]>) -> Option<Aggregator>
-    ensures { SpellsWhereFormed (SpellsAggregatorAt AsWidth.Four) result (octets_of value.entry) }
+    ensures { SpellsIfWellFormed (SpellsAggregatorAt AsWidth.Four) result (lent_octets value.entry) }
 {
     match value {
         Some(octets) if octets.len() == AS4_AGGREGATOR_SIZE => {
@@ -126,20 +128,20 @@ pub(crate) fn read_as4_aggregator(value: Option<&[u8]>) -> Option<Aggregator>
     }
 }
 
-/// Parses `octets`, a big-endian AS number of `width` and an IPv4 address, as an aggregator (RFC
+/// Parses `octets` as an aggregator: a big-endian AS number of `width`, and an IPv4 address (RFC
 /// 4271, section 4.3). `octets` must have the length of both.
 fn aggregator(width: AsWidth, octets: &[u8]) -> Aggregator
-    requires { length octets.now ≡ octets_at width + IPV4_SIZE }
+    requires { length octets.now ≡ asn_size width + IPV4_SIZE }
     ensures { SpellsAggregatorAt width result octets.now }
 {
     let (number, address) = octets.split_at(width.octets());
-    let (addr, asn) = (ipv4(address), width.number(number));
+    let (addr, asn) = (ipv4_addr(address), width.number(number));
     Aggregator { addr, asn }
 }
 
-/// Returns the IPv4 address of `octets`, which must be four.
+/// Parses `octets`, which must be four, as an IPv4 address.
 #[inline]
-pub(crate) fn ipv4(octets: &[u8]) -> Addr
+pub(crate) fn ipv4_addr(octets: &[u8]) -> Addr
     requires { length octets.now ≡ IPV4_SIZE }
     ensures { SpellsIPv4 result octets.now }
 {

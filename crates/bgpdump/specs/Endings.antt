@@ -1,18 +1,18 @@
 -- Private.
--- What a run of the program leaves, and how it ends.
+-- What a run of the program leaves in its devices, and how the program ends. Read `LeavesTexts` first.
 use Rattle.std.specs.Prelude.{◌≡◌, ◌≤◌, ℕ, ◌^◌, List, [], length, Option, Some, None, IfSome, IsTrue, ◌⊎◌, codes}
 use Rattle.std.specs.Io.KnownBytes.{Keeps}
 use Rattle.std.specs.Io.Buffered.{reader_remaining, writer_contents}
 use Rattle.mrt_wire.specs.declared.BufferedInput.{BufferedInput}
 use Rattle.mrt_wire.specs.declared.Stamp.{Stamp}
-use Rattle.mrt_wire.specs.Results.{Took, Finding, Splits, Frame}
-use Rattle.bgpdump_tool.specs.Run.{EndedByInput, EndsSo, Outputs, OverTaken, Texts, Writes, all_results, outputs_of}
-use Rattle.bgpdump_tool.specs.Course.{OverLines, play_texts}
+use Rattle.mrt_wire.specs.Results.{TakesFront, RecordResult, Splits, Frame}
+use Rattle.bgpdump_tool.specs.Run.{EndedByInput, EndsWithTexts, Outputs, HoldsForTaken, Texts, Writes, all_results, outputs_of}
+use Rattle.bgpdump_tool.specs.Course.{HoldsForLines, play_texts}
 use Rattle.bgpdump_tool.specs.declared.play.TheConstants.{LONGEST_SCRIPT}
 use Rattle.bgpdump.specs.declared.run.Devices.{Devices}
-use Rattle.bgpdump.specs.declared.run.Ended.{Ended}
-use Rattle.bgpdump.specs.declared.run.Streams.{Streams}
-use Rattle.bgpdump_tool.specs.Going.{status_of}
+use Rattle.bgpdump.specs.declared.run.FinishedRun.{FinishedRun}
+use Rattle.bgpdump.specs.declared.run.BufferedStreams.{BufferedStreams}
+use Rattle.bgpdump_tool.specs.WrittenSoFar.{exit_status}
 use Rattle.bgpdump_tool.specs.declared.Outcome.{Outcome}
 use Rattle.bgpdump_tool.specs.declared.Outcome.TheVariants.{ReadFault, WriteFault, InputTooLong, ScriptTooLong, Memory}
 use Rattle.bgpdump.specs.declared.ending.Instructions.{Instructions}
@@ -22,89 +22,102 @@ use Rattle.bgpdump_tool.specs.declared.UsageFault.TheVariants as usage
 
 -- ---- what a run of the program leaves with its writers, and of its input
 
--- this is so of what the writers hold that came back; nothing is said where none came back
-abbrev pub OverWriters : {O E : Type 0} → (O → Option (List ℕ)) → (E → Option (List ℕ)) → (Outputs → Type 0) → Option (O × E) → Type 0
-OverWriters contents contents' IsSo writers = IfSome writers (λ both. IsSo (outputs_of contents contents' both.0 both.1))
+-- `IsSo` holds of the octets of the writers that a run gives back, where `contents` and `contents'` know
+-- them. Holds if it gives none back.
+abbrev pub HoldsForWriters : {O E : Type 0} → (O → Option (List ℕ)) → (E → Option (List ℕ)) → (Outputs → Type 0) → Option (O × E) → Type 0
+HoldsForWriters contents contents' IsSo writers = IfSome writers (λ both. IsSo (outputs_of contents contents' both.0 both.1))
 
--- it relates so to what they held before
-abbrev pub Leaves : {R O E : Type 0} → (O → Option (List ℕ)) → (E → Option (List ℕ)) → (Outputs → Outputs → Type 0) → Devices R O E → Ended R O E → Type 0
-Leaves contents contents' Relates devices ended = OverWriters contents contents' (Relates (outputs_of contents contents' devices.out devices.err)) ended.writers
+-- `Relates` holds between the octets of the writers before the run and after it. Holds if the run gives no
+-- writers back.
+abbrev pub Leaves : {R O E : Type 0} → (O → Option (List ℕ)) → (E → Option (List ℕ)) → (Outputs → Outputs → Type 0) → Devices R O E → FinishedRun R O E → Type 0
+Leaves contents contents' Relates devices ended = HoldsForWriters contents contents' (Relates (outputs_of contents contents' devices.out devices.err)) ended.writers
 
--- what the outputs of a run hold, with what is still in their buffers
-abbrev pub buffered_outputs : {R O E : Type 0} → (O → Option (List ℕ)) → (E → Option (List ℕ)) → Streams R O E → Outputs
+-- The octets that the outputs of a run have got, with those that are still in their buffers.
+abbrev pub buffered_outputs : {R O E : Type 0} → (O → Option (List ℕ)) → (E → Option (List ℕ)) → BufferedStreams R O E → Outputs
 buffered_outputs contents contents' streams =
-    outputs_of (λ out. writer_contents contents out.writer) (λ err. writer_contents contents' err.writer) streams.out streams.err
+    outputs_of (λ out. writer_contents contents out.output.writer) (λ err. writer_contents contents' err.output.writer) streams.out streams.err
 
--- known octets stay in both outputs
+-- No octet of either output changes or is added, where they are known.
 abbrev pub KeepsBoth : Outputs → Outputs → Type 0
 KeepsBoth old new = Keeps old.out new.out × Keeps old.err new.err
 
--- what an input through a buffer has left, and that it has failed
+-- The octets that an input with a buffer has left, those in the buffer included, where `remaining` knows
+-- them.
 abbrev pub left_of : {R : Type 0} → (R → Option (List ℕ)) → BufferedInput R → Option (List ℕ)
 left_of remaining buffered = reader_remaining remaining buffered.input.reader
 
+-- The input has failed.
 abbrev pub has_failed : {R : Type 0} → BufferedInput R → Type 0
 has_failed buffered = IsTrue buffered.input.failed
 
--- what an input that came back has left relates so to what its reader had left before; nothing is said where none came back
+-- `Relates` holds between the octets that the reader had before the run and those that the input has left
+-- after it. Holds if the run gives no input back.
 abbrev pub HasTaken : {R : Type 0} → (R → Option (List ℕ)) → (Option (List ℕ) → Option (List ℕ) → Type 0) → R → Option (BufferedInput R) → Type 0
 HasTaken remaining Relates reader input = IfSome input (λ input. Relates (remaining reader) (left_of remaining input))
 
--- where a reader tells its octets, the writers that came back have got the texts of what is found in them, as far as a run has that ended so
-abbrev pub LeavesSo : {R O E : Type 0} → (R → Option (List ℕ)) → (O → Option (List ℕ)) → (E → Option (List ℕ)) → Stamp → (List Finding → Texts) → Devices R O E → Ended R O E → Type 0
-LeavesSo remaining contents contents' stamp texts devices ended =
+-- If the reader shows its octets, the writers have got the texts of their results as `EndsWithTexts` says.
+-- Holds if the run gives no writers back.
+abbrev pub LeavesTexts : {R O E : Type 0} → (R → Option (List ℕ)) → (O → Option (List ℕ)) → (E → Option (List ℕ)) → Stamp → (List RecordResult → Texts) → Devices R O E → FinishedRun R O E → Type 0
+LeavesTexts remaining contents contents' stamp texts devices ended =
     (octets : List ℕ) (frames : List Frame) (rest : List ℕ) → remaining devices.reader ≡ Some octets → Splits stamp None octets frames rest
-    → Leaves contents contents' (EndsSo ended.outcome (texts (all_results stamp frames rest))) devices ended
+    → Leaves contents contents' (EndsWithTexts ended.outcome (texts (all_results stamp frames rest))) devices ended
 
--- the writers that came back hold the texts of what is found in these octets, as far as a run has that ended so, and nothing else
-abbrev pub HoldTexts : {R O E : Type 0} → (O → Option (List ℕ)) → (E → Option (List ℕ)) → Stamp → (List Finding → Texts) → List ℕ → Ended R O E → Type 0
+-- Writers that held nothing before the run hold the texts of the results of `octets` as `EndsWithTexts` says,
+-- and nothing else. Holds if the run gives no writers back.
+abbrev pub HoldTexts : {R O E : Type 0} → (O → Option (List ℕ)) → (E → Option (List ℕ)) → Stamp → (List RecordResult → Texts) → List ℕ → FinishedRun R O E → Type 0
 HoldTexts contents contents' stamp texts octets ended =
     (frames : List Frame) (rest : List ℕ) → Splits stamp None octets frames rest
-    → OverWriters contents contents' (EndsSo ended.outcome (texts (all_results stamp frames rest)) (record { out = Some []; err = Some [] })) ended.writers
+    → HoldsForWriters contents contents' (EndsWithTexts ended.outcome (texts (all_results stamp frames rest)) (record { out = Some []; err = Some [] })) ended.writers
 
--- where the input ended the run, the writers that came back have got the texts of what the records give that were taken whole
-abbrev pub LeavesWhole : {R O E : Type 0} → (R → Option (List ℕ)) → (O → Option (List ℕ)) → (E → Option (List ℕ)) → Stamp → (List Finding → Texts) → Devices R O E → Ended R O E → Type 0
-LeavesWhole remaining contents contents' stamp texts devices ended =
+-- If the run ended as the input failed or was too long, the writers have got exactly the texts of the frames
+-- taken. Holds if the run gives no input or no writers back.
+abbrev pub LeavesWholeRecords : {R O E : Type 0} → (R → Option (List ℕ)) → (O → Option (List ℕ)) → (E → Option (List ℕ)) → Stamp → (List RecordResult → Texts) → Devices R O E → FinishedRun R O E → Type 0
+LeavesWholeRecords remaining contents contents' stamp texts devices ended =
     EndedByInput ended.outcome
-    → HasTaken remaining (λ left left'. OverTaken stamp left left' (λ frames rest. Leaves contents contents' (Writes (texts (all_results stamp frames []))) devices ended))
+    → HasTaken remaining (λ left left'. HoldsForTaken stamp left left' (λ frames rest. Leaves contents contents' (Writes (texts (all_results stamp frames []))) devices ended))
     devices.reader ended.input
 
--- so it is with the replies to a script that isn't too long
-abbrev pub HoldReplies : {R O E : Type 0} → (O → Option (List ℕ)) → (E → Option (List ℕ)) → Stamp → List ℕ → List ℕ → Ended R O E → Type 0
+-- If the script isn't too long, writers that held nothing before the run hold the script's texts over the
+-- results of `octets` as `EndsWithTexts` says, and nothing else.
+abbrev pub HoldReplies : {R O E : Type 0} → (O → Option (List ℕ)) → (E → Option (List ℕ)) → Stamp → List ℕ → List ℕ → FinishedRun R O E → Type 0
 HoldReplies contents contents' stamp script octets ended =
-    length script ≤ LONGEST_SCRIPT → OverLines script (λ lines. HoldTexts contents contents' stamp (play_texts lines) octets ended)
+    length script ≤ LONGEST_SCRIPT → HoldsForLines script (λ lines. HoldTexts contents contents' stamp (play_texts lines) octets ended)
 
--- as many octets were taken as a run takes at most
-abbrev pub TookMost : Option (List ℕ) → Option (List ℕ) → Type 0
-TookMost left left' = (taken after : List ℕ) → Took left left' taken after → length taken ≡ 2 ^ 40
+-- 2^40 octets were taken from the input, where they are known.
+abbrev pub TookInputLimit : Option (List ℕ) → Option (List ℕ) → Type 0
+TookInputLimit left left' = (taken after : List ℕ) → TakesFront left left' taken after → length taken ≡ 2 ^ 40
 
 -- ---- how the program ends: its exit status, and its last message
 
--- 0 for help, 2 for other faults of the words, 3 for a file that isn't opened; for instructions that can't be read that of a read fault; else, and for want of memory, that of the run
+-- The exit status of the program: 0 for help, 2 for other usage faults, 3 if a file isn't opened, that of
+-- ReadFault if instructions can't be read, that of Memory if memory allocation failed, and otherwise that of
+-- the run's outcome.
 abbrev pub ending_status : Ending → ℕ
 ending_status (Usage (usage.Help text)) = 0
-ending_status (Usage usage.Memory) = status_of Memory
+ending_status (Usage usage.Memory) = exit_status Memory
 ending_status (Usage fault) = 2
 ending_status (NotOpened name cause) = 3
-ending_status (NotRead instructions error) = status_of ReadFault
-ending_status (Ran outcome) = status_of outcome
+ending_status (NotRead instructions error) = exit_status ReadFault
+ending_status (Ran outcome) = exit_status outcome
 
--- how a run ends that was kept from beginning by what it was to read
+-- The outcome is one of a run that an error of reading keeps from starting: ReadFault or Memory.
 abbrev pub IsReadOutcome : Outcome → Type 0
 IsReadOutcome outcome = (outcome ≡ ReadFault) ⊎ (outcome ≡ Memory)
 
--- how the program ends where these instructions can't be read, or where there is no memory for them
+-- The program ends as it couldn't read these instructions, or had no memory for them.
 abbrev pub IsNotRead : Instructions → Ending → Type 0
 IsNotRead instructions (Ran outcome) = outcome ≡ Memory
 IsNotRead instructions (NotRead others error) = others ≡ instructions
 IsNotRead instructions other = ⊥
 
--- how a run ends that ended so, and whose writers failed at the end: want of memory stands in place of any other answer
-abbrev pub lost_outcome : Outcome → Outcome
-lost_outcome Memory = Memory
-lost_outcome outcome = WriteFault
+-- The outcome of a run that ended with this outcome, and whose writers then failed: Memory stays, any other
+-- one becomes WriteFault.
+abbrev pub outcome_without_writers : Outcome → Outcome
+outcome_without_writers Memory = Memory
+outcome_without_writers outcome = WriteFault
 
--- the last message, where it is one of these: help and the words' own faults say it by a text of `clap`
+-- The last message without the program's name. None if there is no message, or if it has the name of a file
+-- or a text of `clap`.
 abbrev pub ending_message : Ending → Option (List ℕ)
 ending_message (Usage usage.Mode) = Some (codes "choose one of -m and --play")
 ending_message (Usage usage.TwoInputs) = Some (codes "standard input named twice")

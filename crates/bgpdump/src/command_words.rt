@@ -1,31 +1,33 @@
-//! Commands that a hint tells a person to type.
+//! Commands as a hint shows them, with names that are quoted for a shell. `run_hints.rt` displays them;
+//! read [`PipedCommand`] first.
 
 use bgpdump_tool::{Mode, STANDARD_INPUT, Settings};
 use mrt_wire::Stamp;
 use std::fmt;
 
-/// The placeholder of a name with control characters, which can't be typed.
+/// The word that is shown in place of a name with control characters, which can't be typed.
 const FILE: &str = "FILE";
 
-/// The marks, besides letters and digits, of words that a shell takes as they are.
+/// The ASCII characters, besides letters and digits, that a shell takes literally.
 const PLAIN_MARKS: &[u8] = b"%+,-./:@_";
 
-/// A file's name, as a word of a command.
+/// The name of a file, displayed as a word of a shell command.
 #[derive(Clone, Copy)]
-pub struct FileWord<'a>(pub &'a str);
+pub struct QuotedName<'a>(pub &'a str);
 
-/// The command line of these settings, but with standard input as its input, as a hint shows it.
+/// The command line of these settings, but with standard input as its input, displayed as a shell
+/// command.
 #[derive(Clone, Copy)]
 pub struct PipedCommand<'a>(pub &'a Settings);
 
-/// Returns whether a shell takes the octet as it is.
-fn is_plain(octet: u8) -> bool {
+/// Returns `true` if a shell takes this octet literally.
+fn needs_no_quotes(octet: u8) -> bool {
     octet.is_ascii_alphanumeric() || PLAIN_MARKS.contains(&octet)
 }
 
-impl fmt::Display for FileWord<'_> {
-    /// Writes the name between quotation marks, where a shell would take it apart, and with `./` in
-    /// front where it would be an option.
+impl fmt::Display for QuotedName<'_> {
+    /// Writes the name, in single quotes unless a shell takes all of it literally, and with `./` ahead if
+    /// it would be an option. Writes `FILE` for a name with control characters.
     fn fmt<W: fmt::Write>(&self, f: &mut fmt::Formatter<W>) -> fmt::Result {
         let name = self.0;
         if name.as_bytes().iter().any(|octet| octet.is_ascii_control()) {
@@ -33,7 +35,7 @@ impl fmt::Display for FileWord<'_> {
         }
         let front = if name.starts_with('-') { "./" } else { "" };
         f.write_str(front)?;
-        if !name.is_empty() && name.as_bytes().iter().all(|octet| is_plain(*octet)) {
+        if !name.is_empty() && name.as_bytes().iter().all(|octet| needs_no_quotes(*octet)) {
             return f.write_str(name);
         }
         f.write_str("'")?;
@@ -46,6 +48,7 @@ impl fmt::Display for FileWord<'_> {
 }
 
 impl fmt::Display for PipedCommand<'_> {
+    /// Writes the command. A script that is standard input is written as `SCRIPT`.
     fn fmt<W: fmt::Write>(&self, f: &mut fmt::Formatter<W>) -> fmt::Result {
         let settings = self.0;
         match &settings.mode {
@@ -55,7 +58,7 @@ impl fmt::Display for PipedCommand<'_> {
                 f.write_str("bgpdump --play SCRIPT")?;
             }
             Mode::Play(script) => {
-                let script = FileWord(script.as_str());
+                let script = QuotedName(script.as_str());
                 write!(f, "bgpdump --play {script}")?;
             }
         }
@@ -63,7 +66,7 @@ impl fmt::Display for PipedCommand<'_> {
             f.write_str(" -t change")?;
         }
         if let Some(output) = &settings.output {
-            let output = FileWord(output.as_str());
+            let output = QuotedName(output.as_str());
             write!(f, " -O {output}")?;
         }
         f.write_str(" -")

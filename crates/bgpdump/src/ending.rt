@@ -1,4 +1,5 @@
-//! How the program ends: its exit status and its last message.
+//! How the program ends: its exit status and its last message. `main.rt` makes an [`Ending`] of each run,
+//! and of each failure before it; read that type first.
 
 ghost use Rattle.std.specs.Prelude.{◌≡◌, option_map};
 ghost use Rattle.bgpdump.specs.declared.ending.Ending.TheVariants.{Ran};
@@ -9,34 +10,35 @@ use bgpdump_tool::{Outcome, UsageFault};
 use std::alloc::{AllocError, AllocFailed};
 use std::io;
 
-/// Why a file isn't opened.
+/// The reason for which a file isn't opened.
 #[derive(Clone, Copy)]
 pub enum OpenFailure {
     /// The system failed to open it, with this error.
     Refused(io::Error),
-    /// It is the output and also the input or the script, which opening it would empty.
-    IsRead,
+    /// It is the output, and also the input or the script, which opening it would empty.
+    IsAlsoRead,
 }
 
 /// What tells the program what to do.
 #[derive(Clone, Copy, PartialEq, Eq)]
 pub enum Instructions {
-    /// The words of the command line.
+    /// The arguments of the command line.
     Words,
     /// The script.
     Script,
 }
 
-/// How the program ends.
+/// The way in which the program ends.
 #[derive(Drop)]
 pub enum Ending<'a> {
-    /// The command line is wrong, or asks for help.
+    /// The arguments are invalid, or ask for help.
     Usage(UsageFault),
-    /// The file of this name isn't opened.
+    /// The file with this name isn't opened.
     NotOpened(&'a str, OpenFailure),
-    /// The instructions can't be read: a word isn't UTF-8 text, or the system failed with this error.
+    /// The instructions can't be read: an argument isn't UTF-8 text, or the system failed with this
+    /// error.
     NotRead(Instructions, io::Error),
-    /// The outcome of a run, or of what kept it from starting.
+    /// A run ended with this outcome, or memory allocation failed before it began.
     Ran(Outcome),
 }
 
@@ -65,7 +67,8 @@ impl<T: Drop> From<AllocFailed<T>> for Ending<'_> {
 }
 
 impl Ending<'_> {
-    /// Returns the exit status.
+    /// Returns the exit status: 0 for help, 2 for other usage faults, 3 if a file isn't opened or
+    /// instructions can't be read, 4 if memory allocation failed, or else [`Outcome::status`].
     pub fn status(&self) -> u8
         ensures { result ≡ ending_status self.now }
     {
@@ -79,7 +82,8 @@ impl Ending<'_> {
         }
     }
 
-    /// Prints the last message, if there is one: help to standard output, all others to standard error.
+    /// Prints the last message, if there is one: help to standard output, any other message to standard
+    /// error. Fails if it can't be written.
     pub fn print(&self, rt: &HostRuntime) -> io::Result<()> {
         match self {
             Ending::Usage(UsageFault::Help(text)) => print!(rt; "{text}"),
@@ -92,8 +96,8 @@ impl Ending<'_> {
         }
     }
 
-    /// Returns the last message, without the program's name. `None` means that there is none, or that it has
-    /// the name of a file or a text of `clap`.
+    /// Returns the last message without the program's name, or `None` if there is none, or if it has the
+    /// name of a file or a text of `clap`.
     pub(crate) fn message(&self) -> Option<&'static str>
         ensures { option_map (λ text. text.now) result ≡ ending_message self.now }
     {

@@ -1,4 +1,5 @@
-//! Opens the files that the command line names, and reads the script.
+//! Opens the files that the command line names, and reads the script. `main.rt` calls these functions;
+//! read [`create`] first, which never empties a file that is read.
 
 ghost use Rattle.std.specs.Prelude.{◌≡◌, ◌≢◌, ◌↔◌, ◌+◌, ℕ, List, Some, IsTrue, take, IfOk, IfErr};
 ghost use Rattle.std.specs.IoError.{error_kind};
@@ -12,22 +13,24 @@ use std::io::{self, ErrorKind, Read};
 use std::os::unix::fs::{FileTypeExt, MetadataExt};
 use std::os::unix::io::{AsRawFd, IntoRawFd};
 
-/// The number of standard streams, whose descriptors are the numbers below it.
+/// The number of standard streams. Their file descriptors are the numbers below it.
 const STANDARD_STREAMS: i32 = 3;
 
-/// The paths of standard input. A system with an empty `/dev` has only the second.
+/// The paths of standard input, in the order in which they are tried. A system with an empty `/dev` has
+/// only the second.
 const STANDARD_INPUT_PATHS: [&str; 2] = ["/dev/stdin", "/proc/self/fd/0"];
 
 /// The identity of a file: its device, and its inode there. A block device has its own device number,
 /// whatever its path, and inode 0.
 #[derive(Clone, Copy, PartialEq, Eq)]
-struct FileNumber {
+struct FileIdentity {
     device: u64,
     inode: u64,
 }
 
-/// Returns the outcome of a run that an error of reading keeps from starting.
-pub fn read_outcome(error: &io::Error) -> Outcome
+/// Returns the outcome of a run that `error` keeps from starting: `Memory` for `ErrorKind::OutOfMemory`,
+/// or else `ReadFault`.
+pub fn outcome_of_read_error(error: &io::Error) -> Outcome
     ensures memory { (result ≡ Outcome.Memory) ↔ (error_kind error.now ≡ ErrorKind.OutOfMemory) }
     ensures other { IsReadOutcome result }
 {
@@ -37,8 +40,9 @@ pub fn read_outcome(error: &io::Error) -> Outcome
     }
 }
 
-/// Returns how the program ends if opening the file fails with this error.
-fn not_opened<'a>(name: &'a str, error: &io::Error) -> Ending<'a>
+/// Returns how the program ends after opening the file `name` failed with `error`: with the outcome
+/// `Memory` for `ErrorKind::OutOfMemory`, or else as `NotOpened`.
+fn ending_of_open_error<'a>(name: &'a str, error: &io::Error) -> Ending<'a>
     ensures memory { error_kind error.now ≡ ErrorKind.OutOfMemory →
         result ≡ Ending.Ran Outcome.Memory }
     ensures other { error_kind error.now ≢ ErrorKind.OutOfMemory →
@@ -50,23 +54,24 @@ fn not_opened<'a>(name: &'a str, error: &io::Error) -> Ending<'a>
     }
 }
 
-/// Returns how the program ends if reading its instructions fails with this error.
-pub fn not_read<'a>(instructions: Instructions, error: &io::Error) -> Ending<'a>
+/// Returns how the program ends after reading `instructions` failed with `error`: with the outcome
+/// `Memory` for `ErrorKind::OutOfMemory`, or else as `NotRead`.
+pub fn ending_of_read_error<'a>(instructions: Instructions, error: &io::Error) -> Ending<'a>
     ensures memory { error_kind error.now ≡ ErrorKind.OutOfMemory →
         result ≡ Ending.Ran Outcome.Memory }
     ensures other { error_kind error.now ≢ ErrorKind.OutOfMemory →
         result ≡ Ending.NotRead instructions error.now }
     ensures either { IsNotRead instructions result }
 {
-    match read_outcome(error) {
+    match outcome_of_read_error(error) {
         Outcome::Memory => Ending::Ran(Outcome::Memory),
         _ => Ending::NotRead(instructions, *error),
     }
 }
 
-/// Opens a folder on the descriptor of each standard stream that is closed, so that no file that is
+/// Opens a folder on the file descriptor of each standard stream that is closed, so that no file that is
 /// opened later gets that descriptor. Reading from the folder, or writing to it, fails.
-pub fn hold_standard_streams(rt: &HostRuntime) {
+pub fn reserve_standard_descriptors(rt: &HostRuntime) {
     for _ in 0..STANDARD_STREAMS {
         match File::open(rt, "/") {
             Ok(folder) if folder.as_raw_fd() < STANDARD_STREAMS => {
@@ -77,26 +82,27 @@ pub fn hold_standard_streams(rt: &HostRuntime) {
     }
 }
 
-/// Opens a file to read it.
+/// Opens the file `name` to read it. Fails with how the program ends.
 pub fn open<'a>(rt: &HostRuntime, name: &'a str) -> Result<File, Ending<'a>> {
-    File::open(rt, name).map_err(|error| not_opened(name, &error))
+    File::open(rt, name).map_err(|error| ending_of_open_error(name, &error))
 }
 
-/// Creates or empties a file to write it. Fails if the file is the input or the script.
+/// Creates or empties the file `name` to write it. Fails with how the program ends, and leaves the file
+/// unchanged if it is the input or the script of `settings`.
 pub fn create<'a>(
     rt: &HostRuntime,
     settings: &Settings,
     name: &'a str,
 ) -> Result<File, Ending<'a>> {
-    match is_read(rt, settings, name) {
-        Ok(false) => File::create(rt, name).map_err(|error| not_opened(name, &error)),
-        Ok(true) => Err(Ending::NotOpened(name, OpenFailure::IsRead)),
-        Err(error) => Err(not_opened(name, &error)),
+    match is_input_or_script(rt, settings, name) {
+        Ok(false) => File::create(rt, name).map_err(|error| ending_of_open_error(name, &error)),
+        Ok(true) => Err(Ending::NotOpened(name, OpenFailure::IsAlsoRead)),
+        Err(error) => Err(ending_of_open_error(name, &error)),
     }
 }
 
-/// Returns whether the file is the input or the script of these settings.
-fn is_read(rt: &HostRuntime, settings: &Settings, name: &str) -> io::Result<bool> {
+/// Returns `true` if the file `name` is the input or the script of `settings`.
+fn is_input_or_script(rt: &HostRuntime, settings: &Settings, name: &str) -> io::Result<bool> {
     let is_script = match &settings.mode {
         Mode::Lines => false,
         Mode::Play(script) => is_same_file(rt, script.as_str(), name)?,
@@ -104,10 +110,11 @@ fn is_read(rt: &HostRuntime, settings: &Settings, name: &str) -> io::Result<bool
     Ok(is_script || is_same_file(rt, settings.input.as_str(), name)?)
 }
 
-/// Returns whether the input is the regular file or block device that has the name of the output. It
-/// isn't if there is no such file yet, and counts as it if the system can't tell what standard input is.
+/// Returns `true` if `input`, a name or `-` for standard input, is the regular file or block device with
+/// the name `output`. Returns `false` if there is no such file yet, and `true` if the system can't tell
+/// what standard input is.
 fn is_same_file(rt: &HostRuntime, input: &str, output: &str) -> io::Result<bool> {
-    let Some(output) = described(rt, output)? else {
+    let Some(output) = metadata_if_present(rt, output)? else {
         return Ok(false);
     };
     if !output.is_file() && !output.file_type().is_block_device() {
@@ -115,28 +122,28 @@ fn is_same_file(rt: &HostRuntime, input: &str, output: &str) -> io::Result<bool>
     }
     let is_standard = input == STANDARD_INPUT;
     let input = if is_standard {
-        described_standard_input(rt)?
+        standard_input_metadata(rt)?
     } else {
-        described(rt, input)?
+        metadata_if_present(rt, input)?
     };
     Ok(match input {
-        Some(input) => is_one_file(FileNumber::of(&input), FileNumber::of(&output)),
+        Some(input) => is_same_identity(FileIdentity::of(&input), FileIdentity::of(&output)),
         None => is_standard,
     })
 }
 
-/// Returns the metadata of standard input. `None` means that the system has no path for it.
-fn described_standard_input(rt: &HostRuntime) -> io::Result<Option<Metadata>> {
+/// Returns the metadata of standard input, or `None` if the system has no path for it.
+fn standard_input_metadata(rt: &HostRuntime) -> io::Result<Option<Metadata>> {
     for path in STANDARD_INPUT_PATHS {
-        if let Some(metadata) = described(rt, path)? {
+        if let Some(metadata) = metadata_if_present(rt, path)? {
             return Ok(Some(metadata));
         }
     }
     Ok(None)
 }
 
-/// Returns the metadata of a file. `None` means that there is no such file.
-fn described(rt: &HostRuntime, name: &str) -> io::Result<Option<Metadata>> {
+/// Returns the metadata of the file `name`, or `None` if there is no such file.
+fn metadata_if_present(rt: &HostRuntime, name: &str) -> io::Result<Option<Metadata>> {
     match fs::metadata(rt, name) {
         Ok(metadata) => Ok(Some(metadata)),
         Err(error) if error.kind() == ErrorKind::NotFound => Ok(None),
@@ -144,27 +151,27 @@ fn described(rt: &HostRuntime, name: &str) -> io::Result<Option<Metadata>> {
     }
 }
 
-impl FileNumber {
-    /// Returns the identity of the file that has this metadata.
-    fn of(metadata: &Metadata) -> FileNumber {
+impl FileIdentity {
+    /// Returns the identity of the file with this metadata.
+    fn of(metadata: &Metadata) -> FileIdentity {
         let (device, inode) = if metadata.file_type().is_block_device() {
             (metadata.rdev(), 0)
         } else {
             (metadata.dev(), metadata.ino())
         };
-        FileNumber { device, inode }
+        FileIdentity { device, inode }
     }
 }
 
-/// Returns whether two identities are of one file.
-fn is_one_file(one: FileNumber, other: FileNumber) -> bool
+/// Returns `true` if two identities are equal, and so of one file.
+fn is_same_identity(one: FileIdentity, other: FileIdentity) -> bool
     ensures { IsTrue result ↔ (one ≡ other) }
 {
     one == other
 }
 
-/// Reads a script, up to one octet beyond [`LONGEST_SCRIPT`], so that a run can tell that it is too long.
-/// `Err` is how the program ends if it can't be read or memory allocation fails.
+/// Reads a script from `reader`: all of it, or the first [`LONGEST_SCRIPT`] octets and one more, so that
+/// a run can tell that it is too long. Fails with how the program ends.
 pub fn read_script<'a, R: Read + Drop>(alloc: Global, reader: R) -> Result<Vec<u8>, Ending<'a>>
     ensures octets { IfOk result (λ script. (octets : List ℕ) → R.remaining reader ≡ Some octets →
         script.items ≡ take (LONGEST_SCRIPT + 1) octets) }
@@ -174,6 +181,6 @@ pub fn read_script<'a, R: Read + Drop>(alloc: Global, reader: R) -> Result<Vec<u
     let mut front = reader.take(LONGEST_SCRIPT as u64 + 1);
     match front.read_to_end(&mut script) {
         Ok(_) => Ok(script),
-        Err(error) => Err(not_read(Instructions::Script, &error)),
+        Err(error) => Err(ending_of_read_error(Instructions::Script, &error)),
     }
 }

@@ -1,5 +1,6 @@
-//! What hints are based on: whether a person reads them, and what the input begins with or fails with.
-//! Hints themselves are in `run_hints.rt` and `script_hints.rt`.
+//! What hints for a person are based on: whether standard error is a terminal, and what the input begins
+//! with or fails with. `main.rt` reads the input through a [`NotedReader`] for them. The hints are in
+//! `run_hints.rt` and `script_hints.rt`; read [`InputNotes`] first.
 
 ghost use Rattle.std.specs.Prelude.{◌≡◌, IfOk};
 
@@ -10,37 +11,41 @@ use std::cell::Cell;
 use std::io::{self, IsTerminal, Read};
 use std::rc::Rc;
 
-/// The offset of the second part of the mark of bzip2, after `BZh` and the digit of a level.
-const BEHIND_LEVEL: usize = 4;
+/// The offset of the block mark of bzip2, after `BZh` and the digit of a level.
+const BZIP2_BLOCK_OFFSET: usize = 4;
 
-/// Returns whether hints are to be written: if standard error is a terminal, a person reads it.
+/// Returns `true` if hints are to be written: standard error is a terminal, so that a person reads it.
 pub fn are_hints_wanted(rt: &HostRuntime) -> bool {
     rt.stderr().is_terminal()
 }
 
-/// A format of compressed files, and the program that prints their content.
+/// A format of compressed files.
 #[derive(Clone, Copy, Debug, PartialEq, Eq)]
 pub struct CompressedFormat {
+    /// The name of the format.
     pub name: &'static str,
+    /// The program that prints the content of a file in this format.
     pub printer: &'static str,
 }
 
-/// The first octets of an input: as many as the header of a record has (RFC 6396, section 2).
+/// The first octets of an input, at most as many as the header of a record has (RFC 6396, section 2).
 #[derive(Clone, Copy, Default)]
-pub struct Front {
+pub struct FirstOctets {
+    /// The octets, followed by zeros.
     octets: [u8; HEADER_SIZE],
+    /// The number of octets.
     len: usize,
 }
 
-impl Front {
-    /// Returns the first of these octets.
+impl FirstOctets {
+    /// Returns the first octets of an input that begins with `octets`.
     pub fn read_from(octets: &[u8]) -> Self {
-        let mut front = Front::default();
+        let mut front = FirstOctets::default();
         front.add_octets(octets);
         front
     }
 
-    /// Adds the next octets of the input, of which those beyond a header are ignored.
+    /// Adds the next octets of the input. Those beyond the size of a header are ignored.
     fn add_octets(&mut self, octets: &[u8]) {
         for octet in octets {
             if self.len >= HEADER_SIZE {
@@ -51,15 +56,19 @@ impl Front {
         }
     }
 
-    /// Returns the format that the input seems to be compressed in.
-    pub fn find_format(&self) -> Option<CompressedFormat> {
-        // Records of MRT begin with their time; that of no router is 1986 or 1991, as the marks of gzip
-        // and zstd would be, or 2104.
+    /// Returns the format in which the input seems to be compressed, by its first octets, or `None` if it
+    /// seems to be in none.
+    pub fn find_compressed_format(&self) -> Option<CompressedFormat> {
+        // MRT records begin with their time in seconds since 1970. As times, the marks of gzip, zstd and
+        // xz are in 1986, 1991 and 2104, when no router writes; `BZh` is in 2005, so that the block mark
+        // is compared too.
         let front = &self.octets[..self.len.min(HEADER_SIZE)];
         let form = |name, printer| Some(CompressedFormat { name, printer });
         if front.starts_with(b"\x1F\x8B\x08") {
             form("gzip", "zcat")
-        } else if front.starts_with(b"BZh") && self.octets[BEHIND_LEVEL..].starts_with(b"1AY&SY") {
+        } else if front.starts_with(b"BZh")
+            && self.octets[BZIP2_BLOCK_OFFSET..].starts_with(b"1AY&SY")
+        {
             form("bzip2", "bzcat")
         } else if front.starts_with(b"\xFD7zXZ\0") {
             form("xz", "xzcat")
@@ -70,14 +79,14 @@ impl Front {
         }
     }
 
-    /// Returns whether an octet is 0, as in the header of each record and in no text.
+    /// Returns `true` if one of the octets is 0, as in the header of each record and in no text.
     pub fn has_zero(&self) -> bool {
         self.octets[..self.len.min(HEADER_SIZE)].contains(&0)
     }
 
-    /// Returns the length of the first record's body in octets, by its header. `None` means that fewer
-    /// octets than a header were read.
-    pub fn find_body_size(&self) -> Option<u32> {
+    /// Returns the length in octets of the first record's body, as its header states it, or `None` if
+    /// there are fewer octets than in a header.
+    pub fn find_first_body_size(&self) -> Option<u32> {
         if self.len < HEADER_SIZE {
             return None;
         }
@@ -91,38 +100,40 @@ impl Front {
     }
 }
 
-/// What is noted of an input while it is read, for hints: its first octets, and an error.
+/// What is noted of an input while it is read, for hints.
 #[derive(Clone, Copy, Default)]
 pub struct InputNotes {
-    /// Its first octets.
-    pub front: Front,
-    /// The last error of its reader.
+    /// The first octets of the input.
+    pub front: FirstOctets,
+    /// The last error of its reader, or `None` if it hasn't failed.
     pub error: Option<io::Error>,
 }
 
-/// A reader over another one that shares its first octets, and its last error, through a cell.
+/// A reader over another one that notes its first octets and its last error in a shared cell.
 #[derive(Drop)]
 pub struct NotedReader<R> {
+    /// The notes, shared with the maker of this reader.
     notes: Rc<Cell<InputNotes>>,
+    /// The reader below.
     pub(crate) reader: R,
 }
 
 impl<R> NotedReader<R> {
-    /// Returns a reader of what `reader` reads, which keeps `notes` of it.
+    /// Returns a reader of what `reader` reads, which updates `notes`.
     pub fn new(notes: Rc<Cell<InputNotes>>, reader: R) -> Self
         ensures { result.reader ≡ reader }
     {
         NotedReader { notes, reader }
     }
 
-    /// Keeps an error of the reader.
+    /// Notes an error of the reader.
     fn note_error(&self, error: io::Error) {
         let mut notes = self.notes.get();
         notes.error = Some(error);
         self.notes.set(notes);
     }
 
-    /// Keeps those of the octets just read that are among the first of the input.
+    /// Notes those of the octets just read that are among the first of the input.
     fn note_octets(&self, octets: &[u8]) {
         let mut notes = self.notes.get();
         notes.front.add_octets(octets);
@@ -147,18 +158,17 @@ impl<R: Read> Read for NotedReader<R> {
     }
 }
 
-/// The reader and the writers of a run, with what is noted of its input.
+/// The reader and the writers of a run, with the notes of its input.
 #[derive(Drop)]
 pub struct NotedDevices<R, O, E> {
-    /// What is noted of the input so far.
+    /// The notes of the input so far.
     pub notes: Rc<Cell<InputNotes>>,
-    /// The devices, whose reader updates `notes`.
+    /// The devices. Their reader updates `notes`.
     pub devices: Devices<NotedReader<R>, O, E>,
 }
 
 impl<R: Drop, O: Drop, E: Drop> NotedDevices<R, O, E> {
-    /// Returns these devices with their reader in a [`NotedReader`]. If memory allocation fails, they are
-    /// dropped.
+    /// Returns `devices` with a [`NotedReader`] over their reader. On error, they are dropped.
     pub fn new(alloc: Global, devices: Devices<R, O, E>) -> Result<Self, AllocError>
         ensures reader { IfOk result (λ noted. noted.devices.reader.reader ≡ devices.reader) }
         ensures out { IfOk result (λ noted. noted.devices.out ≡ devices.out) }

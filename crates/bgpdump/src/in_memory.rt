@@ -1,31 +1,33 @@
-//! Runs over devices in memory, through all layers that the program puts between a run and its devices.
-//! The program calls none of them. Their proofs show that no layer loses, changes or hides an octet.
+//! Runs over readers and writers in memory, through all layers that the program puts between a run and
+//! its devices. The program calls none of these functions: their proofs show that no layer loses, changes
+//! or hides an octet. Read [`dump_in_memory`] first.
 
 ghost use Rattle.std.specs.Prelude.{◌≡◌, [], Some, IfOk};
 ghost use Rattle.bgpdump_tool.specs.Run.{dump_texts};
 ghost use Rattle.bgpdump.specs.Endings.{HoldTexts, HoldReplies};
 
 use crate::hints::{NotedDevices, NotedReader};
-use crate::run::{Devices, Ended, dump, play};
+use crate::run::{Devices, FinishedRun, dump, play};
 use bgpdump_tool::Outcome;
 use mrt_wire::Stamp;
 use std::alloc::{AllocError, Global};
 use std::collections::VecDeque;
 use std::io::{Read, Write};
 
-/// Writes the lines and reports of an MRT file in memory, and returns the outcome of the run.
+/// Prints the MRT file `octets` to writers in memory, and returns the outcome of the run. Fails if memory
+/// allocation fails before the run begins.
 pub fn dump_octets(alloc: Global, stamp: Stamp, octets: &[u8]) -> Result<Outcome, AllocError> {
     let mut held = Vec::new(alloc);
     held.extend_from_slice(octets)?;
     let reader: Box<dyn Read + Drop> = Box::new(alloc, VecDeque::from(held))?;
     let out: Box<dyn Write + Drop> = Box::new(alloc, Vec::<u8>::new(alloc))?;
     let err = Vec::<u8>::new(alloc);
-    let ended = dump_known(alloc, stamp, octets, Devices { reader, out, err })?;
+    let ended = dump_in_memory(alloc, stamp, octets, Devices { reader, out, err })?;
     Ok(ended.outcome)
 }
 
-/// Writes the replies to a script over an MRT file in memory, and the reports, and returns the outcome of
-/// the run.
+/// Runs `script` over the MRT file `octets` with writers in memory, and returns the outcome of the run.
+/// Fails if memory allocation fails before the run begins.
 pub fn play_octets(
     alloc: Global,
     stamp: Stamp,
@@ -37,17 +39,18 @@ pub fn play_octets(
     let reader: Box<dyn Read + Drop> = Box::new(alloc, VecDeque::from(held))?;
     let out: Box<dyn Write + Drop> = Box::new(alloc, Vec::<u8>::new(alloc))?;
     let err = Vec::<u8>::new(alloc);
-    let ended = play_known(alloc, stamp, script, octets, Devices { reader, out, err })?;
+    let ended = play_in_memory(alloc, stamp, script, octets, Devices { reader, out, err })?;
     Ok(ended.outcome)
 }
 
-/// Writes the lines and reports of a reader that has just `octets` to writers that hold nothing yet.
-fn dump_known<R: Read + Drop, O: Write + Drop, E: Write + Drop>(
+/// Prints the MRT file in `devices.reader`, which must hold just `octets`, to the writers in `devices`,
+/// which must be empty. Fails if memory allocation fails before the run begins.
+fn dump_in_memory<R: Read + Drop, O: Write + Drop, E: Write + Drop>(
     alloc: Global,
     stamp: Stamp,
     octets: &[u8],
     devices: Devices<R, O, E>,
-) -> Result<Ended<NotedReader<R>, O, E>, AllocError>
+) -> Result<FinishedRun<NotedReader<R>, O, E>, AllocError>
     requires reader { R.remaining devices.reader ≡ Some octets.now }
     requires out { O.contents devices.out ≡ Some [] }
     requires err { E.contents devices.err ≡ Some [] }
@@ -57,15 +60,15 @@ fn dump_known<R: Read + Drop, O: Write + Drop, E: Write + Drop>(
     Ok(dump(alloc, stamp, noted.devices))
 }
 
-/// Writes the replies to a script over a reader that has just `octets`, and the reports, to writers that
-/// hold nothing yet.
-fn play_known<R: Read + Drop, O: Write + Drop, E: Write + Drop>(
+/// Runs `script` over the MRT file in `devices.reader`, which must hold just `octets`. The writers in
+/// `devices` must be empty. Fails if memory allocation fails before the run begins.
+fn play_in_memory<R: Read + Drop, O: Write + Drop, E: Write + Drop>(
     alloc: Global,
     stamp: Stamp,
     script: &[u8],
     octets: &[u8],
     devices: Devices<R, O, E>,
-) -> Result<Ended<NotedReader<R>, O, E>, AllocError>
+) -> Result<FinishedRun<NotedReader<R>, O, E>, AllocError>
     requires reader { R.remaining devices.reader ≡ Some octets.now }
     requires out { O.contents devices.out ≡ Some [] }
     requires err { E.contents devices.err ≡ Some [] }

@@ -1,5 +1,6 @@
-//! The program `bgpdump`: prints an MRT file (RFC 6396) as lines, or plays a script over it. `main` reads
-//! the command line and opens files; [`run`] has the two runs over readers and writers.
+//! The program `bgpdump`: prints an MRT file (RFC 6396) as lines, or runs a script over it. `main` parses
+//! the command line and opens files; [`run`] has the two runs over readers and writers. Read
+//! [`run_and_report`] first.
 #![tactic(auto)]
 
 mod command_words;
@@ -13,7 +14,7 @@ mod script_hints;
 
 use bgpdump_tool::{LONGEST_SCRIPT, Mode, Outcome, STANDARD_INPUT, Settings, settings};
 use ending::{Ending, Instructions};
-use files::{create, hold_standard_streams, not_read, open, read_script};
+use files::{create, ending_of_read_error, open, read_script, reserve_standard_descriptors};
 use hints::{InputNotes, NotedDevices, are_hints_wanted};
 use run::{Devices, dump, play};
 use run_hints::{write_ending_hint, write_input_hints};
@@ -25,35 +26,37 @@ use std::{env, io};
 /// The result of a run.
 #[derive(Drop)]
 struct Ran {
+    /// How the run ended.
     outcome: Outcome,
-    /// What was noted of the input.
+    /// The notes of its input, for hints.
     notes: InputNotes,
 }
 
+/// Runs the program, and returns its exit status.
 fn main(rt: HostRuntime) -> ExitCode {
-    hold_standard_streams(&rt);
+    reserve_standard_descriptors(&rt);
     match read_settings(&rt) {
-        Ok(settings) => run_to_end(&rt, &settings),
+        Ok(settings) => run_and_report(&rt, &settings),
         Err(ending) => end(&rt, &ending),
     }
 }
 
-/// Parses the command line. `Err` is how the program ends instead: with help, with a usage error, or since
-/// a word isn't UTF-8 text.
+/// Parses the command line. Fails with how the program ends instead: with help, with a usage fault, or
+/// because an argument isn't UTF-8 text.
 fn read_settings<'a>(rt: &HostRuntime) -> Result<Settings, Ending<'a>> {
-    let words = read_words(rt).map_err(|error| not_read(Instructions::Words, &error))?;
+    let words = read_words(rt).map_err(|error| ending_of_read_error(Instructions::Words, &error))?;
     settings(rt.alloc(), words).map_err(|fault| Ending::Usage(fault))
 }
 
-/// Returns the words of the command line, of which the first is the program's name.
+/// Returns the arguments of the command line, of which the first is the program's name.
 fn read_words(rt: &HostRuntime) -> io::Result<Vec<String>> {
     Ok(env::args(rt)?.collect(rt.alloc())?)
 }
 
-/// Runs with these settings, prints the last message, and returns the exit status. If the run fails, a
-/// hint may tell a person what seems to be wrong with the input.
-fn run_to_end(rt: &HostRuntime, settings: &Settings) -> ExitCode {
-    match run_settings(rt, settings) {
+/// Runs with these settings, prints the last message, and returns the exit status. Unless the outcome is
+/// `Done`, hints may tell a person what seems to be wrong with the input.
+fn run_and_report(rt: &HostRuntime, settings: &Settings) -> ExitCode {
+    match open_files_and_run(rt, settings) {
         Ok(ran) => {
             let ending = Ending::Ran(ran.outcome);
             let status = end(rt, &ending);
@@ -66,21 +69,25 @@ fn run_to_end(rt: &HostRuntime, settings: &Settings) -> ExitCode {
     }
 }
 
-/// Opens the files that the settings name, the output last, and runs over them.
-fn run_settings<'a>(rt: &HostRuntime, settings: &'a Settings) -> Result<Ran, Ending<'a>> {
-    let script = read_script_of(rt, &settings.mode)?;
+/// Reads the script and opens the input, and then the output, that `settings` name, and runs over them.
+/// Fails with how the program ends if no run begins.
+fn open_files_and_run<'a>(rt: &HostRuntime, settings: &'a Settings) -> Result<Ran, Ending<'a>> {
+    let script = read_script_for_mode(rt, &settings.mode)?;
     let name = settings.input.as_str();
     let input: Box<dyn Read + Drop> = if name == STANDARD_INPUT {
         Box::new(rt.alloc(), rt.stdin())?
     } else {
         Box::new(rt.alloc(), open(rt, name)?)?
     };
-    run_input(rt, settings, script.as_deref(), input)
+    open_output_and_run(rt, settings, script.as_deref(), input)
 }
 
-/// Reads the script that `mode` names. `None` means that it names none, since lines are to be printed.
-/// `Err` is how the program ends if the file can't be opened or read.
-fn read_script_of<'a>(rt: &HostRuntime, mode: &'a Mode) -> Result<Option<Vec<u8>>, Ending<'a>> {
+/// Reads the script that `mode` names, or returns `None` for `Mode::Lines`. Fails with how the program
+/// ends.
+fn read_script_for_mode<'a>(
+    rt: &HostRuntime,
+    mode: &'a Mode,
+) -> Result<Option<Vec<u8>>, Ending<'a>> {
     match mode {
         Mode::Lines => Ok(None),
         Mode::Play(name) if name.as_str() == STANDARD_INPUT => {
@@ -90,8 +97,9 @@ fn read_script_of<'a>(rt: &HostRuntime, mode: &'a Mode) -> Result<Option<Vec<u8>
     }
 }
 
-/// Opens the output that the settings name, and runs over the opened input.
-fn run_input<'a>(
+/// Opens the output that `settings` name, and runs from `input` to it: runs `script`, or prints lines if
+/// that is `None`. Fails with how the program ends if no run begins.
+fn open_output_and_run<'a>(
     rt: &HostRuntime,
     settings: &'a Settings,
     script: Option<&[u8]>,
@@ -108,7 +116,7 @@ fn run_input<'a>(
     let outcome = match script {
         None => dump(rt.alloc(), settings.stamp, devices).outcome,
         Some(script) => {
-            write_bad_lines(rt, script);
+            write_bad_line_hints(rt, script);
             play(rt.alloc(), settings.stamp, script, devices).outcome
         }
     };
@@ -116,9 +124,9 @@ fn run_input<'a>(
     Ok(Ran { outcome, notes })
 }
 
-/// Writes hints on the bad lines of a script, unless it is too long to be run.
-fn write_bad_lines(rt: &HostRuntime, script: &[u8]) {
-    // They come before the run, since in a stream the reports of these lines may come hours later.
+/// Writes hints on the bad lines of `script`, if hints are wanted and it isn't too long to be run.
+fn write_bad_line_hints(rt: &HostRuntime, script: &[u8]) {
+    // This is before the run, since the reports of these lines may come hours later if the input is a stream.
     if are_hints_wanted(rt) && script.len() <= LONGEST_SCRIPT {
         write_script_hints(rt, script);
     }

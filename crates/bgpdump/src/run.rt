@@ -1,29 +1,30 @@
 //! The two runs of the program, [`dump`] and [`play`], over any reader and writers, through buffers.
+//! `main.rt` and `in_memory.rt` call them; read [`dump`] first.
 
 ghost use Rattle.std.specs.Prelude.{◌≡◌, ◌≤◌, ◌<◌, ◌⊎◌, ℕ, List, false, length, Some, None, IfSome, IfOk, IfErr, IsNone};
 ghost use Rattle.std.specs.Io.Buffered.{writer_contents};
 ghost use Rattle.std.specs.Io.KnownBytes.{Consumes, Keeps};
-ghost use Rattle.bgpdump_tool.specs.Course.{OverLines, cut_texts, play_texts};
+ghost use Rattle.bgpdump_tool.specs.Course.{HoldsForLines, cut_texts, play_texts};
 ghost use Rattle.bgpdump_tool.specs.Run.{dump_texts, outputs_of};
-ghost use Rattle.bgpdump.specs.Endings.{lost_outcome, HasTaken, Leaves, LeavesSo, LeavesWhole, TookMost, KeepsBoth, OverWriters, buffered_outputs, has_failed};
+ghost use Rattle.bgpdump.specs.Endings.{outcome_without_writers, HasTaken, Leaves, LeavesTexts, LeavesWholeRecords, TookInputLimit, KeepsBoth, HoldsForWriters, buffered_outputs, has_failed};
 
-use crate::files::read_outcome;
-use bgpdump_tool::{LONGEST_SCRIPT, Outcome, Output, WriteOutput, run_dump, run_play};
+use crate::files::outcome_of_read_error;
+use bgpdump_tool::{BufferedOutput, LONGEST_SCRIPT, Outcome, Output, run_dump, run_play};
 use mrt_wire::{BufferedInput, Input, Route, Stamp};
-use rib_store::{LeftStore, RadixStore};
+use rib_store::{LeakingStore, RadixStore};
 use std::alloc::Global;
 use std::io::{BufReader, BufWriter, Read, Write};
 use std::rc::Rc;
 
-/// The number of octets of each buffer.
+/// The size of each buffer, in octets.
 const BUFFER_SIZE: usize = 65_536;
 
-/// The store of the player, which isn't freed when it is dropped. The program ends soon after a run, and
-/// freeing node by node would take as long as the run. During a run the player drops a store only when it
-/// has no keys, and so no memory.
-type Routes = LeftStore<RadixStore<Rc<Route>>>;
+/// The store of the player. It isn't freed when it is dropped.
+// The program ends soon after a run, and freeing node by node would take as long as the run. During a run
+// the player drops a store only when it has no keys, and so no memory.
+type Routes = LeakingStore<RadixStore<Rc<Route>>>;
 
-/// The reader of a run, and its writers.
+/// The reader and the writers of a run.
 #[derive(Drop)]
 pub struct Devices<R, O, E> {
     /// The reader of the MRT file.
@@ -36,55 +37,58 @@ pub struct Devices<R, O, E> {
 
 /// The outcome of a run, with its input and its writers.
 #[derive(Drop)]
-pub struct Ended<R, O, E> {
-    /// The outcome.
+pub struct FinishedRun<R, O, E> {
+    /// How the run ended.
     pub outcome: Outcome,
-    /// The input, after what the run has read. `None` if memory allocation failed before the run began.
+    /// The input after the octets that the run read, or `None` if memory allocation failed before the run
+    /// began.
     pub input: Option<BufferedInput<R>>,
-    /// The writers of lines or replies and of reports, with all that the run wrote. `None` also if a
-    /// writer failed at the end.
+    /// The writer of lines or replies and the writer of reports, with all that the run wrote, or `None`
+    /// if the run didn't begin or a writer failed at the end.
     pub writers: Option<(O, E)>,
 }
 
 /// The input and the outputs of a run, with their buffers.
 #[derive(Drop)]
-struct Streams<R, O: Write + Drop, E: Write + Drop> {
+struct BufferedStreams<R, O: Write + Drop, E: Write + Drop> {
     input: BufferedInput<R>,
-    out: WriteOutput<BufWriter<O>>,
-    err: WriteOutput<BufWriter<E>>,
+    out: BufferedOutput<O>,
+    err: BufferedOutput<E>,
 }
 
-/// Writes the lines of an MRT file to `devices.out`, and the reports to `devices.err`.
+/// Prints the MRT file in `devices.reader`: its lines to `devices.out`, and reports of its faulty records
+/// to `devices.err`. `stamp` selects the time that the routes of tables get.
 pub fn dump<R: Read + Drop, O: Write + Drop, E: Write + Drop>(
     alloc: Global,
     stamp: Stamp,
     devices: Devices<R, O, E>,
-) -> Ended<R, O, E>
-    // Of a reader that tells its octets: their lines and reports are what the writers have got, or
-    // fronts of them.
-    ensures text { LeavesSo R.remaining O.contents E.contents stamp dump_texts devices result }
+) -> FinishedRun<R, O, E>
+    // If the reader shows its octets, the writers have got the lines and reports of the records in
+    // them, or prefixes of these texts.
+    ensures text { LeavesTexts R.remaining O.contents E.contents stamp dump_texts devices result }
 
-    // Where the reader failed, or has too much: just those of the records read whole.
-    ensures whole_records { LeavesWhole R.remaining O.contents E.contents
+    // If the reader failed or has too many octets, the writers have got exactly the lines and reports
+    // of the whole records read.
+    ensures whole_records { LeavesWholeRecords R.remaining O.contents E.contents
         stamp dump_texts devices result }
 
-    // What was read.
+    // The octets that are read.
     ensures taken { HasTaken R.remaining (λ left left'. (taken : List ℕ)
         × Consumes left left' taken) devices.reader result.input }
     ensures too_long { result.outcome ≡ Outcome.InputTooLong →
-        HasTaken R.remaining TookMost devices.reader result.input }
+        HasTaken R.remaining TookInputLimit devices.reader result.input }
 
-    // Which runs end by a read fault, which aren't begun, and which leave no writers.
+    // Which runs end with a read fault, which don't begin, and which leave no writers.
     ensures read_fault { result.outcome ≡ Outcome.ReadFault → IfSome result.input has_failed }
     ensures failed { IfSome result.input (λ input. has_failed input →
         (result.outcome ≡ Outcome.ReadFault) ⊎ IsNone result.writers) }
-    ensures not_begun { IsNone result.input → result.outcome ≡ Outcome.Memory }
+    ensures failed_before_run { IsNone result.input → result.outcome ≡ Outcome.Memory }
     ensures lost { IsNone result.writers →
         (result.outcome ≡ Outcome.WriteFault) ⊎ (result.outcome ≡ Outcome.Memory) }
 {
-    let mut streams = match through_buffers(alloc, devices) {
+    let mut streams = match buffer_devices(alloc, devices) {
         Ok(streams) => streams,
-        Err(refusal) => return not_begun(refusal),
+        Err(refusal) => return failed_before_run(refusal),
     };
     let outcome = run_dump(
         alloc,
@@ -96,28 +100,29 @@ pub fn dump<R: Read + Drop, O: Write + Drop, E: Write + Drop>(
     close(streams, outcome)
 }
 
-/// Writes the replies to a script over an MRT file to `devices.out`, and the reports to `devices.err`.
+/// Runs `script` over the MRT file in `devices.reader`, with its replies to `devices.out`, and reports of
+/// faulty records and bad lines to `devices.err`. `stamp` selects the time that the routes of tables get.
 pub fn play<R: Read + Drop, O: Write + Drop, E: Write + Drop>(
     alloc: Global,
     stamp: Stamp,
     script: &[u8],
     devices: Devices<R, O, E>,
-) -> Ended<R, O, E>
-    // Of a reader that tells its octets: the replies to the script over them, and its reports, are
-    // what the writers have got, or fronts of them.
-    ensures text { length script.now ≤ LONGEST_SCRIPT → OverLines script.now (λ lines.
-        LeavesSo R.remaining O.contents E.contents stamp (play_texts lines) devices result) }
+) -> FinishedRun<R, O, E>
+    // If the reader shows its octets, the writers have got the replies and reports of the script over
+    // the records in them, or prefixes of these texts.
+    ensures text { length script.now ≤ LONGEST_SCRIPT → HoldsForLines script.now (λ lines.
+        LeavesTexts R.remaining O.contents E.contents stamp (play_texts lines) devices result) }
 
-    // Where the reader failed, or has too much: just those of the commands that ended, and the
-    // reports of the records read whole and of the lines before.
-    ensures whole_records { OverLines script.now (λ lines.
-        LeavesWhole R.remaining O.contents E.contents stamp (cut_texts lines) devices result) }
+    // If the reader failed or has too many octets, the writers have got exactly the replies to the
+    // completed commands, and the reports of the whole records read and of the bad lines before.
+    ensures whole_records { HoldsForLines script.now (λ lines.
+        LeavesWholeRecords R.remaining O.contents E.contents stamp (cut_texts lines) devices result) }
 
-    // What was read.
+    // The octets that are read.
     ensures taken { length script.now ≤ LONGEST_SCRIPT → HasTaken R.remaining
         (λ left left'. (taken : List ℕ) × Consumes left left' taken) devices.reader result.input }
     ensures too_long { result.outcome ≡ Outcome.InputTooLong →
-        HasTaken R.remaining TookMost devices.reader result.input }
+        HasTaken R.remaining TookInputLimit devices.reader result.input }
 
     // A script that is too long leaves the writers as they were.
     ensures script_too_long { LONGEST_SCRIPT < length script.now →
@@ -125,17 +130,17 @@ pub fn play<R: Read + Drop, O: Write + Drop, E: Write + Drop>(
     ensures untouched { LONGEST_SCRIPT < length script.now →
         Leaves O.contents E.contents KeepsBoth devices result }
 
-    // Which runs end by a read fault, which aren't begun, and which leave no writers.
+    // Which runs end with a read fault, which don't begin, and which leave no writers.
     ensures read_fault { result.outcome ≡ Outcome.ReadFault → IfSome result.input has_failed }
     ensures failed { IfSome result.input (λ input. has_failed input →
         (result.outcome ≡ Outcome.ReadFault) ⊎ IsNone result.writers) }
-    ensures not_begun { IsNone result.input → result.outcome ≡ Outcome.Memory }
+    ensures failed_before_run { IsNone result.input → result.outcome ≡ Outcome.Memory }
     ensures lost { IsNone result.writers →
         (result.outcome ≡ Outcome.WriteFault) ⊎ (result.outcome ≡ Outcome.Memory) }
 {
-    let mut streams = match through_buffers(alloc, devices) {
+    let mut streams = match buffer_devices(alloc, devices) {
         Ok(streams) => streams,
-        Err(refusal) => return not_begun(refusal),
+        Err(refusal) => return failed_before_run(refusal),
     };
     let outcome = run_play::<Routes, _, _, _>(
         alloc,
@@ -148,11 +153,11 @@ pub fn play<R: Read + Drop, O: Write + Drop, E: Write + Drop>(
     close(streams, outcome)
 }
 
-/// Returns the devices with a buffer for each. Fails with [`Outcome::Memory`].
-fn through_buffers<R: Read + Drop, O: Write + Drop, E: Write + Drop>(
+/// Puts a buffer over each of `devices`. Fails with [`Outcome::Memory`].
+fn buffer_devices<R: Read + Drop, O: Write + Drop, E: Write + Drop>(
     alloc: Global,
     devices: Devices<R, O, E>,
-) -> Result<Streams<R, O, E>, Outcome>
+) -> Result<BufferedStreams<R, O, E>, Outcome>
     ensures left { IfOk result (λ streams.
         ⟦<BufferedInput<R> as Input>⟧.left streams.input ≡ R.remaining devices.reader) }
     ensures written { IfOk result (λ streams. buffered_outputs O.contents E.contents streams
@@ -160,73 +165,74 @@ fn through_buffers<R: Read + Drop, O: Write + Drop, E: Write + Drop>(
     ensures input { IfOk result (λ streams.
         ⟦<BufferedInput<R> as Input>⟧.failed streams.input ≡ false) }
     ensures out { IfOk result (λ streams.
-        ⟦<WriteOutput<BufWriter<O>> as Output>⟧.failed streams.out ≡ false) }
+        ⟦<BufferedOutput<O> as Output>⟧.failed streams.out ≡ false) }
     ensures err { IfOk result (λ streams.
-        ⟦<WriteOutput<BufWriter<E>> as Output>⟧.failed streams.err ≡ false) }
+        ⟦<BufferedOutput<E> as Output>⟧.failed streams.err ≡ false) }
     ensures refused { IfErr result (λ outcome. outcome ≡ Outcome.Memory) }
 {
     let Devices { reader, out, err } = devices;
-    let reader = BufReader::with_capacity(alloc, BUFFER_SIZE, reader).map_err(|error| read_outcome(
-        &error,
-    ))?;
-    let out = BufWriter::with_capacity(alloc, BUFFER_SIZE, out).map_err(|error| read_outcome(
-        &error,
-    ))?;
-    let err = BufWriter::with_capacity(alloc, BUFFER_SIZE, err).map_err(|error| read_outcome(
-        &error,
-    ))?;
-    Ok(Streams {
+    let reader = BufReader::with_capacity(alloc, BUFFER_SIZE, reader).map_err(
+        |error| outcome_of_read_error(&error),
+    )?;
+    let out = BufWriter::with_capacity(alloc, BUFFER_SIZE, out).map_err(
+        |error| outcome_of_read_error(&error),
+    )?;
+    let err = BufWriter::with_capacity(alloc, BUFFER_SIZE, err).map_err(
+        |error| outcome_of_read_error(&error),
+    )?;
+    Ok(BufferedStreams {
         input: BufferedInput::new(reader),
-        out: WriteOutput::new(out),
-        err: WriteOutput::new(err),
+        out: BufferedOutput::new(out),
+        err: BufferedOutput::new(err),
     })
 }
 
-/// Returns the end of a run that failed before it began.
-fn not_begun<R, O, E>(refusal: Outcome) -> Ended<R, O, E>
+/// Returns the result of a run that failed with `refusal` before it began.
+fn failed_before_run<R, O, E>(refusal: Outcome) -> FinishedRun<R, O, E>
     ensures outcome { result.outcome ≡ refusal }
     ensures input { result.input ≡ None }
     ensures writers { result.writers ≡ None }
 {
-    Ended {
+    FinishedRun {
         outcome: refusal,
         input: None,
         writers: None,
     }
 }
 
-/// Flushes the buffers after a run with this outcome, and takes the devices out of them.
+/// Flushes the buffers of a run that ended with `outcome`, and takes the writers out of them. If a writer
+/// fails, there are none, and the outcome is [`outcome_without_writers`].
 fn close<R: Read + Drop, O: Write + Drop, E: Write + Drop>(
-    streams: Streams<R, O, E>,
+    streams: BufferedStreams<R, O, E>,
     outcome: Outcome,
-) -> Ended<R, O, E>
+) -> FinishedRun<R, O, E>
     ensures input { result.input ≡ Some streams.input }
     ensures told { IfSome result.writers (λ writers. result.outcome ≡ outcome) }
-    ensures kept { OverWriters O.contents E.contents
+    ensures kept { HoldsForWriters O.contents E.contents
         (KeepsBoth (buffered_outputs O.contents E.contents streams)) result.writers }
-    ensures lost { IsNone result.writers → result.outcome ≡ lost_outcome outcome }
+    ensures lost { IsNone result.writers → result.outcome ≡ outcome_without_writers outcome }
 {
     match (
-        flushed(streams.out.into_inner()),
-        flushed(streams.err.into_inner()),
+        flush_into_writer(streams.out.into_inner()),
+        flush_into_writer(streams.err.into_inner()),
     ) {
-        (Some(out), Some(err)) => Ended {
+        (Some(out), Some(err)) => FinishedRun {
             outcome,
             input: Some(streams.input),
             writers: Some((out, err)),
         },
-        _ => Ended {
-            outcome: lost_outcome(outcome),
+        _ => FinishedRun {
+            outcome: outcome_without_writers(outcome),
             input: Some(streams.input),
             writers: None,
         },
     }
 }
 
-/// Returns the outcome of a run with this outcome whose writers failed at the end: a write fault, unless
-/// the run was out of memory.
-fn lost_outcome(outcome: Outcome) -> Outcome
-    ensures { result ≡ lost_outcome outcome }
+/// Returns the outcome of a run that ended with `outcome`, and whose writers then failed: a write fault,
+/// unless the run was out of memory.
+fn outcome_without_writers(outcome: Outcome) -> Outcome
+    ensures { result ≡ outcome_without_writers outcome }
 {
     match outcome {
         Outcome::Memory => outcome,
@@ -234,8 +240,8 @@ fn lost_outcome(outcome: Outcome) -> Outcome
     }
 }
 
-/// Flushes a buffer and returns its writer. `None` means that the writer failed.
-fn flushed<W: Write + Drop>(mut buffer: BufWriter<W>) -> Option<W>
+/// Flushes a buffer and returns its writer, or `None` if the writer fails.
+fn flush_into_writer<W: Write + Drop>(mut buffer: BufWriter<W>) -> Option<W>
     ensures { IfSome result (λ writer.
         Keeps (writer_contents W.contents buffer) (W.contents writer)) }
 {

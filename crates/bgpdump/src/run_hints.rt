@@ -1,29 +1,30 @@
-//! Hints on how the program ended and on its input, which are written after the last message.
+//! Hints on how the program ended and on its input, which are written to standard error after the last
+//! message. `main.rt` calls [`write_ending_hint`] and [`write_input_hints`]; what these can't write is
+//! lost.
 
-use crate::command_words::{FileWord, PipedCommand};
+use crate::command_words::{PipedCommand, QuotedName};
 use crate::ending::{Ending, Instructions, OpenFailure};
 use crate::hints::{CompressedFormat, InputNotes};
 use bgpdump_tool::{LONGEST_SCRIPT, Outcome, STANDARD_INPUT, Settings, UsageFault};
 use mrt_frames::LONGEST_BODY;
 use std::io::{self, ErrorKind};
 
-/// The options of the C program `bgpdump` that choose other lines.
+/// The options of the C program `bgpdump` that select other lines.
 const OPTIONS_OF_LINES: [&str; 6] = ["-H", "-M", "-T", "-l", "-p", "-u"];
 
-/// The options of the C program `bgpdump` that choose where it reports to.
+/// The options of the C program `bgpdump` that select where it reports to.
 const OPTIONS_OF_REPORTS: [&str; 3] = ["-q", "-s", "-v"];
 
-/// The text of `clap` before an option that it doesn't know.
+/// The text of `clap` before an argument that it doesn't know.
 const BEFORE_OPTION: &str = "unexpected argument '";
 
-/// The text of `clap` after such an option.
-const BEHIND_OPTION: &str = "' found";
+/// The text of `clap` after an argument that it doesn't know.
+const AFTER_OPTION: &str = "' found";
 
 /// The start of `clap`'s advice to write an option as a value.
 const VALUE_ADVICE: &str = "use '-- ";
 
-/// Writes a hint on how the program ends, if there is more to say than the last message does. What can't
-/// be written is lost.
+/// Writes a hint on how the program ends, if there is more to say than the last message does.
 pub fn write_ending_hint(rt: &HostRuntime, ending: &Ending<'_>) {
     let _ = match ending {
         Ending::Usage(UsageFault::Words(text)) => write_option_hint(rt, text.as_str()),
@@ -37,7 +38,7 @@ pub fn write_ending_hint(rt: &HostRuntime, ending: &Ending<'_>) {
         Ending::NotRead(Instructions::Words, _) => eprintln!(rt;
             "bgpdump: a word of the command is not UTF-8 text"
         ),
-        Ending::NotRead(Instructions::Script, error) => write_error(rt, "the script", error),
+        Ending::NotRead(Instructions::Script, error) => write_read_error(rt, "the script", error),
         Ending::Ran(Outcome::ScriptTooLong) => eprintln!(rt;
             "bgpdump: a script has at most {LONGEST_SCRIPT} octets"
         ),
@@ -45,14 +46,17 @@ pub fn write_ending_hint(rt: &HostRuntime, ending: &Ending<'_>) {
     };
 }
 
-/// Writes hints on what seems to be wrong with the input, by its first octets and its error. What can't be
-/// written is lost.
+/// Writes hints on what seems to be wrong with the input of `settings`: the error of its reader, and the
+/// format or the length that its first octets suggest.
 pub fn write_input_hints(rt: &HostRuntime, settings: &Settings, notes: &InputNotes) {
     if let Some(error) = &notes.error {
-        let _ = write_error(rt, "the input", error);
+        let _ = write_read_error(rt, "the input", error);
     }
-    let _ = match (notes.front.find_format(), notes.front.find_body_size()) {
-        (Some(form), _) => write_format(rt, settings, form),
+    let _ = match (
+        notes.front.find_compressed_format(),
+        notes.front.find_first_body_size(),
+    ) {
+        (Some(form), _) => write_compression_hint(rt, settings, form),
         (None, Some(size)) if size > LONGEST_BODY => eprintln!(rt;
             "bgpdump: the input may be no MRT file: its first record would have {size} octets"
         ),
@@ -60,8 +64,12 @@ pub fn write_input_hints(rt: &HostRuntime, settings: &Settings, notes: &InputNot
     };
 }
 
-/// Writes the command that reads an input which seems to be compressed.
-fn write_format(rt: &HostRuntime, settings: &Settings, form: CompressedFormat) -> io::Result<()> {
+/// Writes a hint with the command that unpacks an input of this format for a run with `settings`.
+fn write_compression_hint(
+    rt: &HostRuntime,
+    settings: &Settings,
+    form: CompressedFormat,
+) -> io::Result<()> {
     let CompressedFormat {
         name: form,
         printer,
@@ -72,20 +80,21 @@ fn write_format(rt: &HostRuntime, settings: &Settings, form: CompressedFormat) -
             "bgpdump: standard input looks like {form}; try {printer} FILE | {command}"
         );
     }
-    let name = FileWord(settings.input.as_str());
+    let name = QuotedName(settings.input.as_str());
     eprintln!(rt; "bgpdump: {name} looks like {form}; try {printer} {name} | {command}")
 }
 
-/// Writes a hint on an unknown option, by the text of `clap`.
+/// Writes a hint on the unknown argument that `text`, an error of `clap`, names. Writes nothing if it
+/// names none, or an unknown option without more to say.
 fn write_option_hint(rt: &HostRuntime, text: &str) -> io::Result<()> {
-    let Some(option) = find_option(text) else {
+    let Some(option) = find_unknown_argument(text) else {
         return Ok(());
     };
-    if let Some(of_lines) = find_front(option, &OPTIONS_OF_LINES) {
+    if let Some(of_lines) = find_matching_option(option, &OPTIONS_OF_LINES) {
         eprintln!(rt;
             "bgpdump: there is no {of_lines} here; use -m; see man bgpdump, COMPATIBILITY"
         )
-    } else if let Some(of_reports) = find_front(option, &OPTIONS_OF_REPORTS) {
+    } else if let Some(of_reports) = find_matching_option(option, &OPTIONS_OF_REPORTS) {
         eprintln!(rt;
             "bgpdump: there is no {of_reports} here; leave it out; 2>/dev/null hides reports"
         )
@@ -98,25 +107,25 @@ fn write_option_hint(rt: &HostRuntime, text: &str) -> io::Result<()> {
     }
 }
 
-/// Returns the unknown argument in a text of `clap`.
-fn find_option(text: &str) -> Option<&str> {
+/// Returns the unknown argument that `text`, an error of `clap`, names, or `None` if it names none.
+fn find_unknown_argument(text: &str) -> Option<&str> {
     let (_, behind) = text.split_once(BEFORE_OPTION)?;
-    let (option, _) = behind.split_once(BEHIND_OPTION)?;
+    let (option, _) = behind.split_once(AFTER_OPTION)?;
     Some(option)
 }
 
-/// Returns the first of these options that the argument begins with.
-fn find_front(argument: &str, options: &[&'static str]) -> Option<&'static str> {
+/// Returns the first of `options` that `argument` begins with, or `None` if it begins with none.
+fn find_matching_option(argument: &str, options: &[&'static str]) -> Option<&'static str> {
     options
         .iter()
         .copied()
         .find(|option| argument.starts_with(*option))
 }
 
-/// Writes why a file isn't opened.
+/// Writes a hint on why the file `name` isn't opened.
 fn write_open_failure(rt: &HostRuntime, name: &str, cause: &OpenFailure) -> io::Result<()> {
     match cause {
-        OpenFailure::IsRead => eprintln!(rt;
+        OpenFailure::IsAlsoRead => eprintln!(rt;
             "bgpdump: -O would overwrite what is read; give it another name"
         ),
         OpenFailure::Refused(_) if name.is_empty() => eprintln!(rt; "bgpdump: the name is empty"),
@@ -132,8 +141,8 @@ fn write_open_failure(rt: &HostRuntime, name: &str, cause: &OpenFailure) -> io::
     }
 }
 
-/// Writes why `what` can't be read. A closed standard stream is read as a folder.
-fn write_error(rt: &HostRuntime, what: &str, error: &io::Error) -> io::Result<()> {
+/// Writes a hint on why `what` can't be read. A closed standard stream is read as a folder.
+fn write_read_error(rt: &HostRuntime, what: &str, error: &io::Error) -> io::Result<()> {
     match error.kind() {
         ErrorKind::IsADirectory => eprintln!(rt; "bgpdump: {what} is a folder or a closed stream"),
         _ => eprintln!(rt; "bgpdump: {what} can't be read: {error}"),

@@ -1,20 +1,21 @@
-//! Hints on the bad lines of a script, which are written before it is run.
+//! Hints on the bad lines of a script, which are written to standard error before it is run. `main.rt`
+//! calls [`write_script_hints`]; what that can't write is lost.
 
-use crate::hints::Front;
+use crate::hints::FirstOctets;
 use bgpdump_tool::read_command;
 use ip_prefix::{Addr, Prefix, SPACE};
 use std::fmt;
 
-/// The number of bad lines that have a hint.
+/// The largest number of bad lines that get a hint.
 const MOST_HINTS: usize = 5;
 
-/// The number of octets of a line or a word that are shown.
+/// The largest number of octets of a line or a word that a hint shows.
 const SHOWN: usize = 60;
 
-/// The kind of a word after a command's name.
+/// The kind of an argument of a command.
 #[derive(Clone, Copy, PartialEq, Eq)]
 enum Argument {
-    /// How often a step is made: a number from 1 on.
+    /// A number of steps to move, from 1 on.
     Times,
     /// A number from 0 on.
     Number,
@@ -28,48 +29,56 @@ enum Argument {
     Prefix,
 }
 
-const NONE: &[Argument] = &[];
+/// The arguments of a command without any.
+const NO_ARGUMENTS: &[Argument] = &[];
 
+/// The argument of `next` and `back`.
 const TIMES: &[Argument] = &[Argument::Times];
 
+/// The argument of `forget`.
 const NUMBER: &[Argument] = &[Argument::Number];
 
+/// The argument of `goto`.
 const STEP: &[Argument] = &[Argument::Step];
 
+/// The arguments of `table` and `lose`.
 const PEER: &[Argument] = &[Argument::Address, Argument::AsNumber];
 
+/// The arguments of `route`.
 const PEER_AND_PREFIX: &[Argument] = &[Argument::Address, Argument::AsNumber, Argument::Prefix];
 
+/// The arguments of `lookup`.
 const PEER_AND_ADDRESS: &[Argument] = &[Argument::Address, Argument::AsNumber, Argument::Address];
 
-/// Why a line of a script is no command.
+/// The reason for which a line of a script is no command.
 #[derive(Clone, Copy)]
 enum LineFlaw<'a> {
-    /// It ends with a carriage return.
+    /// The line ends with a carriage return.
     CarriageReturn,
-    /// A tab stands in it.
+    /// The line has a tab.
     Tab,
-    /// A word is empty: there are two blanks in a row, or one at an end.
+    /// A word is empty: the line has two spaces in a row, or one at an end.
     EmptyWord,
     /// No command has this name.
-    NoCommand(Shown<'a>),
-    /// It ends before this word.
+    NoCommand(EscapedOctets<'a>),
+    /// The line ends before this argument.
     Missing(Argument),
-    /// This word isn't of the kind that is wanted there.
+    /// This word isn't of the kind that its place in the line asks for.
     Wrong(&'a [u8], Argument),
-    /// This word follows the last one that is wanted.
-    Extra(Shown<'a>),
+    /// This word follows the last argument of the command.
+    Extra(EscapedOctets<'a>),
 }
 
-/// Octets as a hint shows them: the first ones, with escapes for what isn't printable ASCII.
+/// Octets as a hint shows them: the first ones, with escapes for all but printable ASCII, and `..` after
+/// them if there are more.
 #[derive(Clone, Copy)]
-struct Shown<'a>(&'a [u8]);
+struct EscapedOctets<'a>(&'a [u8]);
 
-/// Writes a hint if the script seems to be no text, and else hints on its first bad lines. What can't be
-/// written is lost.
+/// Writes a hint if `script` seems to be a compressed file or an MRT file, or else hints on its first bad
+/// lines.
 pub fn write_script_hints(rt: &HostRuntime, script: &[u8]) {
-    let front = Front::read_from(script);
-    if let Some(format) = front.find_format() {
+    let front = FirstOctets::read_from(script);
+    if let Some(format) = front.find_compressed_format() {
         let (format, printer) = (format.name, format.printer);
         let _ = eprintln!(rt;
             "bgpdump: the script looks like {format}; unpack it by {printer} first"
@@ -83,23 +92,23 @@ pub fn write_script_hints(rt: &HostRuntime, script: &[u8]) {
     }
 }
 
-/// Writes hints on the first bad lines of a script. What can't be written is lost.
+/// Writes hints on the first bad lines of `script`, at most [`MOST_HINTS`].
 fn write_line_hints(rt: &HostRuntime, script: &[u8]) {
     let lines = script.split(|octet| *octet == b'\n').zip(1..=u64::MAX);
     for (line, number) in lines.filter(|(line, _)| is_bad(line)).take(MOST_HINTS) {
         if let Some(flaw) = find_flaw(line) {
-            let shown = Shown(line);
+            let shown = EscapedOctets(line);
             let _ = eprintln!(rt; "bgpdump: script line {number}, \"{shown}\": {flaw}");
         }
     }
 }
 
-/// Returns whether the line of a script is reported as a bad command.
+/// Returns `true` if a run reports this line of a script as a bad command.
 fn is_bad(line: &[u8]) -> bool {
     !line.is_empty() && read_command(line).is_none()
 }
 
-/// Returns why the line is no command, by the first of its words that can't stand there. None where no
+/// Returns why `line` is no command, by the first of its words that is wrong or missing, or `None` if no
 /// such word is found.
 fn find_flaw(line: &[u8]) -> Option<LineFlaw<'_>> {
     if line.ends_with(b"\r") {
@@ -113,8 +122,8 @@ fn find_flaw(line: &[u8]) -> Option<LineFlaw<'_>> {
     if name.is_empty() {
         return Some(LineFlaw::EmptyWord);
     }
-    let Some(arguments) = find_arguments(name) else {
-        return Some(LineFlaw::NoCommand(Shown(name)));
+    let Some(arguments) = find_argument_kinds(name) else {
+        return Some(LineFlaw::NoCommand(EscapedOctets(name)));
     };
     for argument in arguments {
         match words.next() {
@@ -128,18 +137,17 @@ fn find_flaw(line: &[u8]) -> Option<LineFlaw<'_>> {
     }
     match words.next()? {
         [] => Some(LineFlaw::EmptyWord),
-        word => Some(LineFlaw::Extra(Shown(word))),
+        word => Some(LineFlaw::Extra(EscapedOctets(word))),
     }
 }
 
-/// Returns the kinds of words that follow the name of a command. `None` means that there is no such
-/// command.
-fn find_arguments(name: &[u8]) -> Option<&'static [Argument]> {
+/// Returns the kinds of the arguments of the command `name`, or `None` if there is no such command.
+fn find_argument_kinds(name: &[u8]) -> Option<&'static [Argument]> {
     match name {
         b"next" | b"back" => Some(TIMES),
         b"goto" => Some(STEP),
         b"forget" => Some(NUMBER),
-        b"where" | b"peers" => Some(NONE),
+        b"where" | b"peers" => Some(NO_ARGUMENTS),
         b"table" | b"lose" => Some(PEER),
         b"route" => Some(PEER_AND_PREFIX),
         b"lookup" => Some(PEER_AND_ADDRESS),
@@ -147,26 +155,27 @@ fn find_arguments(name: &[u8]) -> Option<&'static [Argument]> {
     }
 }
 
-/// Returns whether the word is one or more digits.
+/// Returns `true` if `word` consists of one or more decimal digits.
 fn is_digits(word: &[u8]) -> bool {
     !word.is_empty() && word.iter().all(|octet| octet.is_ascii_digit())
 }
 
-/// Returns whether the word is two or more digits of which the first is 0.
+/// Returns `true` if `word` consists of two or more decimal digits, of which the first is 0.
 fn has_leading_zero(word: &[u8]) -> bool {
     is_digits(word) && word.len() > 1 && word[0] == b'0'
 }
 
-/// Returns the number of 32 bits that the digits of the word spell, with or without leading zeros.
-fn find_number(word: &[u8]) -> Option<u32> {
+/// Parses decimal digits, with or without leading zeros. Returns `None` if `word` has another octet or
+/// none, or if the number is above `u32::MAX`.
+fn parse_digits(word: &[u8]) -> Option<u32> {
     if !is_digits(word) {
         return None;
     }
     str::from_utf8(word).ok()?.parse().ok()
 }
 
-/// Returns the digits after `AS`, in letters of either case. `None` means that the word isn't of this form.
-fn find_digits_behind_as(word: &[u8]) -> Option<&[u8]> {
+/// Returns the digits after `AS`, in letters of either case, or `None` if `word` isn't of this form.
+fn find_digits_after_as(word: &[u8]) -> Option<&[u8]> {
     let (front, digits) = word.split_at_checked(2)?;
     if front.eq_ignore_ascii_case(b"AS") && is_digits(digits) {
         Some(digits)
@@ -176,11 +185,11 @@ fn find_digits_behind_as(word: &[u8]) -> Option<&[u8]> {
 }
 
 impl Argument {
-    /// Returns whether the word is a well-formed argument of this kind.
+    /// Returns `true` if `word` is a valid argument of this kind.
     fn is_spelled_by(self, word: &[u8]) -> bool {
-        let is_number = find_number(word).is_some() && !has_leading_zero(word);
+        let is_number = parse_digits(word).is_some() && !has_leading_zero(word);
         match self {
-            Argument::Times => is_number && find_number(word) != Some(0),
+            Argument::Times => is_number && parse_digits(word) != Some(0),
             Argument::Number | Argument::Step | Argument::AsNumber => is_number,
             Argument::Address => Addr::parse(word).is_some(),
             Argument::Prefix => Prefix::parse(word).is_some(),
@@ -188,7 +197,7 @@ impl Argument {
     }
 
     /// Returns the name of the kind, with its article.
-    fn find_name(self) -> &'static str {
+    fn kind_with_article(self) -> &'static str {
         match self {
             Argument::Times | Argument::Number => "a number",
             Argument::Step => "the number of a step",
@@ -212,7 +221,7 @@ impl fmt::Display for LineFlaw<'_> {
                 "{word} is no command; see man bgpdump, SCRIPTS"
             ),
             LineFlaw::Missing(argument) => {
-                let name = argument.find_name();
+                let name = argument.kind_with_article();
                 write!(f, "{name} is missing")
             }
             LineFlaw::Wrong(word, argument) => write_wrong_word(f, word, *argument),
@@ -221,13 +230,13 @@ impl fmt::Display for LineFlaw<'_> {
     }
 }
 
-/// Writes why the word isn't what is wanted there.
+/// Writes why `word` isn't an argument of the kind `argument`.
 fn write_wrong_word<W: fmt::Write>(
     f: &mut fmt::Formatter<W>,
     word: &[u8],
     argument: Argument,
 ) -> fmt::Result {
-    let shown = Shown(word);
+    let shown = EscapedOctets(word);
     match argument {
         Argument::Address if Prefix::parse(word).is_some() => {
             write!(f, "{shown} is a prefix; an address is wanted")
@@ -236,10 +245,10 @@ fn write_wrong_word<W: fmt::Write>(
             write!(f, "{shown} is an address; a prefix also has / and a length")
         }
         Argument::Address | Argument::Prefix => {
-            let name = argument.find_name();
+            let name = argument.kind_with_article();
             write!(f, "{shown} is not {name}")
         }
-        Argument::Times if find_number(word) == Some(0) && !has_leading_zero(word) => {
+        Argument::Times if parse_digits(word) == Some(0) && !has_leading_zero(word) => {
             write!(f, "{shown} is too small; the least is 1")
         }
         Argument::Times | Argument::Number | Argument::Step | Argument::AsNumber => {
@@ -248,16 +257,16 @@ fn write_wrong_word<W: fmt::Write>(
     }
 }
 
-/// Writes why the word isn't the number that is wanted there.
+/// Writes why `word` isn't a number of the kind `argument`.
 fn write_wrong_number<W: fmt::Write>(
     f: &mut fmt::Formatter<W>,
     word: &[u8],
     argument: Argument,
 ) -> fmt::Result {
-    let shown = Shown(word);
-    let (name, most) = (argument.find_name(), u32::MAX);
-    if let Some(digits) = find_digits_behind_as(word) {
-        let digits = Shown(digits);
+    let shown = EscapedOctets(word);
+    let (name, most) = (argument.kind_with_article(), u32::MAX);
+    if let Some(digits) = find_digits_after_as(word) {
+        let digits = EscapedOctets(digits);
         write!(f, "write {digits} for {shown}")
     } else if has_leading_zero(word) {
         write!(f, "{shown} has a zero in front")
@@ -268,7 +277,7 @@ fn write_wrong_number<W: fmt::Write>(
     }
 }
 
-impl fmt::Display for Shown<'_> {
+impl fmt::Display for EscapedOctets<'_> {
     fn fmt<W: fmt::Write>(&self, f: &mut fmt::Formatter<W>) -> fmt::Result {
         let octets = self.0;
         let shown = octets[..octets.len().min(SHOWN)].escape_ascii();

@@ -7,7 +7,7 @@ use Rattle.clap.specs.Built.{FitsChain, HasDistinctIds, TakesValue}
 use Rattle.clap.specs.declared.Arg.{Arg}
 use Rattle.clap.specs.declared.Command.{Command}
 use Rattle.bgpdump_command_line.specs.CommandLine.{input_rule, lines_rule, output_rule, script_rule, times_rule}
-use Rattle.bgpdump_command_line.specs.Arguments.{IsCommandLine, IsTimesRule, StandsAlone}
+use Rattle.bgpdump_command_line.specs.Arguments.{IsCommandLine, IsTimesRule, ExcludesNone}
 
 -- the five arguments, by what is said of each
 pub record AreArguments (lines script times output input : Arg) : Type 0 where
@@ -16,11 +16,11 @@ pub record AreArguments (lines script times output input : Arg) : Type 0 where
   pub times_is : IsTimesRule (rule_of times)
   pub output_is : rule_of output ≡ output_rule
   pub input_is : rule_of input ≡ input_rule
-  pub lines_alone : StandsAlone lines
-  pub script_alone : StandsAlone script
-  pub times_alone : StandsAlone times
-  pub output_alone : StandsAlone output
-  pub input_alone : StandsAlone input
+  pub lines_alone : ExcludesNone lines
+  pub script_alone : ExcludesNone script
+  pub times_alone : ExcludesNone times
+  pub output_alone : ExcludesNone output
+  pub input_alone : ExcludesNone input
   pub input_value : TakesValue input
 
 -- each added to the command before it
@@ -32,7 +32,7 @@ pub record AreAdded (start first second third fourth last : Command) (lines scri
   pub adds_input : AddsArg fourth input last
 
 -- one more argument, in the shape of the command
-added_shape : (old : Command) (argument : Arg) (new : Command) (app : App) → AddsArg old argument new → StandsAlone argument → app_of old ≡ app → app_of new ≡ with_rule app (rule_of argument)
+added_shape : (old : Command) (argument : Arg) (new : Command) (app : App) → AddsArg old argument new → ExcludesNone argument → app_of old ≡ app → app_of new ≡ with_rule app (rule_of argument)
 added_shape old argument new app added alone is = added.shape alone.1 ∙ ap (λ a. with_rule a (rule_of argument)) is
 
 pub command_made : (start first second third fourth last : Command) (lines script times output input : Arg)
@@ -75,7 +75,7 @@ unequal a b differs same =
     cc
 
 -- an argument with an id that `clap` doesn't use
-fits : (argument : Arg) (id : Text) → StandsAlone argument → argument.id.now ≡ id → bytes_eq id [] ≡ false → bytes_eq id (codes "help") ≡ false → bytes_eq id (codes "version") ≡ false
+fits : (argument : Arg) (id : Text) → ExcludesNone argument → argument.id.now ≡ id → bytes_eq id [] ≡ false → bytes_eq id (codes "help") ≡ false → bytes_eq id (codes "version") ≡ false
     → FitsChain argument
 fits argument id alone is named helps tells = (
   alone.0,

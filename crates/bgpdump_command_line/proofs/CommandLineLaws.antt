@@ -8,7 +8,7 @@ use Rattle.clap.specs.declared.ArgMatches.{ArgMatches}
 use Rattle.clap.specs.declared.Error.{Error}
 use Rattle.clap.specs.declared.error.ErrorKind.TheVariants.{DisplayHelp, OutOfMemory}
 use Rattle.clap.specs.declared.builder.value_parser.ValueParser.{ValueParser}
-use Rattle.bgpdump_command_line.specs.CommandLine.{Answers, Gives, TakesTimes, command_line, input_of, is_text}
+use Rattle.bgpdump_command_line.specs.CommandLine.{Answers, GivesSettings, TakesTimes, command_line, input_of, equals_text}
 use Rattle.bgpdump_command_line.specs.Arguments.{IsCommandLine, IsFaultOf}
 use Rattle.bgpdump_command_line.specs.declared.usage.Settings.{Settings}
 use Rattle.bgpdump_command_line.specs.declared.usage.UsageFault.{UsageFault}
@@ -16,7 +16,7 @@ use Rattle.bgpdump_command_line.specs.declared.usage.UsageFault.TheVariants as u
 
 -- a flag is up where its text is `true`
 pub flag_read : (E : Type 0) (text : Option Text) (flag : Option Bool) → (text ≡ None → flag ≡ None) → ((t : Text) → text ≡ Some t → ReadsOne {E = E} ParsesBool t flag)
-    → unwrap_or flag false ≡ is_text (codes "true") text
+    → unwrap_or flag false ≡ equals_text (codes "true") text
 flag_read E None flag none some = ap (λ f. unwrap_or f false) (none refl)
 flag_read E (Some t) (Some true) none some = sym ((bytes_eq-Decides (codes "true") t).1 (sym (some t refl)))
 flag_read E (Some t) (Some false) none some = sym (ap (bytes_eq (codes "true")) (some t refl))
@@ -37,16 +37,16 @@ is_one_level times = refl
 
 -- what the matches give is the answer, where the parse had no fault
 answers_matches : (times : ValueParser) (words : List Text) (rows : List Row) (result : Result Settings UsageFault) → TakesTimes times → fault_of (command_line times) words ≡ [] → rows ≡ matches_of (command_line times) words
-    → Gives rows result → Answers words result
-answers_matches times words rows (Ok settings) takes none is gives = (times, takes, (none, subst (λ r. Gives r (Ok settings)) is gives))
-answers_matches times words rows (Err usage.Mode) takes none is gives = (times, takes, (none, subst (λ r. Gives r (Err usage.Mode)) is gives))
-answers_matches times words rows (Err usage.TwoInputs) takes none is gives = (times, takes, (none, subst (λ r. Gives r (Err usage.TwoInputs)) is gives))
+    → GivesSettings rows result → Answers words result
+answers_matches times words rows (Ok settings) takes none is gives = (times, takes, (none, subst (λ r. GivesSettings r (Ok settings)) is gives))
+answers_matches times words rows (Err usage.Mode) takes none is gives = (times, takes, (none, subst (λ r. GivesSettings r (Err usage.Mode)) is gives))
+answers_matches times words rows (Err usage.TwoInputs) takes none is gives = (times, takes, (none, subst (λ r. GivesSettings r (Err usage.TwoInputs)) is gives))
 answers_matches times words rows (Err usage.Memory) takes none is gives = tt
 answers_matches times words rows (Err (usage.Help text)) takes none is gives = absurd gives
 answers_matches times words rows (Err (usage.Words text)) takes none is gives = absurd gives
 
 pub answers_parsed : (app : App) (words : List Text) (matches : ArgMatches) (result : Result Settings UsageFault) → IsCommandLine app → HasMatchesOf app words matches
-    → (is_simple_and_free app ≡ true → FailsBy {T = ArgMatches} (fault_of app words) (Ok matches)) → Gives (rows_of (found_of matches)) result → Answers words result
+    → (is_simple_and_free app ≡ true → FailsBy {T = ArgMatches} (fault_of app words) (Ok matches)) → GivesSettings (rows_of (found_of matches)) result → Answers words result
 answers_parsed app words matches result command has fails gives =
     let times = command.0 in
     let is : app ≡ command_line times = command.2 in

@@ -1,5 +1,5 @@
 -- Private.
--- The arguments of the command line one by one, its mode, and the fault of its words.
+-- Each argument of the command line, the mode that they select, and the fault of a failed parse.
 use Rattle.std.specs.Prelude.{◌≡◌, ◌≢◌, ⊤, true, false, List, is_some, Result, Ok, Err, codes}
 use Rattle.clap.specs.declared.Arg.{Arg}
 use Rattle.clap.specs.declared.ArgMatches.{ArgMatches}
@@ -13,28 +13,32 @@ use Rattle.bgpdump_command_line.specs.declared.usage.UsageFault.{UsageFault}
 use Rattle.bgpdump_command_line.specs.declared.usage.UsageFault.TheVariants as usage
 use Rattle.bgpdump_command_line.specs.CommandLine.{times_rule, command_line, TakesTimes, has_one_mode, IsMode}
 
+-- The rule is that of the argument `-t`, which takes the values `dump` and `change`.
 abbrev pub IsTimesRule : Rule → Type 0
 IsTimesRule rule = (times : ValueParser) × TakesTimes times × (rule ≡ times_rule times)
 
+-- The command is that of the program, whose argument `-t` takes the values `dump` and `change`.
 abbrev pub IsCommandLine : App → Type 0
 IsCommandLine app = (times : ValueParser) × TakesTimes times × (app ≡ command_line times)
 
--- the argument excludes no other, and no other command has it
-abbrev pub StandsAlone : Arg → Type 0
-StandsAlone argument = IsPlainArg argument × (argument.global ≡ false)
+-- The argument excludes no other one, and isn't an argument of subcommands.
+abbrev pub ExcludesNone : Arg → Type 0
+ExcludesNone argument = IsPlainArg argument × (argument.global ≡ false)
 
--- each parse gives the input a value
+-- Each successful parse by the command gives INPUT a value.
 abbrev pub TakesInput : Command → Type 0
 TakesInput command = (matches : ArgMatches) → IsParsedFrom command matches → is_some (first_value (found_of matches) (codes "input")) ≡ true
 
--- the mode of the matches, where there is just one
+-- What selecting the mode by these matches gives: the only mode that is there, or the fault `Mode` unless
+-- just one is there. `Memory` may be given in any case.
 abbrev pub GivesMode : List Row → Result Mode UsageFault → Type 0
 GivesMode rows (Ok mode) = (has_one_mode rows ≡ true) × IsMode rows mode
 GivesMode rows (Err usage.Mode) = has_one_mode rows ≡ false
 GivesMode rows (Err usage.Memory) = ⊤
 GivesMode rows (Err fault) = ⊥
 
--- the fault of a parse that had an error of this kind
+-- The fault that a failed parse with an error of this kind gives: `Help` for help, `Words` for a kind other
+-- than help and lack of memory. `Memory` may be given in any case.
 abbrev pub IsFaultOf : ErrorKind → UsageFault → Type 0
 IsFaultOf kind (usage.Help text) = kind ≡ DisplayHelp
 IsFaultOf kind (usage.Words text) = (kind ≢ DisplayHelp) × (kind ≢ OutOfMemory)

@@ -1,4 +1,4 @@
--- What the words of a command line ask for.
+-- The command line of the program, and the settings that its arguments select.
 use Rattle.std.specs.Prelude.{◌≡◌, ◌≢◌, ◌&&◌, ⊤, Bool, true, false, not, List, [], ◌∷◌, map, Option, Some, is_some, option_map, if◌then◌else◌, Result, Ok, Err, codes, string_bytes, bytes_eq}
 use Rattle.std.specs.Option.{option_map_or}
 use Rattle.clap.specs.Words.{App, IsAmong, Row, Rule, Text, fault_of, first_of, matches_of, new_app, new_rule, one_of, with_rule}
@@ -17,91 +17,98 @@ use Rattle.bgpdump_command_line.specs.declared.usage.UsageFault.TheVariants as u
 
 -- ---- the command line: `bgpdump (-m | --play SCRIPT) [-t dump|change] [-O FILE] INPUT`
 
--- -m
+-- The rule of `-m`: a flag.
 abbrev pub lines_rule : Rule
 lines_rule = record (new_rule (codes "lines")) { short = Some 109; action = Some SetTrue }
 
--- --play SCRIPT
+-- The rule of `--play SCRIPT`.
 abbrev pub script_rule : Rule
 script_rule = record (new_rule (codes "script")) { long = Some (codes "play"); value_names = 1 }
 
--- -t TIME, which is `dump` where it isn't given
+-- The rule of `-t TIME`, whose default is `dump`.
 abbrev pub times_rule : ValueParser → Rule
 times_rule times = record (new_rule (codes "times")) { short = Some 116; value_names = 1; parser = Some times; defaults = codes "dump" ∷ [] }
 
--- -O FILE
+-- The rule of `-O FILE`.
 abbrev pub output_rule : Rule
 output_rule = record (new_rule (codes "output")) { short = Some 79; value_names = 1 }
 
--- INPUT, which has to be there
+-- The rule of INPUT, which is required.
 abbrev pub input_rule : Rule
 input_rule = record (new_rule (codes "input")) { value_names = 1; required = true; action = Some Set }
 
--- the command, by what the value of -t has to be
+-- The command of the program, where `times` parses the value of `-t`.
 abbrev pub command_line : ValueParser → App
 command_line times =
     with_rule (with_rule (with_rule (with_rule (with_rule (new_app (codes "bgpdump")) lines_rule) script_rule) (times_rule times)) output_rule) input_rule
 
--- -t takes `dump` and `change`
+-- The parser takes the values `dump` and `change`.
 abbrev pub TakesTimes : ValueParser → Type 0
 TakesTimes (parser.Names taken) = map (λ name. name.now) taken.now ≡ codes "dump" ∷ codes "change" ∷ []
 TakesTimes other = ⊥
 
--- ---- what the matches of a command line ask for
+-- ---- the settings that the matches of a parse select
 
-abbrev pub is_text : Text → Option Text → Bool
-is_text text found = option_map_or (bytes_eq text) found false
+-- Whether there is a value, and it is `text`.
+abbrev pub equals_text : Text → Option Text → Bool
+equals_text text found = option_map_or (bytes_eq text) found false
 
-abbrev pub asks_lines : List Row → Bool
-asks_lines rows = is_text (codes "true") (one_of (codes "lines") rows)
+-- Whether `-m` is among the matches.
+abbrev pub has_lines_flag : List Row → Bool
+has_lines_flag rows = equals_text (codes "true") (one_of (codes "lines") rows)
 
+-- The value of `--play`, if it is among the matches.
 abbrev pub script_of : List Row → Option Text
 script_of = first_of (codes "script")
 
+-- The value of INPUT, if it is among the matches.
 abbrev pub input_of : List Row → Option Text
 input_of = first_of (codes "input")
 
-abbrev pub stamp_of : List Row → Stamp
-stamp_of rows = if is_text (codes "change") (first_of (codes "times") rows) then Change else Dump
+-- The choice of the time that the routes of tables get: `Change` for `-t change`, or else `Dump`.
+abbrev pub selected_stamp : List Row → Stamp
+selected_stamp rows = if equals_text (codes "change") (first_of (codes "times") rows) then Change else Dump
 
--- just one of -m and --play is there
+-- Whether just one of `-m` and `--play` is among the matches.
 abbrev pub has_one_mode : List Row → Bool
-has_one_mode rows = if asks_lines rows then not (is_some (script_of rows)) else is_some (script_of rows)
+has_one_mode rows = if has_lines_flag rows then not (is_some (script_of rows)) else is_some (script_of rows)
 
--- both the script and the input are standard input
+-- Whether the script and the input are both standard input.
 abbrev pub has_two_inputs : List Row → Bool
-has_two_inputs rows = is_text (codes "-") (script_of rows) && is_text (codes "-") (input_of rows)
+has_two_inputs rows = equals_text (codes "-") (script_of rows) && equals_text (codes "-") (input_of rows)
 
--- the mode is the one that is there
+-- The mode is one that the matches select.
 abbrev pub IsMode : List Row → Mode → Type 0
-IsMode rows mode.Lines = asks_lines rows ≡ true
+IsMode rows mode.Lines = has_lines_flag rows ≡ true
 IsMode rows (mode.Play script) = script_of rows ≡ Some (string_bytes script)
 
--- each field is what the matches have of it
+-- Each field of the settings is the value that the matches have for it.
 pub record AreSettings (rows : List Row) (settings : Settings) : Type 0 where
   pub mode : IsMode rows settings.mode
-  pub stamp : settings.stamp ≡ stamp_of rows
+  pub stamp : settings.stamp ≡ selected_stamp rows
   pub output : option_map string_bytes settings.output ≡ first_of (codes "output") rows
   pub input : input_of rows ≡ Some (string_bytes settings.input)
 
--- what the matches give; want of memory may stand in place of it
-abbrev pub Gives : List Row → Result Settings UsageFault → Type 0
-Gives rows (Ok settings) = (has_one_mode rows ≡ true) × (has_two_inputs rows ≡ false) × AreSettings rows settings
-Gives rows (Err usage.Mode) = has_one_mode rows ≡ false
-Gives rows (Err usage.TwoInputs) = (has_one_mode rows ≡ true) × (has_two_inputs rows ≡ true)
-Gives rows (Err usage.Memory) = ⊤
-Gives rows (Err fault) = ⊥
+-- What the matches give: their settings, the fault `Mode` unless they have just one mode, or else the fault
+-- `TwoInputs` if the script and the input are both standard input. `Memory` may be given in any case.
+abbrev pub GivesSettings : List Row → Result Settings UsageFault → Type 0
+GivesSettings rows (Ok settings) = (has_one_mode rows ≡ true) × (has_two_inputs rows ≡ false) × AreSettings rows settings
+GivesSettings rows (Err usage.Mode) = has_one_mode rows ≡ false
+GivesSettings rows (Err usage.TwoInputs) = (has_one_mode rows ≡ true) × (has_two_inputs rows ≡ true)
+GivesSettings rows (Err usage.Memory) = ⊤
+GivesSettings rows (Err fault) = ⊥
 
--- ---- what the words give
+-- ---- what the words of a command line give
 
--- what words give but for want of memory: what their matches give, where their parse has no kind of fault;
--- help or a usage fault only by a fault of its kind
-abbrev pub AnswersBy : ValueParser → List Text → Result Settings UsageFault → Type 0
-AnswersBy times words (Err (usage.Help text)) = IsAmong DisplayHelp (fault_of (command_line times) words)
-AnswersBy times words (Err (usage.Words text)) = (kind : ErrorKind) × IsAmong kind (fault_of (command_line times) words) × (kind ≢ DisplayHelp)
-AnswersBy times words result = (fault_of (command_line times) words ≡ []) × Gives (matches_of (command_line times) words) result
+-- What these words give, unless memory allocation fails, where `times` parses the value of `-t`: what their
+-- matches give, if the parse has no fault; `Help` only if it has the fault of help, and `Words` only if it
+-- has another one.
+abbrev pub GivesSettingsFor : ValueParser → List Text → Result Settings UsageFault → Type 0
+GivesSettingsFor times words (Err (usage.Help text)) = IsAmong DisplayHelp (fault_of (command_line times) words)
+GivesSettingsFor times words (Err (usage.Words text)) = (kind : ErrorKind) × IsAmong kind (fault_of (command_line times) words) × (kind ≢ DisplayHelp)
+GivesSettingsFor times words result = (fault_of (command_line times) words ≡ []) × GivesSettings (matches_of (command_line times) words) result
 
--- and want of memory in place of any of it
+-- What these words give. `Memory` may be given in any case.
 abbrev pub Answers : List Text → Result Settings UsageFault → Type 0
 Answers words (Err usage.Memory) = ⊤
-Answers words result = (times : ValueParser) × TakesTimes times × AnswersBy times words result
+Answers words result = (times : ValueParser) × TakesTimes times × GivesSettingsFor times words result

@@ -4,7 +4,7 @@
 ghost use Rattle.std.specs.Prelude.{◌≡◌, IfOk};
 ghost use Rattle.clap.specs.Built.{TakesValue};
 ghost use Rattle.clap.specs.Words.{app_of, rule_of};
-ghost use Rattle.bgpdump_command_line.specs.Arguments.{IsCommandLine, IsTimesRule, StandsAlone, TakesInput};
+ghost use Rattle.bgpdump_command_line.specs.Arguments.{IsCommandLine, IsTimesRule, ExcludesNone, TakesInput};
 ghost use Rattle.bgpdump_command_line.specs.CommandLine.{input_rule, lines_rule, output_rule, script_rule};
 
 use clap::{Arg, ArgAction, Command};
@@ -32,7 +32,7 @@ pub(crate) const DUMP: &str = "dump";
 pub(crate) const CHANGE: &str = "change";
 
 /// The accepted values of `-t`.
-const TIMES_TAKEN: &[&str] = &[DUMP, CHANGE];
+const TIMES_ACCEPTED: &[&str] = &[DUMP, CHANGE];
 
 /// The first line of the help: the name of the program, its version, and what it does. The version
 /// is named here, and whatever else names it is compared with this line.
@@ -43,7 +43,7 @@ Rumpleja's bgpdump 1.0.0: reads what BGP routers write (MRT files, RFC 6396).";
 const USAGE: &str = "bgpdump (-m | --play SCRIPT) [-t dump|change] [-O FILE] INPUT";
 
 /// The text at the end of the help.
-const MORE: &str = "\
+const AFTER_HELP: &str = "\
 Examples:
   bgpdump -m table.mrt            the lines of a file
   zcat updates.gz | bgpdump -m -  those of what another program gives
@@ -55,7 +55,7 @@ statuses.";
 /// Returns the argument `-m`.
 fn lines_argument<'a>(alloc: Global) -> Arg<'a>
     ensures rule { rule_of result ≡ lines_rule }
-    ensures alone { StandsAlone result }
+    ensures alone { ExcludesNone result }
 {
     Arg::new(alloc, LINES)
         .short('m')
@@ -66,7 +66,7 @@ fn lines_argument<'a>(alloc: Global) -> Arg<'a>
 /// Returns the argument `--play SCRIPT`.
 fn script_argument<'a>(alloc: Global) -> Arg<'a>
     ensures rule { rule_of result ≡ script_rule }
-    ensures alone { StandsAlone result }
+    ensures alone { ExcludesNone result }
 {
     Arg::new(alloc, SCRIPT)
         .long("play")
@@ -77,12 +77,12 @@ fn script_argument<'a>(alloc: Global) -> Arg<'a>
 /// Returns the argument `-t`, whose value is `dump`, the default, or `change`.
 fn times_argument<'a>(alloc: Global) -> Arg<'a>
     ensures rule { IsTimesRule (rule_of result) }
-    ensures alone { StandsAlone result }
+    ensures alone { ExcludesNone result }
 {
     Arg::new(alloc, TIMES)
         .short('t')
         .value_name("TIME")
-        .value_parser(TIMES_TAKEN)
+        .value_parser(TIMES_ACCEPTED)
         .default_value(DUMP)
         .hide_possible_values(true)
         .help("Time of a table's routes: dump or change")
@@ -91,7 +91,7 @@ fn times_argument<'a>(alloc: Global) -> Arg<'a>
 /// Returns the argument `-O FILE`.
 fn output_argument<'a>(alloc: Global) -> Arg<'a>
     ensures rule { rule_of result ≡ output_rule }
-    ensures alone { StandsAlone result }
+    ensures alone { ExcludesNone result }
 {
     Arg::new(alloc, OUTPUT)
         .short('O')
@@ -102,7 +102,7 @@ fn output_argument<'a>(alloc: Global) -> Arg<'a>
 /// Returns the argument `INPUT`, which is required.
 fn input_argument<'a>(alloc: Global) -> Arg<'a>
     ensures rule { rule_of result ≡ input_rule }
-    ensures alone { StandsAlone result }
+    ensures alone { ExcludesNone result }
     ensures value { TakesValue result }
 {
     Arg::new(alloc, INPUT)
@@ -120,7 +120,7 @@ pub(crate) fn command<'a>(alloc: Global) -> Result<Command<'a>, AllocError>
     Command::new(alloc, "bgpdump")
         .about(ABOUT)
         .override_usage(USAGE)
-        .after_help(MORE)
+        .after_help(AFTER_HELP)
         .arg(lines_argument(alloc))?
         .arg(script_argument(alloc))?
         .arg(times_argument(alloc))?

@@ -3,7 +3,7 @@
 
 ghost use Rattle.std.specs.Prelude.{◌≡◌, true, is_some, map, option_map, string_bytes, IfOk};
 ghost use Rattle.clap.specs.Words.{first_of, found_of, kind_of, rows_of};
-ghost use Rattle.bgpdump_command_line.specs.CommandLine.{Answers, Gives, asks_lines, has_two_inputs, input_of, is_text, stamp_of};
+ghost use Rattle.bgpdump_command_line.specs.CommandLine.{Answers, GivesSettings, has_lines_flag, has_two_inputs, input_of, equals_text, selected_stamp};
 ghost use Rattle.bgpdump_command_line.specs.Arguments.{GivesMode, IsFaultOf};
 
 use crate::arguments::{CHANGE, INPUT, LINES, OUTPUT, SCRIPT, TIMES, command};
@@ -20,12 +20,12 @@ pub fn settings(alloc: Global, words: Vec<String>) -> Result<Settings, UsageFaul
 {
     match command(alloc)?.try_get_matches_from(words.as_slice()) {
         Ok(matches) => settings_of(alloc, &matches),
-        Err(error) => Err(parse_fault(alloc, &error)),
+        Err(error) => Err(fault_of_parse_error(alloc, &error)),
     }
 }
 
 /// Converts an error of `clap` to a fault with its text, or to `Memory` if memory allocation fails.
-fn parse_fault(alloc: Global, error: &clap::Error) -> UsageFault
+fn fault_of_parse_error(alloc: Global, error: &clap::Error) -> UsageFault
     ensures { IsFaultOf (kind_of error.now) result }
 {
     match error.kind() {
@@ -43,7 +43,7 @@ fn parse_fault(alloc: Global, error: &clap::Error) -> UsageFault
 /// with `Memory` if memory allocation fails.
 fn settings_of(alloc: Global, matches: &ArgMatches<'_>) -> Result<Settings, UsageFault>
     requires input { is_some (input_of (rows_of (found_of matches.now))) ≡ true }
-    ensures gives { Gives (rows_of (found_of matches.now)) result }
+    ensures gives { GivesSettings (rows_of (found_of matches.now)) result }
 {
     let mode = mode_of(alloc, matches)?;
     if has_two_inputs(matches) {
@@ -54,7 +54,7 @@ fn settings_of(alloc: Global, matches: &ArgMatches<'_>) -> Result<Settings, Usag
     };
     Ok(Settings {
         mode,
-        stamp: stamp_of(matches),
+        stamp: selected_stamp(matches),
         output: value_of(matches, OUTPUT)
             .map(|name| String::from_str(alloc, name))
             .transpose()?,
@@ -67,7 +67,7 @@ fn settings_of(alloc: Global, matches: &ArgMatches<'_>) -> Result<Settings, Usag
 fn mode_of(alloc: Global, matches: &ArgMatches<'_>) -> Result<Mode, UsageFault>
     ensures { GivesMode (rows_of (found_of matches.now)) result }
 {
-    match (asks_lines(matches), value_of(matches, SCRIPT)) {
+    match (has_lines_flag(matches), value_of(matches, SCRIPT)) {
         (true, None) => Ok(Mode::Lines),
         (false, Some(script)) => Ok(Mode::Play(String::from_str(alloc, script)?)),
         _ => Err(UsageFault::Mode),
@@ -75,8 +75,8 @@ fn mode_of(alloc: Global, matches: &ArgMatches<'_>) -> Result<Mode, UsageFault>
 }
 
 /// Returns `true` if `-m` is in `matches`.
-fn asks_lines(matches: &ArgMatches<'_>) -> bool
-    ensures { result ≡ asks_lines (rows_of (found_of matches.now)) }
+fn has_lines_flag(matches: &ArgMatches<'_>) -> bool
+    ensures { result ≡ has_lines_flag (rows_of (found_of matches.now)) }
 {
     matches.get_one::<bool>(LINES).unwrap_or(false)
 }
@@ -85,14 +85,14 @@ fn asks_lines(matches: &ArgMatches<'_>) -> bool
 fn has_two_inputs(matches: &ArgMatches<'_>) -> bool
     ensures { result ≡ has_two_inputs (rows_of (found_of matches.now)) }
 {
-    is_value(matches, SCRIPT, STANDARD_INPUT) && is_value(matches, INPUT, STANDARD_INPUT)
+    has_value(matches, SCRIPT, STANDARD_INPUT) && has_value(matches, INPUT, STANDARD_INPUT)
 }
 
 /// Returns the choice of the time that the routes of a table get, by the value of `-t`.
-fn stamp_of(matches: &ArgMatches<'_>) -> Stamp
-    ensures { result ≡ stamp_of (rows_of (found_of matches.now)) }
+fn selected_stamp(matches: &ArgMatches<'_>) -> Stamp
+    ensures { result ≡ selected_stamp (rows_of (found_of matches.now)) }
 {
-    if is_value(matches, TIMES, CHANGE) {
+    if has_value(matches, TIMES, CHANGE) {
         Stamp::Change
     } else {
         Stamp::Dump
@@ -100,8 +100,8 @@ fn stamp_of(matches: &ArgMatches<'_>) -> Stamp
 }
 
 /// Returns `true` if `argument` has the value `value` in `matches`.
-fn is_value(matches: &ArgMatches<'_>, argument: &str, value: &str) -> bool
-    ensures { result ≡ is_text value.now (first_of argument.now (rows_of (found_of matches.now))) }
+fn has_value(matches: &ArgMatches<'_>, argument: &str, value: &str) -> bool
+    ensures { result ≡ equals_text value.now (first_of argument.now (rows_of (found_of matches.now))) }
 {
     value_of(matches, argument) == Some(value)
 }

@@ -1,3 +1,4 @@
+pub mod FlushingLaws
 pub mod LineLaws
 pub mod HeldLaws
 pub mod EndLaws

@@ -1,101 +1,105 @@
 -- Private.
--- What is printed under a heading, and where the parts of a route's line stand.
+-- The lines that are printed under a heading, and the offsets of the fields of a route's line in a text.
 use Rattle.std.specs.Prelude.{ℕ, List, ◌∷◌, ◌++◌, decimal, codes, flat_map, ◌≡◌, ◌≤◌, length, drop, slice_range}
 use Rattle.ip_prefix.specs.Network.{Network}
 use Rattle.ip_prefix.specs.Text.{address_text, network_text}
 use Rattle.mrt_events.specs.declared.peer.Peer.{Peer}
 use Rattle.mrt_events.specs.declared.event.Route.{Route}
-use Rattle.bgpdump_lines.specs.Lines.{bar, line_of, attribute_fields, word, route_time_text, route_letter, line_behind}
-use Rattle.mrt_events.specs.Event.{Saying}
+use Rattle.bgpdump_lines.specs.Lines.{bar, line_from_fields, attribute_fields, tag_word, route_time_text, route_letter, line_from_first_field}
+use Rattle.mrt_events.specs.Event.{ItemValue}
 use Rattle.mrt_events.specs.declared.event.Tag.{Tag}
-use Rattle.bgpdump_lines.specs.declared.heading.First.{First}
-use Rattle.bgpdump_lines.specs.declared.heading.First.TheVariants.{Record, Rib}
+use Rattle.bgpdump_lines.specs.declared.heading.FirstField.{FirstField}
+use Rattle.bgpdump_lines.specs.declared.heading.FirstField.TheVariants.{Record, Rib}
 use Rattle.bgpdump_lines.specs.declared.heading.Heading.{Heading}
-use Rattle.bgpdump_lines.specs.declared.route_line.Places.{Places}
+use Rattle.bgpdump_lines.specs.declared.route_line.FieldOffsets.{FieldOffsets}
 use Rattle.bgpdump_lines.specs.declared.route_line.LastLine.{LastLine}
 
--- ---- the parts of a line from the peer on, each behind a bar
+-- ---- the fields of a line from the peer on, each with the bar ahead of it
 
--- the peer of a line, behind a bar
+-- The fields of a peer: a bar and its address, a bar and its AS number.
 abbrev pub peer_fields : Peer → List ℕ
 peer_fields peer = bar ∷ address_text peer.addr ++ bar ∷ decimal peer.asn
 
--- the prefix of a line, behind a bar
+-- The field of a prefix: a bar and the prefix.
 abbrev pub prefix_field : Network → List ℕ
 prefix_field network = bar ∷ network_text network
 
--- what stands behind the prefix in a route's line
-abbrev pub route_tail : Route → List ℕ
-route_tail route = bar ∷ line_of (attribute_fields route.attrs)
+-- The fields of a route's line after the prefix, with the line feed.
+abbrev pub fields_after_prefix : Route → List ℕ
+fields_after_prefix route = bar ∷ line_from_fields (attribute_fields route.attrs)
 
--- ---- what is printed under a heading, which has what the lines of an event, or of a table, have in common
+-- ---- the lines under a heading, which has what the lines of an event, or of a table, have in common
 
--- the first field of a line
-abbrev pub word_of : First → Tag → List ℕ
-word_of Record tag = word tag
-word_of Rib tag = codes "RIB"
+-- The first field of a line, by its kind, which is `RIB` or the kind of the record.
+abbrev pub first_field_of_kind : FirstField → Tag → List ℕ
+first_field_of_kind Record tag = tag_word tag
+first_field_of_kind Rib tag = codes "RIB"
 
+-- The first field of the lines under a heading.
 abbrev pub first_field : Heading → List ℕ
-first_field heading = word_of heading.first heading.tag
+first_field heading = first_field_of_kind heading.first heading.tag
 
--- the first three fields of a route's line
-abbrev pub route_head : Heading → Route → List ℕ
-route_head heading route =
+-- The first three fields of a route's line under a heading: the kind, the time and the letter.
+abbrev pub first_three_fields : Heading → Route → List ℕ
+first_three_fields heading route =
     first_field heading ++ bar ∷ (route_time_text heading.time heading.tag route ++ bar ∷ route_letter heading.tag)
 
--- what stands in front of the prefix in a route's line, up to a bar
-abbrev pub route_front : Heading → Peer → Route → List ℕ
-route_front heading peer route = route_head heading route ++ peer_fields peer
+-- The fields of a route's line under a heading before the prefix.
+abbrev pub fields_before_prefix : Heading → Peer → Route → List ℕ
+fields_before_prefix heading peer route = first_three_fields heading route ++ peer_fields peer
 
--- the line of what an item says
-abbrev pub headed_line : Heading → Saying → List ℕ
-headed_line heading = line_behind (first_field heading) heading.time heading.tag
+-- The line of an item under a heading.
+abbrev pub line_under_heading : Heading → ItemValue → List ℕ
+line_under_heading heading = line_from_first_field (first_field heading) heading.time heading.tag
 
--- the lines of what items say, one for each
-abbrev pub headed_lines : Heading → List Saying → List ℕ
-headed_lines heading said = flat_map (headed_line heading) said
+-- The lines of items under a heading, one for each.
+abbrev pub lines_under_heading : Heading → List ItemValue → List ℕ
+lines_under_heading heading announcement = flat_map (line_under_heading heading) announcement
 
--- ---- where the parts of a route's line stand, of which the next line may be made
+-- ---- the offsets of the fields of a route's line, from which the next line may be copied
 
--- the places follow one another in the text
-pub record AreOrdered (places : Places) (text : List ℕ) : Type 0 where
-  pub head : places.start ≤ places.head
-  pub front : places.head ≤ places.front
-  pub tail : places.front ≤ places.tail
-  pub within : places.tail ≤ length text
+-- The offsets are in order, and none is after the end of the text.
+pub record AreOffsetsOrdered (offsets : FieldOffsets) (text : List ℕ) : Type 0 where
+  pub head : offsets.start ≤ offsets.head
+  pub front : offsets.head ≤ offsets.front
+  pub tail : offsets.front ≤ offsets.tail
+  pub within : offsets.tail ≤ length text
 
--- what stands at these places: the first three fields
-abbrev pub head_at : Places → List ℕ → List ℕ
-head_at places text = slice_range text places.start places.head
+-- The octets of a text between the offsets of a line's start and of the end of its first three fields.
+abbrev pub head_at : FieldOffsets → List ℕ → List ℕ
+head_at offsets text = slice_range text offsets.start offsets.head
 
--- all in front of the prefix
-abbrev pub front_at : Places → List ℕ → List ℕ
-front_at places text = slice_range text places.start places.front
+-- The octets of a text between the offsets of a line's start and of its prefix.
+abbrev pub front_at : FieldOffsets → List ℕ → List ℕ
+front_at offsets text = slice_range text offsets.start offsets.front
 
--- the prefix
-abbrev pub prefix_at : Places → List ℕ → List ℕ
-prefix_at places text = slice_range text places.front places.tail
+-- The octets of a text between the offsets of the start and of the end of a line's prefix.
+abbrev pub prefix_at : FieldOffsets → List ℕ → List ℕ
+prefix_at offsets text = slice_range text offsets.front offsets.tail
 
--- and what is behind it
-abbrev pub tail_at : Places → List ℕ → List ℕ
-tail_at places text = drop places.tail text
+-- The octets of a text after the offset of the end of a line's prefix.
+abbrev pub tail_at : FieldOffsets → List ℕ → List ℕ
+tail_at offsets text = drop offsets.tail text
 
--- these four stand there
-pub record HasParts (text head_text front_text prefix_text tail_text : List ℕ) (places : Places) : Type 0 where
-  pub ordered : AreOrdered places text
-  pub head : head_at places text ≡ head_text
-  pub front : front_at places text ≡ front_text
-  pub prefix : prefix_at places text ≡ prefix_text
-  pub tail : tail_at places text ≡ tail_text
+-- The text has these fields at these offsets: the first three of a line, all before its prefix, the prefix,
+-- and all after it up to the end of the text.
+pub record HasFieldsAt (text head_text front_text prefix_text tail_text : List ℕ) (offsets : FieldOffsets) : Type 0 where
+  pub ordered : AreOffsetsOrdered offsets text
+  pub head : head_at offsets text ≡ head_text
+  pub front : front_at offsets text ≡ front_text
+  pub prefix : prefix_at offsets text ≡ prefix_text
+  pub tail : tail_at offsets text ≡ tail_text
 
--- the text ends in a line under this heading, of a route of this peer to this prefix, with its parts at its places
-abbrev pub EndsIn : Heading → LastLine → List ℕ → Type 0
-EndsIn heading line text =
-    HasParts text (route_head heading line.said.route.now) (route_front heading line.said.peer.now line.said.route.now)
-    (prefix_field line.said.prefix.now) (route_tail line.said.route.now) line.places
+-- The text ends in the line of a route under this heading: the line of `line`, with its fields at its
+-- offsets.
+abbrev pub EndsInLine : Heading → LastLine → List ℕ → Type 0
+EndsInLine heading line text =
+    HasFieldsAt text (first_three_fields heading line.announcement.route.now) (fields_before_prefix heading line.announcement.peer.now line.announcement.route.now)
+    (prefix_field line.announcement.prefix.now) (fields_after_prefix line.announcement.route.now) line.offsets
 
--- the same, to whichever prefix
-pub record EndsInRoute (heading : Heading) (peer : Peer) (route : Route) (places : Places) (text : List ℕ) : Type 0 where
-  pub ordered : AreOrdered places text
-  pub front : front_at places text ≡ route_front heading peer route
-  pub tail : tail_at places text ≡ route_tail route
+-- The text ends in a line of this route of this peer, to any prefix, under this heading, with its fields at
+-- these offsets.
+pub record EndsInLineOfRoute (heading : Heading) (peer : Peer) (route : Route) (offsets : FieldOffsets) (text : List ℕ) : Type 0 where
+  pub ordered : AreOffsetsOrdered offsets text
+  pub front : front_at offsets text ≡ fields_before_prefix heading peer route
+  pub tail : tail_at offsets text ≡ fields_after_prefix route

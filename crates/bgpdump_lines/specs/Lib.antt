@@ -1,6 +1,7 @@
 pub mod Lines
 pub mod Heading
-pub mod Kept
+pub mod CachedLines
 pub mod Run
+pub mod Flushing
 pub mod KnownOctets
-pub mod Going
+pub mod WrittenSoFar

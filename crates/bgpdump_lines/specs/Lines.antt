@@ -1,4 +1,4 @@
--- The lines of events, one for each item.
+-- The lines of events, one for each item, as `bgpdump -m` prints them.
 use Rattle.std.specs.Prelude.{ℕ, ◌-◌, if◌then◌else◌, Bool, Option, Some, None, List, [], ◌∷◌, ◌++◌, length, replicate, decimal, codes, unwrap_or, flat_map}
 use Rattle.ip_prefix.specs.Network.{Address, Network}
 use Rattle.ip_prefix.specs.Text.{address_text, network_text}
@@ -13,117 +13,123 @@ use Rattle.mrt_events.specs.declared.event.Time.{Time}
 use Rattle.mrt_events.specs.declared.event.Tag.{Tag}
 use Rattle.mrt_events.specs.declared.event.Tag.TheVariants.{TableDump, TableDump2, Bgp4mp, Bgp4mpEt}
 use Rattle.mrt_events.specs.declared.event.Event.{Event}
-use Rattle.mrt_events.specs.Event.{Saying, Announced, Withdrawn, Changed}
+use Rattle.mrt_events.specs.Event.{ItemValue, Announced, Withdrawn, Changed}
 use Rattle.bgpdump_lines.specs.declared.heading.TheConstants.{MICROS_DIGITS}
 
--- the marks of lines
+-- The ASCII code of `|`, which separates the fields of a line.
 abbrev pub bar : ℕ
 bar = 124
 
+-- The ASCII code of a line feed, which ends a line.
 abbrev pub line_feed : ℕ
 line_feed = 10
 
+-- The ASCII code of `.`.
 abbrev pub dot : ℕ
 dot = 46
 
+-- The ASCII code of `0`.
 abbrev pub zero_digit : ℕ
 zero_digit = 48
 
+-- The ASCII code of a space.
 abbrev pub space : ℕ
 space = 32
 
--- the fields, each ended by a bar but the last, which a line feed ends
-abbrev pub line_of : List (List ℕ) → List ℕ
-line_of [] = line_feed ∷ []
-line_of (field ∷ []) = field ++ line_feed ∷ []
-line_of (field ∷ next ∷ fields) = field ++ bar ∷ line_of (next ∷ fields)
+-- The line of these fields: a bar between each two of them, and a line feed at the end.
+abbrev pub line_from_fields : List (List ℕ) → List ℕ
+line_from_fields [] = line_feed ∷ []
+line_from_fields (field ∷ []) = field ++ line_feed ∷ []
+line_from_fields (field ∷ next ∷ fields) = field ++ bar ∷ line_from_fields (next ∷ fields)
 
--- the first field of a line
-abbrev pub word : Tag → List ℕ
-word TableDump = codes "TABLE_DUMP"
-word TableDump2 = codes "TABLE_DUMP2"
-word Bgp4mp = codes "BGP4MP"
-word Bgp4mpEt = codes "BGP4MP_ET"
+-- The first field of an event's lines: the kind of its record.
+abbrev pub tag_word : Tag → List ℕ
+tag_word TableDump = codes "TABLE_DUMP"
+tag_word TableDump2 = codes "TABLE_DUMP2"
+tag_word Bgp4mp = codes "BGP4MP"
+tag_word Bgp4mpEt = codes "BGP4MP_ET"
 
--- microseconds, filled up with zeros in front
+-- Microseconds in decimal, with leading zeros up to `MICROS_DIGITS` digits.
 abbrev pub micros_text : ℕ → List ℕ
 micros_text micros = replicate (MICROS_DIGITS - length (decimal micros)) zero_digit ++ decimal micros
 
--- the time of a line: the seconds, and where the kind of record has them the microseconds
+-- The time of a record in a line: its seconds, and for BGP4MP_ET a dot and the microseconds, 0 if there are
+-- none.
 abbrev pub time_text : Tag → Time → List ℕ
 time_text TableDump time = decimal time.seconds
 time_text TableDump2 time = decimal time.seconds
 time_text Bgp4mp time = decimal time.seconds
 time_text Bgp4mpEt time = decimal time.seconds ++ dot ∷ micros_text (unwrap_or time.micros 0)
 
--- the time of a route's line: a table's entry has the route's own
+-- The time in the line of a route: the time of the route for an entry of a table, or else the time of the
+-- record.
 abbrev pub route_time_text : Time → Tag → Route → List ℕ
 route_time_text time TableDump route = decimal route.time
 route_time_text time TableDump2 route = decimal route.time
 route_time_text time Bgp4mp route = time_text Bgp4mp time
 route_time_text time Bgp4mpEt route = time_text Bgp4mpEt time
 
--- what a route's line is: an entry of a table, or an announcement
+-- The third field of a route's line: `B` for an entry of a table, `A` for an announcement.
 abbrev pub route_letter : Tag → List ℕ
 route_letter TableDump = codes "B"
 route_letter TableDump2 = codes "B"
 route_letter Bgp4mp = codes "A"
 route_letter Bgp4mpEt = codes "A"
 
--- how a route came into BGP
+-- The field of ORIGIN, empty if it is absent.
 abbrev pub origin_text : Option Origin → List ℕ
 origin_text (Some Igp) = codes "IGP"
 origin_text (Some Egp) = codes "EGP"
 origin_text (Some Incomplete) = codes "INCOMPLETE"
 origin_text None = []
 
--- the address of the next hop
+-- The field of the next hop, empty if it is absent.
 abbrev pub next_hop_text : Option Address → List ℕ
 next_hop_text (Some address) = address_text address
 next_hop_text None = []
 
--- a preference or a metric: an absent one as 0
+-- The field of LOCAL_PREF or MULTI_EXIT_DISC, 0 if it is absent.
 abbrev pub number_or_zero : Option ℕ → List ℕ
 number_or_zero number = decimal (unwrap_or number 0)
 
--- whether ATOMIC_AGGREGATE is there
-abbrev pub aggregate_word : Bool → List ℕ
-aggregate_word atomic = if atomic then codes "AG" else codes "NAG"
+-- The field of ATOMIC_AGGREGATE: `AG` if it is there, or else `NAG`.
+abbrev pub atomic_word : Bool → List ℕ
+atomic_word atomic = if atomic then codes "AG" else codes "NAG"
 
--- who has formed an aggregate: the AS number, a space and the address
+-- The field of AGGREGATOR: the AS number, a space and the address, or empty if it is absent.
 abbrev pub aggregator_text : Option Aggregator → List ℕ
 aggregator_text (Some aggregator) = decimal aggregator.asn ++ space ∷ address_text aggregator.addr
 aggregator_text None = []
 
--- the fields of a route's attributes, with an empty one at the end
+-- The fields of a route's attributes in the order of a line, with an empty field at the end.
 abbrev pub attribute_fields : Attrs → List (List ℕ)
 attribute_fields attrs =
     path_text attrs.path ∷ origin_text attrs.origin ∷ next_hop_text attrs.next_hop
     ∷ number_or_zero attrs.local_pref ∷ number_or_zero attrs.med ∷ communities_text attrs.communities
-    ∷ aggregate_word attrs.atomic ∷ aggregator_text attrs.aggregator ∷ [] ∷ []
+    ∷ atomic_word attrs.atomic ∷ aggregator_text attrs.aggregator ∷ [] ∷ []
 
--- the line of what an item says, behind its first field
-abbrev pub line_behind : List ℕ → Time → Tag → Saying → List ℕ
-line_behind first time tag (Announced peer network route) =
-    line_of (first ∷ route_time_text time tag route ∷ route_letter tag
+-- The line of an item of an event with this time and tag, whose first field is `first`.
+abbrev pub line_from_first_field : List ℕ → Time → Tag → ItemValue → List ℕ
+line_from_first_field first time tag (Announced peer network route) =
+    line_from_fields (first ∷ route_time_text time tag route ∷ route_letter tag
     ∷ address_text peer.addr ∷ decimal peer.asn ∷ network_text network ∷ attribute_fields route.attrs)
-line_behind first time tag (Withdrawn peer network) =
-    line_of (first ∷ time_text tag time ∷ codes "W"
+line_from_first_field first time tag (Withdrawn peer network) =
+    line_from_fields (first ∷ time_text tag time ∷ codes "W"
     ∷ address_text peer.addr ∷ decimal peer.asn ∷ network_text network ∷ [])
-line_behind first time tag (Changed peer old new) =
-    line_of (first ∷ time_text tag time ∷ codes "STATE"
+line_from_first_field first time tag (Changed peer old new) =
+    line_from_fields (first ∷ time_text tag time ∷ codes "STATE"
     ∷ address_text peer.addr ∷ decimal peer.asn ∷ decimal old ∷ decimal new ∷ [])
 
--- the line of what an item says
-abbrev pub item_line : Time → Tag → Saying → List ℕ
-item_line time tag = line_behind (word tag) time tag
+-- The line of an item of an event with this time and tag.
+abbrev pub item_line : Time → Tag → ItemValue → List ℕ
+item_line time tag = line_from_first_field (tag_word tag) time tag
 
--- the lines of an event, one for each item
+-- The lines of an event, one for each item.
 abbrev pub event_lines : Event → List ℕ
 event_lines event = flat_map (item_line event.time event.tag) event.items
 
--- the line of a route in the table of a peer
+-- The line of a route in the table of a peer, given with its prefix.
 abbrev pub rib_line : Peer → Network × Route → List ℕ
 rib_line peer entry =
-    line_of (codes "RIB" ∷ decimal entry.1.time ∷ codes "B"
+    line_from_fields (codes "RIB" ∷ decimal entry.1.time ∷ codes "B"
     ∷ address_text peer.addr ∷ decimal peer.asn ∷ network_text entry.0 ∷ attribute_fields entry.1.attrs)

@@ -1,15 +1,16 @@
-//! Errors of writing a text, and the [`Outcome`] of a run that an error ends.
+//! Errors of printing, and the [`Outcome`] of a run that an error ends. All functions of `write.rt` fail
+//! with a [`WriteFault`]; runs convert it, and the faults of a `Source`, by `?`.
 
 ghost use Rattle.std.specs.Prelude.{◌≡◌};
 ghost use Rattle.bgpdump_lines.specs.declared.fault.WriteFault.TheVariants.{Write, Memory};
-ghost use Rattle.bgpdump_lines.specs.Going.{source_outcome, write_outcome};
+ghost use Rattle.bgpdump_lines.specs.WrittenSoFar.{outcome_of_source_fault, outcome_of_write_fault};
 
 use crate::outcome::Outcome;
 use crate::output::OutFault;
 use mrt_wire::SourceFault;
 use std::alloc::AllocError;
 
-/// An error of writing a text.
+/// An error of writing a text to an output.
 #[derive(Clone, Copy, Debug, PartialEq, Eq)]
 pub enum WriteFault {
     /// The output failed.
@@ -35,7 +36,7 @@ impl From<AllocError> for WriteFault {
 }
 
 impl From<OutFault> for Outcome {
-    ghost from_gives = { λ _ outcome. outcome ≡ write_outcome Write };
+    ghost from_gives = { λ _ outcome. outcome ≡ outcome_of_write_fault Write };
 
     fn from(_: OutFault) -> Outcome {
         Outcome::WriteFault
@@ -43,7 +44,7 @@ impl From<OutFault> for Outcome {
 }
 
 impl From<SourceFault> for Outcome {
-    ghost from_gives = { λ fault outcome. outcome ≡ source_outcome fault };
+    ghost from_gives = { λ fault outcome. outcome ≡ outcome_of_source_fault fault };
 
     fn from(fault: SourceFault) -> Outcome {
         match fault {
@@ -55,7 +56,7 @@ impl From<SourceFault> for Outcome {
 }
 
 impl From<WriteFault> for Outcome {
-    ghost from_gives = { λ fault outcome. outcome ≡ write_outcome fault };
+    ghost from_gives = { λ fault outcome. outcome ≡ outcome_of_write_fault fault };
 
     fn from(fault: WriteFault) -> Outcome {
         match fault {

@@ -1,57 +1,60 @@
-//! Appends the fields of a line, each with the bar that separates it from the field before. The first
-//! fields of a line are in `heading`.
+//! Appends the fields of a line after its first ones, each with the bar ahead of it. `event_lines.rt` and
+//! `route_line.rt` call these functions; on error, each may have appended a part. The first fields of a
+//! line are in `heading.rt`. Read [`put_attribute_fields`] first.
 
 ghost use Rattle.std.specs.Prelude.{◌∷◌, ◌++◌, decimal};
 ghost use Rattle.ip_prefix.specs.Text.{address_text, network_text};
 ghost use Rattle.bgp_wire.specs.Text.{communities_text};
-ghost use Rattle.bgpdump_lines.specs.Going.{Prints};
-ghost use Rattle.bgpdump_lines.specs.Lines.{bar, line_of, origin_text, next_hop_text, number_or_zero, aggregate_word, aggregator_text, attribute_fields};
+ghost use Rattle.bgpdump_lines.specs.WrittenSoFar.{Prints};
+ghost use Rattle.bgpdump_lines.specs.Lines.{bar, line_from_fields, origin_text, next_hop_text, number_or_zero, atomic_word, aggregator_text, attribute_fields};
 
 use bgp_wire::{Aggregator, Attrs, Communities, Origin, append_communities};
 use ip_prefix::{Addr, Prefix, SPACE, Text};
 use mrt_wire::Peer;
 use std::alloc::AllocError;
 
-/// The separator of fields.
+/// The octet that separates the fields of a line.
 pub(crate) const BAR: u8 = b'|';
 
-/// Appends a bar and a decimal number.
-pub fn put_number(number: u64, text: &mut Text) -> Result<(), AllocError>
+/// Appends a field to `text`: a bar and `number` in decimal. On error, a part may have been appended.
+pub fn put_number_field(number: u64, text: &mut Text) -> Result<(), AllocError>
     ensures { Prints text.old text.new (bar ∷ decimal number) result }
 {
     text.push(BAR)?;
-    text.put_long_decimal(number)
+    text.put_decimal_u64(number)
 }
 
-/// Appends a bar and a decimal number of 32 bits.
+/// Appends the field of a number of 32 bits: a bar and `number` in decimal.
 #[inline(always)]
-pub(crate) fn put_field(number: u32, text: &mut Text) -> Result<(), AllocError>
+pub(crate) fn put_u32_field(number: u32, text: &mut Text) -> Result<(), AllocError>
     ensures { Prints text.old text.new (bar ∷ decimal number) result }
 {
     text.put_led_decimal(BAR, number)
 }
 
-/// Appends the fields of a peer: a bar, its address, a bar, and its AS number.
+/// Appends the two fields of a peer to `text`: a bar and its address, a bar and its AS number. On error,
+/// a part may have been appended.
 #[inline(always)]
-pub fn put_peer(peer: &Peer, text: &mut Text) -> Result<(), AllocError>
+pub fn put_peer_fields(peer: &Peer, text: &mut Text) -> Result<(), AllocError>
     ensures { Prints text.old text.new
         (bar ∷ address_text peer.now.addr ++ bar ∷ decimal peer.now.asn) result }
 {
     text.put_led(BAR, &peer.addr)?;
-    put_field(peer.asn, text)
+    put_u32_field(peer.asn, text)
 }
 
-/// Appends a bar and a prefix.
+/// Appends the field of a prefix: a bar, its address, `/`, and its length in bits.
 #[inline(always)]
-pub(crate) fn put_prefix(prefix: &Prefix, text: &mut Text) -> Result<(), AllocError>
+pub(crate) fn put_prefix_field(prefix: &Prefix, text: &mut Text) -> Result<(), AllocError>
     ensures { Prints text.old text.new (bar ∷ network_text prefix.now) result }
 {
     text.put_led(BAR, prefix)
 }
 
-/// Appends a bar and the value of ORIGIN (RFC 4271, section 5.1.1), or an empty field.
+/// Appends the field of ORIGIN (RFC 4271, section 5.1.1): a bar and `IGP`, `EGP` or `INCOMPLETE`, or only
+/// a bar for `None`.
 #[inline(always)]
-fn put_origin(origin: Option<Origin>, text: &mut Text) -> Result<(), AllocError>
+fn put_origin_field(origin: Option<Origin>, text: &mut Text) -> Result<(), AllocError>
     ensures { Prints text.old text.new (bar ∷ origin_text origin) result }
 {
     match origin {
@@ -62,9 +65,9 @@ fn put_origin(origin: Option<Origin>, text: &mut Text) -> Result<(), AllocError>
     }
 }
 
-/// Appends a bar and the address of the next hop, or an empty field.
+/// Appends the field of the next hop: a bar and its address, or only a bar for `None`.
 #[inline(always)]
-fn put_next_hop(next_hop: Option<Addr>, text: &mut Text) -> Result<(), AllocError>
+fn put_next_hop_field(next_hop: Option<Addr>, text: &mut Text) -> Result<(), AllocError>
     ensures { Prints text.old text.new (bar ∷ next_hop_text next_hop) result }
 {
     match next_hop {
@@ -73,19 +76,20 @@ fn put_next_hop(next_hop: Option<Addr>, text: &mut Text) -> Result<(), AllocErro
     }
 }
 
-/// Appends a bar and the value of LOCAL_PREF or MULTI_EXIT_DISC, or 0 for `None`.
+/// Appends the field of LOCAL_PREF or MULTI_EXIT_DISC: a bar and the value in decimal, or a bar and `0`
+/// for `None`.
 #[inline(always)]
-fn put_number_or_zero(number: Option<u32>, text: &mut Text) -> Result<(), AllocError>
+fn put_number_or_zero_field(number: Option<u32>, text: &mut Text) -> Result<(), AllocError>
     ensures { Prints text.old text.new (bar ∷ number_or_zero number) result }
 {
     let absent = [BAR, b'0'];
     match number {
-        Some(number) => put_field(number, text),
+        Some(number) => put_u32_field(number, text),
         None => text.extend_from_slice(&absent),
     }
 }
 
-/// Appends a bar and the communities (RFC 1997), separated by spaces.
+/// Appends the field of COMMUNITIES (RFC 1997): a bar and the communities, separated by spaces.
 fn put_community_field(communities: &Communities, text: &mut Text) -> Result<(), AllocError>
     ensures { Prints text.old text.new (bar ∷ communities_text communities.now) result }
 {
@@ -93,10 +97,10 @@ fn put_community_field(communities: &Communities, text: &mut Text) -> Result<(),
     append_communities(communities.as_slice(), text)
 }
 
-/// Appends a bar and `AG` for a route with ATOMIC_AGGREGATE, or else `NAG`.
+/// Appends the field of ATOMIC_AGGREGATE: a bar and `AG` if a route has it, or else `NAG`.
 #[inline(always)]
-fn put_aggregate(atomic: bool, text: &mut Text) -> Result<(), AllocError>
-    ensures { Prints text.old text.new (bar ∷ aggregate_word atomic) result }
+fn put_atomic_field(atomic: bool, text: &mut Text) -> Result<(), AllocError>
+    ensures { Prints text.old text.new (bar ∷ atomic_word atomic) result }
 {
     if atomic {
         text.extend_from_slice(b"|AG")
@@ -105,34 +109,35 @@ fn put_aggregate(atomic: bool, text: &mut Text) -> Result<(), AllocError>
     }
 }
 
-/// Appends a bar, and the AS number and the address in AGGREGATOR, separated by a space, or an empty
-/// field.
+/// Appends the field of AGGREGATOR: a bar, its AS number, a space and its address, or only a bar for
+/// `None`.
 #[inline(always)]
-fn put_aggregator(aggregator: Option<Aggregator>, text: &mut Text) -> Result<(), AllocError>
+fn put_aggregator_field(aggregator: Option<Aggregator>, text: &mut Text) -> Result<(), AllocError>
     ensures { Prints text.old text.new (bar ∷ aggregator_text aggregator) result }
 {
     match aggregator {
         Some(found) => {
-            put_field(found.asn, text)?;
+            put_u32_field(found.asn, text)?;
             text.put_led(SPACE, &found.addr)
         }
         None => text.extend_from_slice(b"|"),
     }
 }
 
-/// Appends the fields of a route's attributes, which follow the prefix, and the end of the line.
-pub(crate) fn put_attributes(attrs: &Attrs, text: &mut Text) -> Result<(), AllocError>
-    ensures { Prints text.old text.new (bar ∷ line_of (attribute_fields attrs.now)) result }
+/// Appends the fields of a route's attributes, which follow the prefix of its line, then an empty field
+/// and a line feed.
+pub(crate) fn put_attribute_fields(attrs: &Attrs, text: &mut Text) -> Result<(), AllocError>
+    ensures { Prints text.old text.new (bar ∷ line_from_fields (attribute_fields attrs.now)) result }
 {
     text.push(BAR)?;
     attrs.path.append_to(text)?;
-    put_origin(attrs.origin, text)?;
-    put_next_hop(attrs.next_hop, text)?;
-    put_number_or_zero(attrs.local_pref, text)?;
-    put_number_or_zero(attrs.med, text)?;
+    put_origin_field(attrs.origin, text)?;
+    put_next_hop_field(attrs.next_hop, text)?;
+    put_number_or_zero_field(attrs.local_pref, text)?;
+    put_number_or_zero_field(attrs.med, text)?;
     put_community_field(&attrs.communities, text)?;
-    put_aggregate(attrs.atomic, text)?;
-    put_aggregator(attrs.aggregator, text)?;
+    put_atomic_field(attrs.atomic, text)?;
+    put_aggregator_field(attrs.aggregator, text)?;
     let end = [BAR, b'\n'];
     text.extend_from_slice(&end)?;
     Ok(())

@@ -1,28 +1,30 @@
-//! Appends the first fields of a line: the kind of record, the time and the letter of what it says.
+//! Appends the first fields of a line: the kind of the record, the time, and the letter of a route.
+//! `event_lines.rt` and `route_line.rt` call these functions with the [`Heading`] of an event or of a
+//! table; read that type first. On error, each function may have appended a part.
 
 ghost use Rattle.std.specs.Prelude.{◌≡◌, ◌∷◌, ◌++◌};
-ghost use Rattle.bgpdump_lines.specs.Going.{Prints};
+ghost use Rattle.bgpdump_lines.specs.WrittenSoFar.{Prints};
 ghost use Rattle.bgpdump_lines.specs.Lines.{bar, micros_text, time_text, item_line, rib_line};
-ghost use Rattle.bgpdump_lines.specs.Heading.{first_field, route_head, headed_line};
-ghost use Rattle.bgpdump_lines.specs.Kept.{IsOfTables};
+ghost use Rattle.bgpdump_lines.specs.Heading.{first_field, first_three_fields, line_under_heading};
+ghost use Rattle.bgpdump_lines.specs.CachedLines.{IsTableHeading};
 ghost use Rattle.ip_prefix.specs.Network.{Network};
 ghost use Rattle.mrt_events.specs.declared.event.Route.{Route};
 ghost use Rattle.mrt_events.specs.declared.peer.Peer.{Peer};
 ghost use Rattle.mrt_events.specs.Event.{Announced};
 ghost use Rattle.mrt_events.specs.declared.event.Tag.TheVariants.{TableDump2};
 
-use crate::fields::put_field;
+use crate::fields::put_u32_field;
 use ip_prefix::Text;
 use mrt_wire::{Event, Route, Tag, Time};
 use std::alloc::AllocError;
 
-/// The number of digits of microseconds, with leading zeros.
+/// The least number of digits that microseconds are printed with.
 const MICROS_DIGITS: usize = 6;
 
-/// What the first field of a line is.
+/// The first field of a line.
 #[derive(Clone, Copy)]
-pub(crate) enum First {
-    /// The kind of the record that the line is from.
+pub(crate) enum FirstField {
+    /// The kind of the record that the line is from, such as `BGP4MP`.
     Record,
     /// `RIB`, for a route in the table of a peer.
     Rib,
@@ -31,37 +33,37 @@ pub(crate) enum First {
 /// What all lines of an event, or of a peer's table, have in common.
 #[derive(Clone, Copy)]
 pub(crate) struct Heading {
-    /// What the first field is.
-    pub(crate) first: First,
-    /// The time of the record.
+    /// The first field.
+    pub(crate) first: FirstField,
+    /// The time of the record. It isn't printed in the lines of a table, whose routes have a time each.
     pub(crate) time: Time,
     /// The kind of the record.
     pub(crate) tag: Tag,
 }
 
 impl Heading {
-    /// Returns the heading of an event's lines.
+    /// Returns the heading of the lines of `event`.
     #[inline(always)]
     pub(crate) fn of(event: &Event) -> Heading
-        ensures line { headed_line result ≡ item_line event.now.time event.now.tag }
-        ensures tables { event.now.tag ≡ TableDump2 → IsOfTables result }
+        ensures line { line_under_heading result ≡ item_line event.now.time event.now.tag }
+        ensures tables { event.now.tag ≡ TableDump2 → IsTableHeading result }
     {
         Heading {
-            first: First::Record,
+            first: FirstField::Record,
             time: event.time,
             tag: event.tag,
         }
     }
 
-    /// Returns the heading of the lines of a peer's table: but for the first field, they are those of
-    /// entries of a TABLE_DUMP_V2 record.
+    /// Returns the heading of the lines of a peer's table: `RIB`, and then the fields of an entry of a
+    /// TABLE_DUMP_V2 record.
     #[inline(always)]
-    pub(crate) fn of_table() -> Heading
+    pub(crate) fn for_rib_lines() -> Heading
         ensures { (peer : Peer) (prefix : Network) (route : Route) →
-            headed_line result (Announced peer prefix route) ≡ rib_line peer (prefix, route) }
+            line_under_heading result (Announced peer prefix route) ≡ rib_line peer (prefix, route) }
     {
         Heading {
-            first: First::Rib,
+            first: FirstField::Rib,
             time: Time {
                 seconds: 0,
                 micros: None,
@@ -71,21 +73,21 @@ impl Heading {
     }
 }
 
-/// Appends the first field of a line, the kind of record.
+/// Appends the first field of a line, without a bar: `RIB`, or the kind of the record.
 #[inline(always)]
-fn put_word(heading: &Heading, text: &mut Text) -> Result<(), AllocError>
+fn put_first_field(heading: &Heading, text: &mut Text) -> Result<(), AllocError>
     ensures { Prints text.old text.new (first_field heading.now) result }
 {
     match (heading.first, heading.tag) {
-        (First::Rib, _) => text.extend_from_slice(b"RIB"),
-        (First::Record, Tag::TableDump) => text.extend_from_slice(b"TABLE_DUMP"),
-        (First::Record, Tag::TableDump2) => text.extend_from_slice(b"TABLE_DUMP2"),
-        (First::Record, Tag::Bgp4mp) => text.extend_from_slice(b"BGP4MP"),
-        (First::Record, Tag::Bgp4mpEt) => text.extend_from_slice(b"BGP4MP_ET"),
+        (FirstField::Rib, _) => text.extend_from_slice(b"RIB"),
+        (FirstField::Record, Tag::TableDump) => text.extend_from_slice(b"TABLE_DUMP"),
+        (FirstField::Record, Tag::TableDump2) => text.extend_from_slice(b"TABLE_DUMP2"),
+        (FirstField::Record, Tag::Bgp4mp) => text.extend_from_slice(b"BGP4MP"),
+        (FirstField::Record, Tag::Bgp4mpEt) => text.extend_from_slice(b"BGP4MP_ET"),
     }
 }
 
-/// Appends microseconds in six digits, with leading zeros.
+/// Appends microseconds in decimal, with leading zeros up to [`MICROS_DIGITS`] digits.
 fn put_micros(micros: u32, text: &mut Text) -> Result<(), AllocError>
     ensures { Prints text.old text.new (micros_text micros) result }
 {
@@ -99,12 +101,13 @@ fn put_micros(micros: u32, text: &mut Text) -> Result<(), AllocError>
     Ok(())
 }
 
-/// Appends a bar and the time of a record, in seconds since 1970, and for BGP4MP_ET with microseconds.
+/// Appends the field of a record's time: a bar and the seconds since 1970, and for BGP4MP_ET a dot and
+/// the microseconds (RFC 6396, section 3), which count as 0 if `heading` has none.
 #[inline(always)]
-fn put_time(heading: &Heading, text: &mut Text) -> Result<(), AllocError>
+fn put_time_field(heading: &Heading, text: &mut Text) -> Result<(), AllocError>
     ensures { Prints text.old text.new (bar ∷ time_text heading.now.tag heading.now.time) result }
 {
-    put_field(heading.time.seconds, text)?;
+    put_u32_field(heading.time.seconds, text)?;
     if let Tag::Bgp4mpEt = heading.tag {
         text.push(b'.')?;
         put_micros(heading.time.micros.unwrap_or(0), text)?;
@@ -112,34 +115,36 @@ fn put_time(heading: &Heading, text: &mut Text) -> Result<(), AllocError>
     Ok(())
 }
 
-/// Appends the first two fields of a line: the kind of record, and its time.
+/// Appends the first two fields of a withdrawal's or a state change's line: the kind of the record, and
+/// its time.
 #[inline(always)]
-pub(crate) fn put_head(heading: &Heading, text: &mut Text) -> Result<(), AllocError>
+pub(crate) fn put_kind_and_time(heading: &Heading, text: &mut Text) -> Result<(), AllocError>
     ensures { Prints text.old text.new
         (first_field heading.now ++ bar ∷ time_text heading.now.tag heading.now.time) result }
 {
-    put_word(heading, text)?;
-    put_time(heading, text)
+    put_first_field(heading, text)?;
+    put_time_field(heading, text)
 }
 
-/// Appends the first three fields of a route's line: the kind of record, the time, and `B` or `A`. An
-/// entry of a table has the time of `route`, an announcement that of its record.
+/// Appends the first three fields of a route's line: the kind of the record, a time, and `B` for an entry
+/// of a table or `A` for an announcement. The time is `route.time` for an entry, and the time of the
+/// record for an announcement.
 #[inline(always)]
-pub(crate) fn put_route_head(
+pub(crate) fn put_first_three_fields(
     heading: &Heading,
     route: &Route,
     text: &mut Text,
 ) -> Result<(), AllocError>
-    ensures { Prints text.old text.new (route_head heading.now route.now) result }
+    ensures { Prints text.old text.new (first_three_fields heading.now route.now) result }
 {
-    put_word(heading, text)?;
+    put_first_field(heading, text)?;
     match heading.tag {
         Tag::TableDump | Tag::TableDump2 => {
-            put_field(route.time, text)?;
+            put_u32_field(route.time, text)?;
             text.extend_from_slice(b"|B")
         }
         Tag::Bgp4mp | Tag::Bgp4mpEt => {
-            put_time(heading, text)?;
+            put_time_field(heading, text)?;
             text.extend_from_slice(b"|A")
         }
     }

@@ -1,31 +1,33 @@
-//! The outcome of a run, and its exit status.
+//! The outcome of a run, and its exit status. Runs return an [`Outcome`]; `fault.rt` has those of their
+//! errors.
 
 ghost use Rattle.std.specs.Prelude.{◌≡◌};
-ghost use Rattle.bgpdump_lines.specs.Going.{status_of};
+ghost use Rattle.bgpdump_lines.specs.WrittenSoFar.{exit_status};
 
-/// The outcome of a run.
+/// How a run ended.
 #[derive(Clone, Copy, Debug, PartialEq, Eq)]
 pub enum Outcome {
-    /// All of the input was read, and nothing was reported.
+    /// The run came to its end, and nothing was reported.
     Done,
-    /// All of the input was read, and at least one record or command was reported.
+    /// The run came to its end, and at least one faulty record or bad line of a script was reported.
     Reported,
-    /// Reading the input failed.
+    /// Reading from the input failed.
     ReadFault,
-    /// Writing to an output failed.
+    /// Writing to an output, or flushing it, failed.
     WriteFault,
-    /// The next record, or the end of the input, lies beyond the first 2^40 octets.
+    /// The run wanted an octet, or the end of the input, after the first 2^40 octets.
     InputTooLong,
-    /// The script has more than 1,048,576 octets.
+    /// The script has more than 1,048,576 octets, and wasn't run.
     ScriptTooLong,
     /// Memory allocation failed.
     Memory,
 }
 
 impl Outcome {
-    /// Returns the exit status of a program that ends so.
+    /// Returns the exit status of the program for this outcome: 0 for `Done`, 1 for `Reported`, 4 for
+    /// `Memory`, and 3 for the others.
     pub fn status(self) -> u8
-        ensures { result ≡ status_of self }
+        ensures { result ≡ exit_status self }
     {
         match self {
             Outcome::Done => 0,

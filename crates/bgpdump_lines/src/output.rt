@@ -1,14 +1,16 @@
-//! Outputs of text: the trait [`Output`], and [`WriteOutput`], which implements it over a writer of
-//! std. Runs write to two of them, one for lines and one for reports.
+//! Outputs of text: the trait [`Output`], which [`WriteOutput`] implements over any writer of std, and
+//! [`BufferedOutput`] over one with a buffer. Runs write to two of them, one for lines and one for reports.
 
-ghost use Rattle.std.specs.Prelude.{◌≡◌, ◌≤◌, ◌<◌, ◌||◌, ℕ, List, Bool, false, Option, length, IfOk, OnOk, is_err};
+ghost use Rattle.std.specs.Prelude.{◌≡◌, ◌≤◌, ◌<◌, ◌||◌, ℕ, List, [], Bool, false, Option, Some, None, length, IfOk, OnOk, is_err};
+ghost use Rattle.std.specs.Io.Buffered.{writer_buffer, writer_contents};
 ghost use Rattle.std.specs.Io.KnownBytes.{WriteAppends, Appends, Keeps};
-ghost use Rattle.bgpdump_lines.specs.Run.{AppendsFront};
-ghost use Rattle.bgpdump_lines.specs.Going.{outcome_of};
+ghost use Rattle.bgpdump_lines.specs.Run.{AppendsPrefix};
+ghost use Rattle.bgpdump_lines.specs.Flushing.{IsFlushed, IsReadyToRead, LeavesFlushed};
+ghost use Rattle.bgpdump_lines.specs.WrittenSoFar.{outcome_of_finished_run};
 
 use crate::outcome::Outcome;
 use mrt_wire::Input;
-use std::io::Write;
+use std::io::{BufWriter, Write};
 
 /// The error of an output. The call that failed wrote nothing.
 #[derive(Clone, Copy, Debug, PartialEq, Eq)]
@@ -22,6 +24,9 @@ pub trait Output {
     /// Whether a call has failed.
     ghost failed: { Self → Bool };
 
+    /// The octets that were written and not yet passed to the device, or `None` where an output can't tell.
+    ghost pending: { Self → Option (List ℕ) } = { λ _. None };
+
     /// Writes some of the octets, from the first on, and returns how many: at least one, unless
     /// `octets` is empty.
     fn put(&mut self, octets: &[u8]) -> Result<usize, OutFault>
@@ -30,18 +35,16 @@ pub trait Output {
         ensures octets { WriteAppends (written self.old) (written self.new) result octets.now }
         ensures failed { failed self.new ≡ (failed self.old || is_err result) };
 
-    /// Flushes the buffer below, before a wait for input that may be long. By default it does nothing,
-    /// for an output without a buffer.
-    fn pass_on(&mut self) -> Result<(), OutFault>
+    /// Passes all that was written to the device, before a wait for input that may be long.
+    fn flush(&mut self) -> Result<(), OutFault>
         ensures octets { Keeps (written self.old) (written self.new) }
-        ensures failed { failed self.new ≡ (failed self.old || is_err result) }
-    {
-        Ok(())
-    }
+        ensures flushed { OnOk result (IsFlushed (pending self.new)) }
+        ensures failed { failed self.new ≡ (failed self.old || is_err result) };
 
-    /// Flushes the buffer below, at the end of a run.
+    /// Passes all that was written to the device, at the end of a run.
     fn finish(&mut self) -> Result<(), OutFault>
         ensures octets { Keeps (written self.old) (written self.new) }
+        ensures flushed { OnOk result (IsFlushed (pending self.new)) }
         ensures failed { failed self.new ≡ (failed self.old || is_err result) };
 }
 
@@ -88,11 +91,7 @@ impl<W: Write> Output for WriteOutput<W> {
         }
     }
 
-    fn pass_on(&mut self) -> Result<(), OutFault> {
-        self.finish()
-    }
-
-    fn finish(&mut self) -> Result<(), OutFault> {
+    fn flush(&mut self) -> Result<(), OutFault> {
         match self.writer.flush() {
             Ok(()) => Ok(()),
             Err(_) => {
@@ -101,13 +100,69 @@ impl<W: Write> Output for WriteOutput<W> {
             }
         }
     }
+
+    fn finish(&mut self) -> Result<(), OutFault> {
+        self.flush()
+    }
+}
+
+/// An output over a writer with a buffer, whose octets are pending.
+#[derive(Drop)]
+pub struct BufferedOutput<W: Write + Drop> {
+    output: WriteOutput<BufWriter<W>>,
+}
+
+impl<W: Write + Drop> BufferedOutput<W> {
+    /// Returns an output to `writer`.
+    pub fn new(writer: BufWriter<W>) -> Self
+        ensures written { ⟦<BufferedOutput<W> as Output>⟧.written result
+            ≡ writer_contents W.contents writer }
+        ensures failed { ⟦<BufferedOutput<W> as Output>⟧.failed result ≡ false }
+    {
+        BufferedOutput {
+            output: WriteOutput::new(writer),
+        }
+    }
+
+    /// Returns the writer, with what is left in its buffer.
+    pub fn into_inner(self) -> BufWriter<W>
+        ensures { writer_contents W.contents result ≡ ⟦<BufferedOutput<W> as Output>⟧.written self }
+    {
+        self.output.into_inner()
+    }
+}
+
+impl<W: Write + Drop> Output for BufferedOutput<W> {
+    ghost written = { λ buffered. writer_contents W.contents buffered.output.writer };
+
+    ghost failed = { λ buffered. buffered.output.failed };
+
+    ghost pending = { λ buffered. Some (writer_buffer buffered.output.writer) };
+
+    fn put(&mut self, octets: &[u8]) -> Result<usize, OutFault> {
+        self.output.put(octets)
+    }
+
+    fn flush(&mut self) -> Result<(), OutFault> {
+        match self.output.writer.flush() {
+            Ok(()) => Ok(()),
+            Err(_) => {
+                self.output.failed = true;
+                Err(OutFault)
+            }
+        }
+    }
+
+    fn finish(&mut self) -> Result<(), OutFault> {
+        self.flush()
+    }
 }
 
 /// Writes all of the octets, by as many calls of [`Output::put`] as that takes. On error, some of them
 /// may have been written.
 pub fn put_all<W: Output>(output: &mut W, octets: &[u8]) -> Result<(), OutFault>
     ensures all { OnOk result (Appends (W.written output.old) (W.written output.new) octets.now) }
-    ensures front { AppendsFront (W.written output.old) (W.written output.new) octets.now }
+    ensures front { AppendsPrefix (W.written output.old) (W.written output.new) octets.now }
     ensures failed { W.failed output.new ≡ (W.failed output.old || is_err result) }
 {
     let mut rest = octets;
@@ -119,30 +174,33 @@ pub fn put_all<W: Output>(output: &mut W, octets: &[u8]) -> Result<(), OutFault>
 }
 
 /// Flushes both outputs, unless the input has its next record buffered, so that reading it won't wait.
-pub fn pass_on_before_waiting<I: Input, O: Output, E: Output>(
+pub fn flush_before_waiting<I: Input, O: Output, E: Output>(
     input: &I,
     out: &mut O,
     err: &mut E,
 ) -> Result<(), OutFault>
     ensures out { Keeps (O.written out.old) (O.written out.new) }
     ensures err { Keeps (E.written err.old) (E.written err.new) }
+    ensures flushed { OnOk result
+        (IsReadyToRead (I.buffered input.now) (O.pending out.new) (E.pending err.new)) }
     ensures failed { (O.failed out.new || E.failed err.new)
         ≡ (O.failed out.old || E.failed err.old || is_err result) }
 {
-    if input.has_record() {
+    if input.has_buffered_record() {
         return Ok(());
     }
-    out.pass_on()?;
-    err.pass_on()
+    out.flush()?;
+    err.flush()
 }
 
 /// Flushes both outputs at the end of a run, and returns its outcome. `reported` tells whether a record
 /// was reported.
 pub fn finish_outputs<O: Output, E: Output>(out: &mut O, err: &mut E, reported: bool) -> Outcome
     requires sound { (O.failed out.old || E.failed err.old) ≡ false }
-    ensures outcome { result ≡ outcome_of (O.failed out.new || E.failed err.new) reported }
+    ensures outcome { result ≡ outcome_of_finished_run (O.failed out.new || E.failed err.new) reported }
     ensures out { Keeps (O.written out.old) (O.written out.new) }
     ensures err { Keeps (E.written err.old) (E.written err.new) }
+    ensures flushed { LeavesFlushed result (O.pending out.new) (E.pending err.new) }
 {
     if out.finish().is_err() || err.finish().is_err() {
         Outcome::WriteFault

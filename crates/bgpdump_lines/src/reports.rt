@@ -1,50 +1,56 @@
-//! Prints the report of a faulty record, a line of text for standard error.
+//! Prints the report of a faulty record, a line for standard error. `write.rt` calls [`put_report`]. On
+//! error, each function may have appended a part.
 
 ghost use Rattle.std.specs.Prelude.{◌≡◌, ◌++◌, OnOk, decimal};
-ghost use Rattle.bgpdump_lines.specs.Run.{kind_text, fault_report};
+ghost use Rattle.bgpdump_lines.specs.Run.{fault_kind_text, fault_report};
 
 use ip_prefix::Text;
 use mrt_wire::{RecordFault, RecordKind};
 use std::alloc::AllocError;
 
-/// Appends a word and a decimal number. On error, a part may have been appended.
-fn put_labelled(word: &[u8], number: u64, text: &mut Text) -> Result<(), AllocError>
+/// Appends `word` and then `number` in decimal.
+fn put_labelled_number(word: &[u8], number: u64, text: &mut Text) -> Result<(), AllocError>
     ensures { OnOk result (text.new ≡ text.old ++ (word.now ++ decimal number)) }
 {
     text.extend_from_slice(word)?;
-    text.put_long_decimal(number)?;
+    text.put_decimal_u64(number)?;
     Ok(())
 }
 
-/// Appends what is wrong with a record. On error, a part may have been appended.
-fn put_kind(kind: RecordKind, text: &mut Text) -> Result<(), AllocError>
-    ensures { OnOk result (text.new ≡ text.old ++ kind_text kind) }
+/// Appends what is wrong with a record, such as `cut record`.
+fn put_fault_kind(kind: RecordKind, text: &mut Text) -> Result<(), AllocError>
+    ensures { OnOk result (text.new ≡ text.old ++ fault_kind_text kind) }
 {
     match kind {
         RecordKind::CutRecord => text.extend_from_slice(b"cut record")?,
         RecordKind::TooLong(size) => {
-            put_labelled(b"length ", u64::from(size), text)?;
+            put_labelled_number(b"length ", u64::from(size), text)?;
             text.extend_from_slice(b" too long")?;
         }
         RecordKind::Unsupported(kind, subtype) => {
-            put_labelled(b"unsupported type ", u64::from(kind), text)?;
-            put_labelled(b" subtype ", u64::from(subtype), text)?;
+            put_labelled_number(b"unsupported type ", u64::from(kind), text)?;
+            put_labelled_number(b" subtype ", u64::from(subtype), text)?;
         }
         RecordKind::Malformed => text.extend_from_slice(b"malformed")?,
         RecordKind::NoIndex => text.extend_from_slice(b"no peer index")?,
-        RecordKind::PeerIndex(number) => put_labelled(b"peer index ", u64::from(number), text)?,
+        RecordKind::PeerIndex(number) => put_labelled_number(
+            b"peer index ",
+            u64::from(number),
+            text,
+        )?,
     }
     Ok(())
 }
 
-/// Appends the report of a faulty record, with a line feed. On error, a part may have been appended.
+/// Appends the report of a faulty record to `text`: its number, counted from 1, the offset of its header
+/// in octets from the start of the input, what is wrong with it, and a line feed.
 pub(crate) fn put_report(fault: RecordFault, text: &mut Text) -> Result<(), AllocError>
     ensures { OnOk result (text.new ≡ text.old ++ fault_report fault) }
 {
-    put_labelled(b"bgpdump: record ", fault.number, text)?;
-    put_labelled(b", byte ", fault.offset, text)?;
+    put_labelled_number(b"bgpdump: record ", fault.number, text)?;
+    put_labelled_number(b", byte ", fault.offset, text)?;
     text.extend_from_slice(b": ")?;
-    put_kind(fault.kind, text)?;
+    put_fault_kind(fault.kind, text)?;
     text.push(b'\n')?;
     Ok(())
 }

@@ -10,13 +10,13 @@ use Rattle.ip_prefix.specs.Network.{Address, Network, contains, network_cmp}
 use Rattle.ip_prefix.specs.OrderLaws.{network_cmp_total}
 use Rattle.mrt_events.specs.declared.peer.Peer.{Peer}
 use Rattle.mrt_events.specs.declared.event.Route.{Route}
-use Rattle.prefix_store.specs.Lookups.{IsLongestOf}
+use Rattle.prefix_store.specs.Lookups.{IsLongestMatchOf}
 use Rattle.prefix_store.proofs.LongestLaws.{longest-one}
 use Rattle.prefix_store.proofs.StoredLaws.{same_prefix}
 use Rattle.rib_player.specs.Tables.{Routes, peer_routes}
 use Rattle.rib_player.specs.Lookups.{IsBest}
 use Rattle.rib_player.proofs.PeerLaws.{get-peer_routes}
-use Rattle.bgpdump_tool.specs.Replies.{longer, longest, best}
+use Rattle.bgpdump_tool.specs.Replies.{longer, longest, longest_match}
 
 -- the route that entries have at a prefix
 abbrev route_at : {R : Type 0} → List (Network × R) → Network → Option R
@@ -43,13 +43,13 @@ module _ {R : Type 0} (address : Address) (entry : Network × R) (entries : List
   elsewhere n out inside is = let no : true ≡ false = sym inside ∙ ap (λ m. contains m address) is ∙ out in cc
 
   -- such an entry changes nothing
-  longest-outside : contains entry.0 address ≡ false → (found : Option (Network × R)) → IsLongestOf (route_at entries) address found → IsLongestOf (route_at (entry ∷ entries)) address found
+  longest-outside : contains entry.0 address ≡ false → (found : Option (Network × R)) → IsLongestMatchOf (route_at entries) address found → IsLongestMatchOf (route_at (entry ∷ entries)) address found
   longest-outside out None p = λ n inside. front_or n (elsewhere n out inside) (λ same. same ∙ p n inside)
   longest-outside out (Some other) p =
       (p.0, front_or other.0 (elsewhere other.0 out p.0) (λ same. same ∙ p.1), λ n inside some. front_or n (elsewhere n out inside) (λ same. p.2 n inside (ap is_some (sym same) ∙ some)))
 
   -- one that contains it is the longest, unless there is a longer one behind it
-  longest-inside : contains entry.0 address ≡ true → (found : Option (Network × R)) → IsLongestOf (route_at entries) address found → IsLongestOf (route_at (entry ∷ entries)) address (longer entry found)
+  longest-inside : contains entry.0 address ≡ true → (found : Option (Network × R)) → IsLongestMatchOf (route_at entries) address found → IsLongestMatchOf (route_at (entry ∷ entries)) address (longer entry found)
   longest-inside within None p = (
     within,
     found_there,
@@ -58,7 +58,7 @@ module _ {R : Type 0} (address : Address) (entry : Network × R) (entries : List
         cc),
   )
   longest-inside within (Some other) p =
-      cond_both (nat_lt (length entry.0.bits) (length other.0.bits)) other entry (λ e. IsLongestOf (route_at (entry ∷ entries)) address (Some e)) (λ less.
+      cond_both (nat_lt (length entry.0.bits) (length other.0.bits)) other entry (λ e. IsLongestMatchOf (route_at (entry ∷ entries)) address (Some e)) (λ less.
       let below = ltb-true (length entry.0.bits) (length other.0.bits) less in (
         p.0,
         front_or other.0 (λ is. absurd (omega (arith, below, ap (λ m. length m.bits) is))) (λ same. same ∙ p.1),
@@ -73,21 +73,21 @@ module _ {R : Type 0} (address : Address) (entry : Network × R) (entries : List
       ))
 
 -- the longest of entries is that of the routes that they have
-longest-entries : {R : Type 0} (address : Address) (entries : List (Network × R)) → IsLongestOf (route_at entries) address (longest_at address entries)
+longest-entries : {R : Type 0} (address : Address) (entries : List (Network × R)) → IsLongestMatchOf (route_at entries) address (longest_at address entries)
 longest-entries address [] = λ n inside. refl
 longest-entries {R} address (entry ∷ entries) =
     let rest = filter (λ (e : Network × R). contains e.0 address) entries in
-    cond_both (contains entry.0 address) (entry ∷ rest) rest (λ kept. IsLongestOf (route_at (entry ∷ entries)) address (longest kept))
+    cond_both (contains entry.0 address) (entry ∷ rest) rest (λ kept. IsLongestMatchOf (route_at (entry ∷ entries)) address (longest kept))
     (λ within. longest-inside address entry entries within (longest rest) (longest-entries address entries))
     (λ out. longest-outside address entry entries out (longest rest) (longest-entries address entries))
 
 -- what the definition gives is a best route
-pub best_is : (routes : Routes) (peer : Peer) (address : Address) → IsBest routes peer address (best routes peer address)
+pub best_is : (routes : Routes) (peer : Peer) (address : Address) → IsBest routes peer address (longest_match routes peer address)
 best_is routes peer address =
-    subst (λ route. IsLongestOf route address (best routes peer address)) (λ i n. (sym (get-entries (peer_routes routes peer) n) ∙ get-peer_routes routes peer n) i) (longest-entries address (finite.entries (peer_routes routes peer)))
+    subst (λ route. IsLongestMatchOf route address (longest_match routes peer address)) (λ i n. (sym (get-entries (peer_routes routes peer) n) ∙ get-peer_routes routes peer n) i) (longest-entries address (finite.entries (peer_routes routes peer)))
 
 -- and it alone is
-pub one_best : (routes : Routes) (peer : Peer) (address : Address) (found : Option (Network × Route)) → IsBest routes peer address found → found ≡ best routes peer address
+pub one_best : (routes : Routes) (peer : Peer) (address : Address) (found : Option (Network × Route)) → IsBest routes peer address found → found ≡ longest_match routes peer address
 one_best routes peer address found p =
-    let stored = λ (o : Option (Network × Route)). subst (λ route. IsLongestOf route address o) (λ i n. sym (get-peer_routes routes peer n) i) in
-    longest-one (peer_routes routes peer) address found (best routes peer address) (stored found p) (stored (best routes peer address) (best_is routes peer address))
+    let stored = λ (o : Option (Network × Route)). subst (λ route. IsLongestMatchOf route address o) (λ i n. sym (get-peer_routes routes peer n) i) in
+    longest-one (peer_routes routes peer) address found (longest_match routes peer address) (stored found p) (stored (longest_match routes peer address) (best_is routes peer address))

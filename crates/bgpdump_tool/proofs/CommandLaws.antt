@@ -6,17 +6,17 @@ use Rattle.ip_prefix.specs.Text.{SpellsAddress, SpellsPrefix}
 use Rattle.ip_prefix.proofs.Spelled.{one_address, one_prefix}
 use Rattle.mrt_events.specs.declared.peer.Peer.{Peer}
 use Rattle.bgp_wire.specs.Path.{IsNoSpelling}
-use Rattle.bgp_wire.specs.Readers.{Finds}
+use Rattle.bgp_wire.specs.Readers.{ParsesTo}
 use Rattle.bgpdump_lines.specs.Lines.{space}
 use Rattle.bgpdump_tool.specs.declared.command.Command.{Command}
 use Rattle.bgpdump_tool.specs.declared.command.Command.TheVariants.{Next, Route}
-use Rattle.bgpdump_tool.specs.Script.{Arguments, Alone, Times, Number, OfPeer, SoughtPrefix, SoughtAddress, spelling, pieces, SpellsArguments, SpellsCommand, SpellsDecimal, SpellsPeer, SpellsSought, SpellsWords, Line, Empty, Asks, NoCommand, IsLine, AreLines}
+use Rattle.bgpdump_tool.specs.Script.{Arguments, NoArguments, Times, Number, OfPeer, SoughtPrefix, SoughtAddress, name_and_arguments, split_at_marks, SpellsArguments, SpellsCommand, SpellsDecimal, SpellsPeer, SpellsSought, SpellsWords, Line, Empty, HasCommand, NoCommand, IsLine, AreLines}
 
 -- ---- what stands behind a name
 
 -- at most three words
 few_words : (a : Arguments) (ws : List (List ℕ)) → SpellsArguments a ws → length ws ≤ 3
-few_words Alone ws h = omega (arith, ap length h)
+few_words NoArguments ws h = omega (arith, ap length h)
 few_words (Times n) ws (inl once) = omega (arith, ap length once.1)
 few_words (Times n) ws (inr times) = omega (arith, ap length times.2)
 few_words (Number n) ws h = omega (arith, ap length h.2)
@@ -42,7 +42,7 @@ one_sought Spells p q a b ws one h k = (
 
 -- which of the shapes it is
 abbrev shape : Arguments → ℕ
-shape Alone = 0
+shape NoArguments = 0
 shape (Times n) = 1
 shape (Number n) = 2
 shape (OfPeer peer) = 3
@@ -50,7 +50,7 @@ shape (SoughtPrefix peer prefix) = 4
 shape (SoughtAddress peer address) = 5
 
 one_of_shape : (a b : Arguments) (ws : List (List ℕ)) → shape a ≡ shape b → SpellsArguments a ws → SpellsArguments b ws → a ≡ b
-one_of_shape Alone Alone ws e h k = refl
+one_of_shape NoArguments NoArguments ws e h k = refl
 one_of_shape (Times m) (Times n) ws e (inl once) (inl alone) = cc (once.0, alone.0)
 one_of_shape (Times m) (Times n) ws e (inl once) (inr times) = absurd (cc (once.1, times.2))
 one_of_shape (Times m) (Times n) ws e (inr times) (inl once) = absurd (cc (once.1, times.2))
@@ -73,16 +73,16 @@ mark [] = 0
 mark (letter ∷ name) = 1 + letter + 256 * mark name
 
 -- a name has letters
-mark_some : (c : Command) → 0 < mark (spelling c).0
+mark_some : (c : Command) → 0 < mark (name_and_arguments c).0
 mark_some (Next n) = omega arith
 mark_some c = omega arith
 
 -- one name is of one shape, and with the same behind it one command
-same_shape : (a b : Command) → (spelling a).0 ≡ (spelling b).0 → shape (spelling a).1 ≡ shape (spelling b).1
+same_shape : (a b : Command) → (name_and_arguments a).0 ≡ (name_and_arguments b).0 → shape (name_and_arguments a).1 ≡ shape (name_and_arguments b).1
 same_shape (Next m) (Next n) e = refl
 same_shape a b e = search (arith, rules, ap mark e)
 
-same_command : (a b : Command) → (spelling a).0 ≡ (spelling b).0 → (spelling a).1 ≡ (spelling b).1 → a ≡ b
+same_command : (a b : Command) → (name_and_arguments a).0 ≡ (name_and_arguments b).0 → (name_and_arguments a).1 ≡ (name_and_arguments b).1 → a ≡ b
 same_command (Next m) (Next n) e same = search (rules, same)
 same_command a b e same = search (arith, rules, ap mark e, same)
 
@@ -91,47 +91,47 @@ same_command a b e same = search (arith, rules, ap mark e, same)
 -- no words spell two commands
 pub one_of_words : (a b : Command) (ws : List (List ℕ)) → SpellsWords a ws → SpellsWords b ws → a ≡ b
 one_of_words a b ws h k =
-    let named : (spelling a).0 ≡ (spelling b).0 = cc (h.2, k.2) in
+    let named : (name_and_arguments a).0 ≡ (name_and_arguments b).0 = cc (h.2, k.2) in
     let rest : h.0 ≡ k.0 = cc (h.2, k.2) in
-    same_command a b named (one_of_shape (spelling a).1 (spelling b).1 k.0 (same_shape a b named) (subst (SpellsArguments (spelling a).1) rest h.1) k.1)
+    same_command a b named (one_of_shape (name_and_arguments a).1 (name_and_arguments b).1 k.0 (same_shape a b named) (subst (SpellsArguments (name_and_arguments a).1) rest h.1) k.1)
 
 -- a line spells what its words spell
-pub found_in : (line : List ℕ) (ws : List (List ℕ)) (result : Option Command) → pieces space line ≡ ws → Finds SpellsWords ws result → Finds SpellsCommand line result
-found_in line ws result same found = subst (λ w. Finds SpellsWords w result) (sym same) found
+pub found_in : (line : List ℕ) (ws : List (List ℕ)) (result : Option Command) → split_at_marks space line ≡ ws → ParsesTo SpellsWords ws result → ParsesTo SpellsCommand line result
+found_in line ws result same found = subst (λ w. ParsesTo SpellsWords w result) (sym same) found
 
 -- more than four words spell none
 pub many_words : (ws more : List (List ℕ)) (a b c d : List ℕ) → ws ≡ a ∷ b ∷ c ∷ d ∷ more → 0 < length more → IsNoSpelling SpellsWords ws
 many_words ws more a b c d same some command h =
-    omega (arith, few_words (spelling command).1 h.0 h.1, ap length h.2, ap length same, some)
+    omega (arith, few_words (name_and_arguments command).1 h.0 h.1, ap length h.2, ap length same, some)
 
 -- nor does one empty word
 pub empty_word : (ws : List (List ℕ)) → ws ≡ [] ∷ [] → IsNoSpelling SpellsWords ws
 empty_word ws same command h =
-    let none : [] ≡ (spelling command).0 = cc (same, h.2) in
+    let none : [] ≡ (name_and_arguments command).0 = cc (same, h.2) in
     omega (arith, mark_some command, ap mark none)
 
 -- nor a route without a prefix
 pub route_none : (name address number sought : List ℕ) → name ≡ codes "route" → IsNoSpelling SpellsPrefix sought → IsNoSpelling SpellsWords (name ∷ address ∷ number ∷ sought ∷ [])
 route_none name address number sought named none (Route peer prefix) h = none prefix (subst (SpellsPrefix prefix) (cc (h.1.5, h.2)) h.1.4)
 route_none name address number sought named none c h =
-    let same : codes "route" ≡ (spelling c).0 = cc (named, h.2) in
+    let same : codes "route" ≡ (name_and_arguments c).0 = cc (named, h.2) in
     absurd (omega (arith, ap mark same))
 
 -- ---- what lines ask for
 
 -- an empty line spells no command
 empty_line : (command : Command) (octets : List ℕ) → octets ≡ [] → SpellsCommand command octets → ⊥
-empty_line command octets none spelled = empty_word (pieces space octets) (ap (pieces space) none) command spelled
+empty_line command octets none spelled = empty_word (split_at_marks space octets) (ap (split_at_marks space) none) command spelled
 
 pub one_line : (a b : Line) (octets : List ℕ) → IsLine a octets → IsLine b octets → a ≡ b
 one_line Empty Empty octets h k = refl
-one_line Empty (Asks command) octets h k = absurd (empty_line command octets h k)
+one_line Empty (HasCommand command) octets h k = absurd (empty_line command octets h k)
 one_line Empty NoCommand octets h k = absurd (k.0 h)
-one_line (Asks command) Empty octets h k = absurd (empty_line command octets k h)
-one_line (Asks command) (Asks other) octets h k = ap Asks (one_of_words command other (pieces space octets) h k)
-one_line (Asks command) NoCommand octets h k = absurd (k.1 command h)
+one_line (HasCommand command) Empty octets h k = absurd (empty_line command octets k h)
+one_line (HasCommand command) (HasCommand other) octets h k = ap HasCommand (one_of_words command other (split_at_marks space octets) h k)
+one_line (HasCommand command) NoCommand octets h k = absurd (k.1 command h)
 one_line NoCommand Empty octets h k = absurd (h.0 k)
-one_line NoCommand (Asks command) octets h k = absurd (h.1 command k)
+one_line NoCommand (HasCommand command) octets h k = absurd (h.1 command k)
 one_line NoCommand NoCommand octets h k = refl
 
 pub one_reading : (a b : List Line) (octets : List (List ℕ)) → AreLines a octets → AreLines b octets → a ≡ b
@@ -158,7 +158,7 @@ first_reading (x ∷ begun) (y ∷ lines) (o ∷ first) rest h k =
 -- no octets of a line ask for nothing that is told
 line_read : (octets : List ℕ) → ((line : Line) → IsLine line octets → ⊥) → ⊥
 line_read [] none = none Empty refl
-line_read (octet ∷ octets) none = none NoCommand ((λ e. cc), λ command spelled. none (Asks command) spelled)
+line_read (octet ∷ octets) none = none NoCommand ((λ e. cc), λ command spelled. none (HasCommand command) spelled)
 
 pub lines_read : (octets : List (List ℕ)) → ((lines : List Line) → AreLines lines octets → ⊥) → ⊥
 lines_read [] none = none [] tt

@@ -7,22 +7,22 @@ use Rattle.std.proofs.KnownBytes.{Appends-nil}
 use Rattle.mrt_events.specs.declared.stamp.Stamp.{Stamp}
 use Rattle.mrt_wire.specs.declared.SourceFault.{SourceFault}
 use Rattle.mrt_wire.specs.declared.next.Phase.TheVariants.{Ended}
-use Rattle.mrt_wire.specs.Results.{Finding, Found, Bad, Place, start_place}
-use Rattle.mrt_wire.proofs.SoFarLaws.{SoFar-start}
+use Rattle.mrt_wire.specs.Results.{RecordResult, Found, Bad, SourceState, start_state}
+use Rattle.mrt_wire.proofs.SoFarLaws.{HasAnswered-start}
 use Rattle.rib_player.specs.Calls.{StandsFor}
 use Rattle.rib_player.specs.Timeline.{fresh}
 use Rattle.rib_player.proofs.TimelineLaws.{StandsFor-fresh}
 use Rattle.bgpdump_tool.specs.declared.command.Command.{Command}
-use Rattle.bgpdump_lines.specs.declared.dump.TheConstants.{LIMIT}
+use Rattle.bgpdump_lines.specs.declared.dump.TheConstants.{INPUT_LIMIT}
 use Rattle.bgpdump_lines.specs.declared.outcome.Outcome.{Outcome}
-use Rattle.bgpdump_lines.specs.Run.{AppendsFront, Texts, joined_texts, Outputs, Writes, WritesFronts, reports}
-use Rattle.bgpdump_lines.specs.Going.{is_any_bad}
-use Rattle.bgpdump_tool.specs.Script.{Line, Empty, Asks, NoCommand, IsLine, AreLines, script_lines, line_report}
+use Rattle.bgpdump_lines.specs.Run.{AppendsPrefix, Texts, joined_texts, Outputs, Writes, WritesPrefixes, reports}
+use Rattle.bgpdump_lines.specs.WrittenSoFar.{has_fault}
+use Rattle.bgpdump_tool.specs.Script.{Line, Empty, HasCommand, NoCommand, IsLine, AreLines, script_lines, bad_line_report}
 use Rattle.bgpdump_tool.specs.Meaning.{State, start, meaning, meets_end, faults_taken}
-use Rattle.bgpdump_tool.specs.Course.{Course, course_behind, course_from, course, play_texts, WritesPast}
-use Rattle.bgpdump_tool.specs.Carrying.{Scene, Taking, Stands, Follows, HasRoom, state_of, IsLed, IsCutOff, IsBrokenOff, LineDoes, CarriesLine, Plays, PlaysCutOff, PlaysBrokenOff, PlayDoes, PlaysScript}
-use Rattle.bgpdump_lines.proofs.WritingLaws.{AppendsFront-none, Writes-append, WritesFronts-behind, WritesFronts-longer, AppendsFront-longer}
-use Rattle.bgpdump_tool.proofs.CarryLaws.{AppendsFront-whole, take_over}
+use Rattle.bgpdump_tool.specs.Course.{Course, course_after, course_from, course, play_texts, WritesBeyond}
+use Rattle.bgpdump_tool.specs.Execution.{RunState, HasFound, HasProgress, Follows, HasRoom, state_with_unread, IsLed, IsCutOff, IsBrokenOff, ExecutesLineFrom, ExecutesLine, Plays, PlaysCutOff, PlaysBrokenOff, PlayDoes, ExecutesScript}
+use Rattle.bgpdump_lines.proofs.WritingLaws.{AppendsPrefix-none, Writes-append, WritesPrefixes-behind, WritesPrefixes-longer, AppendsPrefix-longer}
+use Rattle.bgpdump_tool.proofs.CarryLaws.{AppendsPrefix-whole, take_over}
 use Rattle.bgpdump_tool.proofs.MoveLaws.{reports-append}
 
 -- ---- texts and courses
@@ -31,7 +31,7 @@ is_some-append : (xs ys : List ℕ) → is_some (slice_get (xs ++ ys) 0) ≡ (is
 is_some-append [] ys = refl
 is_some-append (x ∷ xs) ys = refl
 
-is_some-reports : (found : List Finding) → is_some (slice_get (reports found) 0) ≡ is_any_bad found
+is_some-reports : (found : List RecordResult) → is_some (slice_get (reports found) 0) ≡ has_fault found
 is_some-reports [] = refl
 is_some-reports (Found event ∷ found) = is_some-reports found
 is_some-reports (Bad fault ∷ found) = refl
@@ -39,8 +39,8 @@ is_some-reports (Bad fault ∷ found) = refl
 joined-twice : (a b c : Texts) → joined_texts a (joined_texts b c) ≡ joined_texts (joined_texts a b) c
 joined-twice a b c = λ i. record { out = sym (append_assoc a.out b.out c.out) i; err = sym (append_assoc a.err b.err c.err) i }
 
-course_behind-twice : (a b : Texts) (x y : Bool) (c : Course) → course_behind a x (course_behind b y c) ≡ course_behind (joined_texts a b) (x || y) c
-course_behind-twice a b x y c = λ i. record { texts = joined-twice a b c.texts i; ended = sym (or_assoc x y c.ended) i; left = c.left }
+course_after-twice : (a b : Texts) (x y : Bool) (c : Course) → course_after a x (course_after b y c) ≡ course_after (joined_texts a b) (x || y) c
+course_after-twice a b x y c = λ i. record { texts = joined-twice a b c.texts i; ended = sym (or_assoc x y c.ended) i; left = c.left }
 
 -- one line more was carried out
 after_line : (cut : Bool) (done lines : List Line) (line : Line) (s : State) → course_from cut 1 ((done ++ line ∷ []) ++ lines) s ≡ course_from cut 1 (done ++ line ∷ lines) s
@@ -51,16 +51,16 @@ next_number cut done lines line s = ap (λ n. course_from cut n lines s) (omega 
 
 -- ---- the start
 
-pub Plays-start : (stamp : Stamp) (left : Option (List ℕ)) (scene : Scene) (outputs : Outputs) → scene.player ≡ fresh → scene.place ≡ start_place stamp LIMIT → scene.reported ≡ false → scene.left ≡ left
-    → Plays (start_place stamp LIMIT) left [] scene outputs outputs
+pub Plays-start : (stamp : Stamp) (left : Option (List ℕ)) (scene : RunState) (outputs : Outputs) → scene.player ≡ fresh → scene.place ≡ start_state stamp INPUT_LIMIT → scene.reported ≡ false → scene.left ≡ left
+    → Plays (start_state stamp INPUT_LIMIT) left [] scene outputs outputs
 Plays-start stamp left scene outputs player place reported same = record {
   standing = record { history = []; cursor = 0; floor = 0; found = []; ended = false };
   stands = record {
     history = subst (λ t. StandsFor t []) (sym player) StandsFor-fresh;
     cursor = ap (λ t. t.cursor) player;
     floor = ap (λ t. t.floor) player;
-    taking = subst (λ q. Taking (start_place stamp LIMIT) left q scene.left [] false) (sym place) (subst (λ l. Taking (start_place stamp LIMIT) left (start_place stamp LIMIT) l [] false) (sym same) (record {
-      so_far = SoFar-start (start_place stamp LIMIT) left refl;
+    taking = subst (λ q. HasFound (start_state stamp INPUT_LIMIT) left q scene.left [] false) (sym place) (subst (λ l. HasFound (start_state stamp INPUT_LIMIT) left (start_state stamp INPUT_LIMIT) l [] false) (sym same) (record {
+      so_far = HasAnswered-start (start_state stamp INPUT_LIMIT) left refl;
       seen = λ ended none. cc;
       ends = λ e. cc;
       within = omega arith;
@@ -73,12 +73,12 @@ Plays-start stamp left scene outputs player place reported same = record {
 }
 
 -- what was written, by what is known of the reports
-abbrev with_reports : Option (List ℕ) → Scene → Outputs
+abbrev with_reports : Option (List ℕ) → RunState → Outputs
 with_reports out scene = record { out = out; err = scene.err }
 
 -- ---- a line that asks for nothing
 
-pub Plays-empty : (from : Place) (left : Option (List ℕ)) (done : List Line) (scene : Scene) (old new : Outputs) → Plays from left done scene old new → Plays from left (done ++ Empty ∷ []) scene old new
+pub Plays-empty : (from : SourceState) (left : Option (List ℕ)) (done : List Line) (scene : RunState) (old new : Outputs) → Plays from left done scene old new → Plays from left (done ++ Empty ∷ []) scene old new
 Plays-empty from left done scene old new p = record {
   standing = p.standing;
   stands = p.stands;
@@ -87,25 +87,25 @@ Plays-empty from left done scene old new p = record {
   told = p.told;
   goes = λ cut lines more h.
       after_line cut done lines Empty (start (p.standing.found ++ more)) ∙ p.goes cut (Empty ∷ lines) more h
-      ∙ ap (course_behind p.texts p.standing.ended) (next_number cut done lines Empty (state_of p.standing more));
+      ∙ ap (course_after p.texts p.standing.ended) (next_number cut done lines Empty (state_with_unread p.standing more));
 }
 
 -- ---- a line that is no command
 
-pub Plays-report : (from : Place) (left : Option (List ℕ)) (done : List Line) (number : ℕ) (a b : Scene) (old : Outputs) (mid new : Option (List ℕ)) → Plays from left done a old (with_reports mid a) → number ≡ length done + 1
-    → b ≡ record a { reported = true; err = b.err } → new ≡ mid → Appends a.err b.err (line_report number) → Plays from left (done ++ NoCommand ∷ []) b old (with_reports new b)
+pub Plays-report : (from : SourceState) (left : Option (List ℕ)) (done : List Line) (number : ℕ) (a b : RunState) (old : Outputs) (mid new : Option (List ℕ)) → Plays from left done a old (with_reports mid a) → number ≡ length done + 1
+    → b ≡ record a { reported = true; err = b.err } → new ≡ mid → Appends a.err b.err (bad_line_report number) → Plays from left (done ++ NoCommand ∷ []) b old (with_reports new b)
 Plays-report from left done number a b old mid new p is same quiet appended =
-    let texts : Texts = record { out = []; err = line_report number } in
+    let texts : Texts = record { out = []; err = bad_line_report number } in
     record {
       standing = p.standing;
-      stands = subst (λ x. Stands from left x p.standing) (sym same) (record { history = p.stands.history; cursor = p.stands.cursor; floor = p.stands.floor; taking = p.stands.taking });
+      stands = subst (λ x. HasProgress from left x p.standing) (sym same) (record { history = p.stands.history; cursor = p.stands.cursor; floor = p.stands.floor; taking = p.stands.taking });
       texts = joined_texts p.texts texts;
       written = Writes-append p.texts texts old (with_reports mid a) (with_reports new b) p.written (subst (λ o. Appends mid o []) (sym quiet) (Appends-nil mid), appended);
-      told = ap (λ x. x.reported) same ∙ sym (is_some-append p.texts.err (line_report number) ∙ or-true (is_some (slice_get p.texts.err 0)));
+      told = ap (λ x. x.reported) same ∙ sym (is_some-append p.texts.err (bad_line_report number) ∙ or-true (is_some (slice_get p.texts.err 0)));
       goes = λ cut lines more h.
           after_line cut done lines NoCommand (start (p.standing.found ++ more)) ∙ p.goes cut (NoCommand ∷ lines) more (λ e. h (ap (λ x. x.place.phase) same ∙ e))
-          ∙ course_behind-twice p.texts (record { out = []; err = line_report (length done + 1) }) p.standing.ended false (course_from cut (length done + 1 + 1) lines (state_of p.standing more))
-          ∙ (λ i. course_behind (joined_texts p.texts (record { out = []; err = line_report (sym is i) })) (or-false p.standing.ended i) (next_number cut done lines NoCommand (state_of p.standing more) i));
+          ∙ course_after-twice p.texts (record { out = []; err = bad_line_report (length done + 1) }) p.standing.ended false (course_from cut (length done + 1 + 1) lines (state_with_unread p.standing more))
+          ∙ (λ i. course_after (joined_texts p.texts (record { out = []; err = bad_line_report (sym is i) })) (or-false p.standing.ended i) (next_number cut done lines NoCommand (state_with_unread p.standing more) i));
     }
 
 -- ---- a command
@@ -116,18 +116,18 @@ not_cut cut meets h = grind (arith, h)
 
 -- what follows a command, by whether the input is cut off in it
 course_by : (cut : Bool) (number : ℕ) (command : Command) (lines : List Line) (s : State) (test : Bool) → (cut && meets_end command s) ≡ test
-    → course_from cut number (Asks command ∷ lines) s ≡ (if test then record { texts = record { out = []; err = reports s.unread }; ended = true; left = [] }
-    else course_behind (record { out = (meaning command s).reply; err = faults_taken command s }) (meets_end command s) (course_from cut (number + 1) lines (meaning command s).after))
+    → course_from cut number (HasCommand command ∷ lines) s ≡ (if test then record { texts = record { out = []; err = reports s.unread }; ended = true; left = [] }
+    else course_after (record { out = (meaning command s).reply; err = faults_taken command s }) (meets_end command s) (course_from cut (number + 1) lines (meaning command s).after))
 course_by cut number command lines s test is =
     ap (λ test. if test then record { texts = record { out = []; err = reports s.unread }; ended = true; left = [] }
-    else course_behind (record { out = (meaning command s).reply; err = faults_taken command s }) (meets_end command s) (course_from cut (number + 1) lines (meaning command s).after)) is
+    else course_after (record { out = (meaning command s).reply; err = faults_taken command s }) (meets_end command s) (course_from cut (number + 1) lines (meaning command s).after)) is
 
 -- nothing more is found where the run had ended before, or has now
-none_more : (a b : Place) (taken more : List Finding) → Follows a b taken → (b.phase ≡ Ended → more ≡ []) → a.phase ≡ Ended → taken ++ more ≡ []
+none_more : (a b : SourceState) (taken more : List RecordResult) → Follows a b taken → (b.phase ≡ Ended → more ≡ []) → a.phase ≡ Ended → taken ++ more ≡ []
 none_more a b taken more follows none ended = λ i. follows.quiet ended i ++ none (follows.stays ended) i
 
-pub Plays-command : (from : Place) (left : Option (List ℕ)) (done : List Line) (command : Command) (a b : Scene) (old : Outputs) (mid new : Option (List ℕ)) → (p : Plays from left done a old (with_reports mid a))
-    → (led : IsLed command from left p.standing a b) × Appends mid new led.reply → Plays from left (done ++ Asks command ∷ []) b old (with_reports new b)
+pub Plays-command : (from : SourceState) (left : Option (List ℕ)) (done : List Line) (command : Command) (a b : RunState) (old : Outputs) (mid new : Option (List ℕ)) → (p : Plays from left done a old (with_reports mid a))
+    → (led : IsLed command from left p.standing a b) × Appends mid new led.reply → Plays from left (done ++ HasCommand command ∷ []) b old (with_reports new b)
 Plays-command from left done command a b old mid new p (led, replied) =
     let s = p.standing in
     let t = led.after in
@@ -141,39 +141,39 @@ Plays-command from left done command a b old mid new p (led, replied) =
       goes = λ cut lines more h.
           let none = λ (e : b.place.phase ≡ Ended). (h e).0 in
           let leads = led.leads more none in
-          let st = state_of s (led.taken ++ more) in
+          let st = state_with_unread s (led.taken ++ more) in
           let on = not_cut cut (meets_end command st) (λ met. (h (led.stands.taking.ends (leads.ended ∙ ap (λ x. s.ended || x) met ∙ or-true s.ended))).1) in
-          after_line cut done lines (Asks command) (start (t.found ++ more))
-          ∙ ap (λ l. course_from cut 1 (done ++ Asks command ∷ lines) (start l)) (ap (λ l. l ++ more) led.found ∙ append_assoc s.found led.taken more)
-          ∙ p.goes cut (Asks command ∷ lines) (led.taken ++ more) (λ e. (none_more a.place b.place led.taken more led.follows none e, (h (led.follows.stays e)).1))
-          ∙ ap (course_behind p.texts s.ended) (course_by cut (length done + 1) command lines st false on)
-          ∙ course_behind-twice p.texts (record { out = (meaning command st).reply; err = faults_taken command st }) s.ended (meets_end command st) (course_from cut (length done + 1 + 1) lines (meaning command st).after)
-          ∙ (λ i. course_behind (joined_texts p.texts (record { out = leads.replied i; err = reports (leads.took i) })) (sym leads.ended i) (course_from cut (length done + 1 + 1) lines (leads.after i)))
-          ∙ ap (course_behind (joined_texts p.texts texts) t.ended) (next_number cut done lines (Asks command) (state_of t more));
+          after_line cut done lines (HasCommand command) (start (t.found ++ more))
+          ∙ ap (λ l. course_from cut 1 (done ++ HasCommand command ∷ lines) (start l)) (ap (λ l. l ++ more) led.found ∙ append_assoc s.found led.taken more)
+          ∙ p.goes cut (HasCommand command ∷ lines) (led.taken ++ more) (λ e. (none_more a.place b.place led.taken more led.follows none e, (h (led.follows.stays e)).1))
+          ∙ ap (course_after p.texts s.ended) (course_by cut (length done + 1) command lines st false on)
+          ∙ course_after-twice p.texts (record { out = (meaning command st).reply; err = faults_taken command st }) s.ended (meets_end command st) (course_from cut (length done + 1 + 1) lines (meaning command st).after)
+          ∙ (λ i. course_after (joined_texts p.texts (record { out = leads.replied i; err = reports (leads.took i) })) (sym leads.ended i) (course_from cut (length done + 1 + 1) lines (leads.after i)))
+          ∙ ap (course_after (joined_texts p.texts texts) t.ended) (next_number cut done lines (HasCommand command) (state_with_unread t more));
     }
 
 -- ---- a run that is stopped
 
 -- the course of lines that were carried out, whatever is found behind
-pub course_of_done : (from : Place) (left : Option (List ℕ)) (lines : List Line) (scene : Scene) (old new : Outputs) (later : List Finding) → (p : Plays from left lines scene old new) → (scene.place.phase ≡ Ended → later ≡ [])
+pub course_of_done : (from : SourceState) (left : Option (List ℕ)) (lines : List Line) (scene : RunState) (old new : Outputs) (later : List RecordResult) → (p : Plays from left lines scene old new) → (scene.place.phase ≡ Ended → later ≡ [])
     → course false lines (p.standing.found ++ later) ≡ record { texts = p.texts; ended = p.standing.ended; left = later }
 course_of_done from left lines scene old new later p none =
     ap (λ l. course false l (p.standing.found ++ later)) (sym (append-nil lines)) ∙ p.goes false [] later (λ e. (none e, refl))
     ∙ (λ i. record { texts = record { out = append-nil p.texts.out i; err = append-nil p.texts.err i }; ended = or-false p.standing.ended i; left = later })
 
 -- the texts of lines that were carried out were written, and fronts of what one more line adds
-past_line : (from : Place) (left : Option (List ℕ)) (done : List Line) (line : Line) (a : Scene) (old mid new : Outputs) (found taken more : List Finding) → (p : Plays from left done a old mid) → found ≡ p.standing.found ++ taken
-    → (a.place.phase ≡ Ended → taken ++ more ≡ []) → WritesFronts (course_from false (length done + 1) (line ∷ []) (state_of p.standing (taken ++ more))).texts mid new
-    → WritesPast (play_texts done (found ++ more)) (play_texts (done ++ line ∷ []) (found ++ more)) old new
+past_line : (from : SourceState) (left : Option (List ℕ)) (done : List Line) (line : Line) (a : RunState) (old mid new : Outputs) (found taken more : List RecordResult) → (p : Plays from left done a old mid) → found ≡ p.standing.found ++ taken
+    → (a.place.phase ≡ Ended → taken ++ more ≡ []) → WritesPrefixes (course_from false (length done + 1) (line ∷ []) (state_with_unread p.standing (taken ++ more))).texts mid new
+    → WritesBeyond (play_texts done (found ++ more)) (play_texts (done ++ line ∷ []) (found ++ more)) old new
 past_line from left done line a old mid new found taken more p is none fronts =
     let all : found ++ more ≡ p.standing.found ++ (taken ++ more) = ap (λ l. l ++ more) is ∙ append_assoc p.standing.found taken more in
     let own : play_texts done (found ++ more) ≡ p.texts = ap (λ l. play_texts done l) all ∙ ap (λ c. c.texts) (course_of_done from left done a old mid (taken ++ more) p none) in
     record {
       mid = mid;
       written = subst (λ t. Writes t old mid) (sym own) p.written;
-      more = (course_from false (length done + 1) (line ∷ []) (state_of p.standing (taken ++ more))).texts;
+      more = (course_from false (length done + 1) (line ∷ []) (state_with_unread p.standing (taken ++ more))).texts;
       whole = ap (λ l. play_texts (done ++ line ∷ []) l) all ∙ ap (λ c. c.texts) (p.goes false (line ∷ []) (taken ++ more) (λ e. (none e, refl)))
-          ∙ ap (λ t. joined_texts t (course_from false (length done + 1) (line ∷ []) (state_of p.standing (taken ++ more))).texts) (sym own);
+          ∙ ap (λ t. joined_texts t (course_from false (length done + 1) (line ∷ []) (state_with_unread p.standing (taken ++ more))).texts) (sym own);
       fronts = fronts;
     }
 
@@ -184,30 +184,30 @@ texts_behind a all begun (rest, is) = (rest, ap (joined_texts a) is ∙ joined-t
 texts_more : (number : ℕ) (begun lines : List Line) (s : State) → (rest : Texts) × ((course_from false number (begun ++ lines) s).texts ≡ joined_texts (course_from false number begun s).texts rest)
 texts_more number [] lines s = ((course_from false number lines s).texts, refl)
 texts_more number (Empty ∷ begun) lines s = texts_more (number + 1) begun lines s
-texts_more number (NoCommand ∷ begun) lines s = texts_behind (record { out = []; err = line_report number }) _ _ (texts_more (number + 1) begun lines s)
-texts_more number (Asks command ∷ begun) lines s =
+texts_more number (NoCommand ∷ begun) lines s = texts_behind (record { out = []; err = bad_line_report number }) _ _ (texts_more (number + 1) begun lines s)
+texts_more number (HasCommand command ∷ begun) lines s =
     texts_behind (record { out = (meaning command s).reply; err = faults_taken command s }) _ _ (texts_more (number + 1) begun lines (meaning command s).after)
 
 -- fronts of what a last line adds are fronts of what any lines write that begin so
-pub fronts_past : (done behind : List Line) (line : Line) (found : List Finding) (old new : Outputs) → WritesPast (play_texts done found) (play_texts (done ++ line ∷ []) found) old new
-    → WritesFronts (play_texts ((done ++ line ∷ []) ++ behind) found) old new
+pub fronts_past : (done behind : List Line) (line : Line) (found : List RecordResult) (old new : Outputs) → WritesBeyond (play_texts done found) (play_texts (done ++ line ∷ []) found) old new
+    → WritesPrefixes (play_texts ((done ++ line ∷ []) ++ behind) found) old new
 fronts_past done behind line found old new past =
     let first = play_texts done found in
     let more = texts_more 1 (done ++ line ∷ []) behind (start found) in
-    subst (λ t. WritesFronts t old new) (sym (more.1 ∙ ap (λ t. joined_texts t more.0) past.whole))
-    (WritesFronts-longer (joined_texts first past.more) more.0 old new (WritesFronts-behind first past.more old past.mid new past.written past.fronts))
+    subst (λ t. WritesPrefixes t old new) (sym (more.1 ∙ ap (λ t. joined_texts t more.0) past.whole))
+    (WritesPrefixes-longer (joined_texts first past.more) more.0 old new (WritesPrefixes-behind first past.more old past.mid new past.written past.fronts))
 
 -- by its source
-pub PlaysCutOff-command : (from : Place) (left : Option (List ℕ)) (done : List Line) (command : Command) (a b : Scene) (old : Outputs) (mid new : Option (List ℕ)) (fault : SourceFault) → (p : Plays from left done a old (with_reports mid a))
-    → IsCutOff command from left p.standing a b mid new fault → PlaysCutOff from left done (Asks command) b old (with_reports new b) fault
+pub PlaysCutOff-command : (from : SourceState) (left : Option (List ℕ)) (done : List Line) (command : Command) (a b : RunState) (old : Outputs) (mid new : Option (List ℕ)) (fault : SourceFault) → (p : Plays from left done a old (with_reports mid a))
+    → IsCutOff command from left p.standing a b mid new fault → PlaysCutOff from left done (HasCommand command) b old (with_reports new b) fault
 PlaysCutOff-command from left done command a b old mid new fault p stop =
     let s = p.standing in
     let taken = stop.taken in
-    let met : meets_end command (state_of s taken) ≡ true =
-    grind (arith, nat_tests, subst (λ l. length taken < (meaning command (state_of s l)).wanted) (append-nil taken) (stop.wants [])) in
-    let course_is : (lines : List Line) → course true ((done ++ Asks command ∷ []) ++ lines) (s.found ++ taken) ≡ course_behind p.texts s.ended (record { texts = record { out = []; err = reports taken }; ended = true; left = [] }) =
-    λ lines. after_line true done lines (Asks command) (start (s.found ++ taken)) ∙ p.goes true (Asks command ∷ lines) taken (λ e. absurd (stop.reads e))
-    ∙ ap (course_behind p.texts s.ended) (course_by true (length done + 1) command lines (state_of s taken) true met) in
+    let met : meets_end command (state_with_unread s taken) ≡ true =
+    grind (arith, nat_tests, subst (λ l. length taken < (meaning command (state_with_unread s l)).wanted) (append-nil taken) (stop.wants [])) in
+    let course_is : (lines : List Line) → course true ((done ++ HasCommand command ∷ []) ++ lines) (s.found ++ taken) ≡ course_after p.texts s.ended (record { texts = record { out = []; err = reports taken }; ended = true; left = [] }) =
+    λ lines. after_line true done lines (HasCommand command) (start (s.found ++ taken)) ∙ p.goes true (HasCommand command ∷ lines) taken (λ e. absurd (stop.reads e))
+    ∙ ap (course_after p.texts s.ended) (course_by true (length done + 1) command lines (state_with_unread s taken) true met) in
     record {
       found = s.found ++ taken;
       faulty = stop.faulty;
@@ -216,18 +216,18 @@ PlaysCutOff-command from left done command a b old mid new fault p stop =
           subst (λ c. Writes c.texts old (with_reports new b)) (sym (course_is lines))
           (Writes-append p.texts (record { out = []; err = reports taken }) old (with_reports mid a) (with_reports new b) p.written (stop.quiet, stop.reported));
       past = λ more.
-          let st = state_of s (taken ++ more) in
+          let st = state_with_unread s (taken ++ more) in
           let rest = take_over taken more (meaning command st).wanted (omega (arith, stop.wants more)) in
-          past_line from left done (Asks command) a old (with_reports mid a) (with_reports new b) (s.found ++ taken) taken more p refl (λ e. absurd (stop.reads e))
-          (WritesFronts-longer (record { out = (meaning command st).reply; err = faults_taken command st }) (record { out = []; err = [] }) (with_reports mid a) (with_reports new b) (
+          past_line from left done (HasCommand command) a old (with_reports mid a) (with_reports new b) (s.found ++ taken) taken more p refl (λ e. absurd (stop.reads e))
+          (WritesPrefixes-longer (record { out = (meaning command st).reply; err = faults_taken command st }) (record { out = []; err = [] }) (with_reports mid a) (with_reports new b) (
             record { front = []; back = (meaning command st).reply; whole = refl; appended = stop.quiet },
-            subst (AppendsFront a.err b.err) (sym (ap reports rest.1 ∙ reports-append taken rest.0)) (AppendsFront-longer a.err b.err (reports taken) (reports rest.0) (AppendsFront-whole a.err b.err (reports taken) stop.reported)),
+            subst (AppendsPrefix a.err b.err) (sym (ap reports rest.1 ∙ reports-append taken rest.0)) (AppendsPrefix-longer a.err b.err (reports taken) (reports rest.0) (AppendsPrefix-whole a.err b.err (reports taken) stop.reported)),
           ));
     }
 
 -- by memory or an output
-pub PlaysBrokenOff-command : (from : Place) (left : Option (List ℕ)) (done : List Line) (command : Command) (a b : Scene) (old : Outputs) (mid new : Option (List ℕ)) → (p : Plays from left done a old (with_reports mid a))
-    → IsBrokenOff command from left p.standing a b mid new → PlaysBrokenOff from left done (Asks command) b old (with_reports new b)
+pub PlaysBrokenOff-command : (from : SourceState) (left : Option (List ℕ)) (done : List Line) (command : Command) (a b : RunState) (old : Outputs) (mid new : Option (List ℕ)) → (p : Plays from left done a old (with_reports mid a))
+    → IsBrokenOff command from left p.standing a b mid new → PlaysBrokenOff from left done (HasCommand command) b old (with_reports new b)
 PlaysBrokenOff-command from left done command a b old mid new p stop =
     let s = p.standing in
     let taken = stop.taken in
@@ -236,46 +236,46 @@ PlaysBrokenOff-command from left done command a b old mid new p stop =
       ended = stop.ended;
       taking = stop.taking;
       met = λ e lines.
-          ap (λ c. c.ended) (after_line false done lines (Asks command) (start (s.found ++ taken)) ∙ p.goes false (Asks command ∷ lines) taken (λ x. (stop.follows.quiet x, refl)))
-          ∙ sym (or_assoc s.ended (meets_end command (state_of s taken)) (course_from false (length done + 1 + 1) lines (meaning command (state_of s taken)).after).ended)
-          ∙ ap (λ x. x || (course_from false (length done + 1 + 1) lines (meaning command (state_of s taken)).after).ended) (stop.met e);
+          ap (λ c. c.ended) (after_line false done lines (HasCommand command) (start (s.found ++ taken)) ∙ p.goes false (HasCommand command ∷ lines) taken (λ x. (stop.follows.quiet x, refl)))
+          ∙ sym (or_assoc s.ended (meets_end command (state_with_unread s taken)) (course_from false (length done + 1 + 1) lines (meaning command (state_with_unread s taken)).after).ended)
+          ∙ ap (λ x. x || (course_from false (length done + 1 + 1) lines (meaning command (state_with_unread s taken)).after).ended) (stop.met e);
       past = λ more none.
-          let st = state_of s (taken ++ more) in
-          past_line from left done (Asks command) a old (with_reports mid a) (with_reports new b) (s.found ++ taken) taken more p refl (none_more a.place b.place taken more stop.follows none)
-          (WritesFronts-longer (record { out = (meaning command st).reply; err = faults_taken command st }) (record { out = []; err = [] }) (with_reports mid a) (with_reports new b) (stop.fronts more none));
+          let st = state_with_unread s (taken ++ more) in
+          past_line from left done (HasCommand command) a old (with_reports mid a) (with_reports new b) (s.found ++ taken) taken more p refl (none_more a.place b.place taken more stop.follows none)
+          (WritesPrefixes-longer (record { out = (meaning command st).reply; err = faults_taken command st }) (record { out = []; err = [] }) (with_reports mid a) (with_reports new b) (stop.fronts more none));
     }
 
 -- at a line that is no command
-pub PlaysBrokenOff-report : (from : Place) (left : Option (List ℕ)) (done : List Line) (number : ℕ) (a b : Scene) (old : Outputs) (mid new : Option (List ℕ)) → (p : Plays from left done a old (with_reports mid a)) → number ≡ length done + 1
-    → b ≡ record a { reported = true; err = b.err } → new ≡ mid → AppendsFront a.err b.err (line_report number) → PlaysBrokenOff from left done NoCommand b old (with_reports new b)
+pub PlaysBrokenOff-report : (from : SourceState) (left : Option (List ℕ)) (done : List Line) (number : ℕ) (a b : RunState) (old : Outputs) (mid new : Option (List ℕ)) → (p : Plays from left done a old (with_reports mid a)) → number ≡ length done + 1
+    → b ≡ record a { reported = true; err = b.err } → new ≡ mid → AppendsPrefix a.err b.err (bad_line_report number) → PlaysBrokenOff from left done NoCommand b old (with_reports new b)
 PlaysBrokenOff-report from left done number a b old mid new p is same quiet front =
     let s = p.standing in
     record {
       found = s.found;
       ended = s.ended;
-      taking = subst (λ x. Taking from left x.place x.left s.found s.ended) (sym same) p.stands.taking;
+      taking = subst (λ x. HasFound from left x.place x.left s.found s.ended) (sym same) p.stands.taking;
       met = λ e lines.
           ap (λ l. (course false ((done ++ NoCommand ∷ []) ++ lines) l).ended) (sym (append-nil s.found))
           ∙ ap (λ c. c.ended) (after_line false done lines NoCommand (start (s.found ++ [])) ∙ p.goes false (NoCommand ∷ lines) [] (λ x. (refl, refl)))
-          ∙ ap (λ x. x || (course_from false (length done + 1 + 1) lines (state_of s [])).ended) e;
+          ∙ ap (λ x. x || (course_from false (length done + 1 + 1) lines (state_with_unread s [])).ended) e;
       past = λ more none.
           past_line from left done NoCommand a old (with_reports mid a) (with_reports new b) s.found [] more p (sym (append-nil s.found)) (λ x. none (ap (λ y. y.place.phase) same ∙ x))
-          (WritesFronts-longer (record { out = []; err = line_report (length done + 1) }) (record { out = []; err = [] }) (with_reports mid a) (with_reports new b)
-          (subst (λ o. AppendsFront mid o []) (sym quiet) (AppendsFront-none mid []), subst (λ n. AppendsFront a.err b.err (line_report n)) is front));
+          (WritesPrefixes-longer (record { out = []; err = bad_line_report (length done + 1) }) (record { out = []; err = [] }) (with_reports mid a) (with_reports new b)
+          (subst (λ o. AppendsPrefix mid o []) (sym quiet) (AppendsPrefix-none mid []), subst (λ n. AppendsPrefix a.err b.err (bad_line_report n)) is front));
     }
 
 -- ---- a line, whatever it asks for
 
-pub PlayDoes-line : (line : Line) (from : Place) (left : Option (List ℕ)) (done : List Line) (number : ℕ) (a b : Scene) (old : Outputs) (mid new : Option (List ℕ)) (result : Result (Unit {0}) Outcome) → (p : Plays from left done a old (with_reports mid a)) → number ≡ length done + 1
-    → LineDoes line number from left p.standing a b mid new result → PlayDoes from left done line b old (with_reports new b) result
+pub PlayDoes-line : (line : Line) (from : SourceState) (left : Option (List ℕ)) (done : List Line) (number : ℕ) (a b : RunState) (old : Outputs) (mid new : Option (List ℕ)) (result : Result (Unit {0}) Outcome) → (p : Plays from left done a old (with_reports mid a)) → number ≡ length done + 1
+    → ExecutesLineFrom line number from left p.standing a b mid new result → PlayDoes from left done line b old (with_reports new b) result
 PlayDoes-line Empty from left done number a b old mid new (Ok done') p is (ok, same, quiet) =
     subst (λ x. Plays from left (done ++ Empty ∷ []) x old (with_reports new x)) (sym same)
     (subst (λ o. Plays from left (done ++ Empty ∷ []) a old (with_reports o a)) (sym quiet) (Plays-empty from left done a old (with_reports mid a) p))
 PlayDoes-line Empty from left done number a b old mid new (Err outcome) p is (ok, same, quiet) = cc
-PlayDoes-line (Asks command) from left done number a b old mid new (Ok done') p is does = Plays-command from left done command a b old mid new p does
-PlayDoes-line (Asks command) from left done number a b old mid new (Err outcome) p is (inl (fault, e, stop)) =
+PlayDoes-line (HasCommand command) from left done number a b old mid new (Ok done') p is does = Plays-command from left done command a b old mid new p does
+PlayDoes-line (HasCommand command) from left done number a b old mid new (Err outcome) p is (inl (fault, e, stop)) =
     inl (fault, e, PlaysCutOff-command from left done command a b old mid new fault p stop)
-PlayDoes-line (Asks command) from left done number a b old mid new (Err outcome) p is (inr (fault, e, stop)) =
+PlayDoes-line (HasCommand command) from left done number a b old mid new (Err outcome) p is (inr (fault, e, stop)) =
     inr (fault, e, PlaysBrokenOff-command from left done command a b old mid new p stop)
 PlayDoes-line NoCommand from left done number a b old mid new (Ok done') p is (same, quiet, reported) =
     Plays-report from left done number a b old mid new p is same quiet reported
@@ -285,7 +285,7 @@ PlayDoes-line NoCommand from left done number a b old mid new (Err outcome) p is
 -- ---- the lines of a script
 
 -- lines that were carried out, each of which asks for what was done
-pub record LinesDone (from : Place) (left : Option (List ℕ)) (script rest : List ℕ) (number : ℕ) (scene : Scene) (old new : Outputs) : Type 0 where
+pub record LinesDone (from : SourceState) (left : Option (List ℕ)) (script rest : List ℕ) (number : ℕ) (scene : RunState) (old new : Outputs) : Type 0 where
   pub done : List Line
   pub octets : List (List ℕ)
   pub whole : script_lines script ≡ octets ++ script_lines rest
@@ -301,7 +301,7 @@ AreLines-more [] (x ∷ octets) line one are is = absurd are
 AreLines-more (y ∷ lines) [] line one are is = absurd are
 AreLines-more (y ∷ lines) (x ∷ octets) line one are is = (are.0, AreLines-more lines octets line one are.1 is)
 
-pub LinesDone-start : (left : Option (List ℕ)) (script : List ℕ) (scene : Scene) (outputs : Outputs) → scene.player ≡ fresh → scene.place ≡ start_place scene.place.stamp LIMIT → scene.reported ≡ false → scene.left ≡ left
+pub LinesDone-start : (left : Option (List ℕ)) (script : List ℕ) (scene : RunState) (outputs : Outputs) → scene.player ≡ fresh → scene.place ≡ start_state scene.place.stamp INPUT_LIMIT → scene.reported ≡ false → scene.left ≡ left
     → LinesDone scene.place left script script 1 scene outputs outputs
 LinesDone-start left script scene outputs player place reported same = record {
   done = [];
@@ -314,8 +314,8 @@ LinesDone-start left script scene outputs player place reported same = record {
   few = omega arith;
 }
 
-pub LinesDone-line : (from : Place) (left : Option (List ℕ)) (script rest one behind : List ℕ) (number : ℕ) (a b : Scene) (old : Outputs) (mid new : Option (List ℕ)) → LinesDone from left script rest number a old (with_reports mid a)
-    → script_lines rest ≡ one ∷ script_lines behind → length behind < length rest → CarriesLine one number a b mid new (Ok tt)
+pub LinesDone-line : (from : SourceState) (left : Option (List ℕ)) (script rest one behind : List ℕ) (number : ℕ) (a b : RunState) (old : Outputs) (mid new : Option (List ℕ)) → LinesDone from left script rest number a old (with_reports mid a)
+    → script_lines rest ≡ one ∷ script_lines behind → length behind < length rest → ExecutesLine one number a b mid new (Ok tt)
     → ((lost : ℕ) → HasRoom a.player a.place lost → HasRoom b.player b.place (lost + 1)) → LinesDone from left script behind (number + 1) b old (with_reports new b)
 LinesDone-line from left script rest one behind number a b old mid new d split shorter (line, is, does) room = record {
   done = d.done ++ line ∷ [];
@@ -329,9 +329,9 @@ LinesDone-line from left script rest one behind number a b old mid new d split s
 }
 
 -- the line that a fault stopped
-pub PlaysScript-stopped : (from : Place) (left : Option (List ℕ)) (script rest one : List ℕ) (more : List (List ℕ)) (number : ℕ) (a b : Scene) (old : Outputs) (mid new : Option (List ℕ)) (outcome : Outcome)
-    → LinesDone from left script rest number a old (with_reports mid a) → script_lines rest ≡ one ∷ more → CarriesLine one number a b mid new (Err outcome) → PlaysScript from left script b old (with_reports new b) (Err outcome)
-PlaysScript-stopped from left script rest one more number a b old mid new outcome d split (line, is, does) = (
+pub ExecutesScript-stopped : (from : SourceState) (left : Option (List ℕ)) (script rest one : List ℕ) (more : List (List ℕ)) (number : ℕ) (a b : RunState) (old : Outputs) (mid new : Option (List ℕ)) (outcome : Outcome)
+    → LinesDone from left script rest number a old (with_reports mid a) → script_lines rest ≡ one ∷ more → ExecutesLine one number a b mid new (Err outcome) → ExecutesScript from left script b old (with_reports new b) (Err outcome)
+ExecutesScript-stopped from left script rest one more number a b old mid new outcome d split (line, is, does) = (
   d.done,
   line,
   d.octets ++ one ∷ [],
@@ -342,12 +342,12 @@ PlaysScript-stopped from left script rest one more number a b old mid new outcom
 )
 
 -- the last line
-pub PlaysScript-last : (from : Place) (left : Option (List ℕ)) (script rest : List ℕ) (number : ℕ) (a b : Scene) (old : Outputs) (mid new : Option (List ℕ)) (result : Result (Unit {0}) Outcome)
-    → LinesDone from left script rest number a old (with_reports mid a) → script_lines rest ≡ rest ∷ [] → CarriesLine rest number a b mid new result → PlaysScript from left script b old (with_reports new b) result
-PlaysScript-last from left script rest number a b old mid new (Ok done) d split (line, is, does) = (
+pub ExecutesScript-last : (from : SourceState) (left : Option (List ℕ)) (script rest : List ℕ) (number : ℕ) (a b : RunState) (old : Outputs) (mid new : Option (List ℕ)) (result : Result (Unit {0}) Outcome)
+    → LinesDone from left script rest number a old (with_reports mid a) → script_lines rest ≡ rest ∷ [] → ExecutesLine rest number a b mid new result → ExecutesScript from left script b old (with_reports new b) result
+ExecutesScript-last from left script rest number a b old mid new (Ok done) d split (line, is, does) = (
   d.done ++ line ∷ [],
   subst (AreLines (d.done ++ line ∷ [])) (sym (d.whole ∙ ap (λ l. d.octets ++ l) split)) (AreLines-more d.done d.octets line rest d.are is),
   PlayDoes-line line from left d.done number a b old mid new (Ok done) d.plays d.count (does from left d.plays.standing d.plays.stands),
 )
-PlaysScript-last from left script rest number a b old mid new (Err outcome) d split carries =
-    PlaysScript-stopped from left script rest rest [] number a b old mid new outcome d split carries
+ExecutesScript-last from left script rest number a b old mid new (Err outcome) d split carries =
+    ExecutesScript-stopped from left script rest rest [] number a b old mid new outcome d split carries

@@ -9,17 +9,17 @@ use Rattle.rib_player.specs.Lookups.{pointed_routes, counted_peers}
 use Rattle.std.proofs.lemmas.Grind.{flat_map-append}
 use Rattle.mrt_events.specs.declared.peer.Peer.{Peer}
 use Rattle.rib_player.specs.Tables.{Routes, peer_routes, routed_peers}
-use Rattle.prefix_store.specs.Stored.{counted}
+use Rattle.prefix_store.specs.Stored.{saturated_count}
 use Rattle.std.specs.FinMap as finite
 use Rattle.std.specs.FinMap.{len-entries}
 use Rattle.bgpdump_lines.specs.declared.fault.WriteFault.{WriteFault}
 use Rattle.bgpdump_lines.specs.declared.fault.WriteFault.TheVariants.{Write, Memory}
-use Rattle.bgpdump_lines.specs.Run.{AppendsFront}
+use Rattle.bgpdump_lines.specs.Run.{AppendsPrefix}
 use Rattle.bgpdump_lines.specs.Lines.{rib_line}
-use Rattle.bgpdump_tool.specs.Counts.{count_line, counts_text}
-use Rattle.bgpdump_tool.specs.Replies.{peer_line, peer_lines, peers_text, counts_line, table_text}
-use Rattle.bgpdump_lines.specs.Going.{Puts, PutsPart}
-use Rattle.bgpdump_lines.proofs.WritingLaws.{AppendsFront-none, AppendsFront-behind, AppendsFront-longer}
+use Rattle.bgpdump_tool.specs.Counts.{count_line, peer_counts_text}
+use Rattle.bgpdump_tool.specs.Replies.{peer_line, peer_lines, peers_text, labelled_numbers_line, table_text}
+use Rattle.bgpdump_lines.specs.WrittenSoFar.{Puts, PutsAllOrFront}
+use Rattle.bgpdump_lines.proofs.WritingLaws.{AppendsPrefix-none, AppendsPrefix-behind, AppendsPrefix-longer}
 
 -- of all items the lines of those done were written; the others are ahead
 pub record Walked {A : Type 0} (line : A → List ℕ) (all ahead : List A) (old new : Option (List ℕ)) : Type 0 where
@@ -28,15 +28,15 @@ pub record Walked {A : Type 0} (line : A → List ℕ) (all ahead : List A) (old
   pub appended : Appends old new (flat_map line done)
 
 -- a text that was put, or a front of it, was put in part
-pub PutsPart-put : {A : Type 0} (old new : Option (List ℕ)) (text : List ℕ) (result : Result A WriteFault) → Puts old new text result → PutsPart old new text result
-PutsPart-put old new text (Ok done) put = put
-PutsPart-put old new text (Err Write) put = put
-PutsPart-put old new text (Err Memory) same = subst (λ known. AppendsFront old known text) (sym same) (AppendsFront-none old text)
+pub PutsAllOrFront-put : {A : Type 0} (old new : Option (List ℕ)) (text : List ℕ) (result : Result A WriteFault) → Puts old new text result → PutsAllOrFront old new text result
+PutsAllOrFront-put old new text (Ok done) put = put
+PutsAllOrFront-put old new text (Err Write) put = put
+PutsAllOrFront-put old new text (Err Memory) same = subst (λ known. AppendsPrefix old known text) (sym same) (AppendsPrefix-none old text)
 
 -- behind a whole text
-pub PutsPart-behind : (old mid new : Option (List ℕ)) (text more : List ℕ) (result : Result (Unit {0}) WriteFault) → Appends old mid text → Puts mid new more result → PutsPart old new (text ++ more) result
-PutsPart-behind old mid new text more (Ok done) p put = Appends-trans old mid new text more p put
-PutsPart-behind old mid new text more (Err fault) p put = AppendsFront-behind old mid new text more p (PutsPart-put {A = Unit {0}} mid new more (Err fault) put)
+pub PutsAllOrFront-behind : (old mid new : Option (List ℕ)) (text more : List ℕ) (result : Result (Unit {0}) WriteFault) → Appends old mid text → Puts mid new more result → PutsAllOrFront old new (text ++ more) result
+PutsAllOrFront-behind old mid new text more (Ok done) p put = Appends-trans old mid new text more p put
+PutsAllOrFront-behind old mid new text more (Err fault) p put = AppendsPrefix-behind old mid new text more p (PutsAllOrFront-put {A = Unit {0}} mid new more (Err fault) put)
 
 module _ {A : Type 0} (line : A → List ℕ) (all : List A) where
   -- at the start none is done
@@ -58,11 +58,11 @@ module _ {A : Type 0} (line : A → List ℕ) (all : List A) where
   }
 
   -- a fault in them leaves a front of all lines
-  pub Walked-breaks : (items ahead behind : List A) (old mid new : Option (List ℕ)) → ahead ≡ items ++ behind → Walked line all ahead old mid → AppendsFront mid new (flat_map line items) → AppendsFront old new (flat_map line all)
+  pub Walked-breaks : (items ahead behind : List A) (old mid new : Option (List ℕ)) → ahead ≡ items ++ behind → Walked line all ahead old mid → AppendsPrefix mid new (flat_map line items) → AppendsPrefix old new (flat_map line all)
   Walked-breaks items ahead behind old mid new next p put =
-      subst (AppendsFront old new) (sym (ap (flat_map line) (p.whole ∙ ap (λ xs. p.done ++ xs) next) ∙ flat_map-append line p.done (items ++ behind)))
-      (AppendsFront-behind old mid new (flat_map line p.done) (flat_map line (items ++ behind)) p.appended
-      (subst (AppendsFront mid new) (sym (flat_map-append line items behind)) (AppendsFront-longer mid new (flat_map line items) (flat_map line behind) put)))
+      subst (AppendsPrefix old new) (sym (ap (flat_map line) (p.whole ∙ ap (λ xs. p.done ++ xs) next) ∙ flat_map-append line p.done (items ++ behind)))
+      (AppendsPrefix-behind old mid new (flat_map line p.done) (flat_map line (items ++ behind)) p.appended
+      (subst (AppendsPrefix mid new) (sym (flat_map-append line items behind)) (AppendsPrefix-longer mid new (flat_map line items) (flat_map line behind) put)))
 
   -- one more line
   abbrev pub Walked-next : (item : A) (ahead behind : List A) (old mid new : Option (List ℕ)) → ahead ≡ item ∷ behind → Walked line all ahead old mid → Appends mid new (line item) → Walked line all behind old new
@@ -71,26 +71,26 @@ module _ {A : Type 0} (line : A → List ℕ) (all : List A) where
 
   -- a fault in it
   pub Walked-stops : (item : A) (ahead behind : List A) (old mid new : Option (List ℕ)) (fault : WriteFault) → ahead ≡ item ∷ behind → Walked line all ahead old mid
-      → Puts {A = Unit {0}} mid new (line item) (Err fault) → AppendsFront old new (flat_map line all)
+      → Puts {A = Unit {0}} mid new (line item) (Err fault) → AppendsPrefix old new (flat_map line all)
   Walked-stops item ahead behind old mid new fault next p put =
-      Walked-breaks (item ∷ []) ahead behind old mid new next p (subst (AppendsFront mid new) (sym (append-nil (line item))) (PutsPart-put {A = Unit {0}} mid new (line item) (Err fault) put))
+      Walked-breaks (item ∷ []) ahead behind old mid new next p (subst (AppendsPrefix mid new) (sym (append-nil (line item))) (PutsAllOrFront-put {A = Unit {0}} mid new (line item) (Err fault) put))
 
 -- the lines of routes that are pointed to
 abbrev pub pointed_lines : Peer → List (Network × Bor (Rc Route Global)) → List ℕ
 pointed_lines peer found = flat_map (λ f. rib_line peer (f.0, f.1.now.value)) found
 
-pub lines-pointed : (peer : Peer) (found : List (Network × Bor (Rc Route Global))) → pointed_lines peer found ≡ flat_map (rib_line peer) (pointed_routes found)
-lines-pointed peer [] = refl
-lines-pointed peer (f ∷ found) = ap (λ l. rib_line peer (f.0, f.1.now.value) ++ l) (lines-pointed peer found)
+pub lines-dereferenced : (peer : Peer) (found : List (Network × Bor (Rc Route Global))) → pointed_lines peer found ≡ flat_map (rib_line peer) (pointed_routes found)
+lines-dereferenced peer [] = refl
+lines-dereferenced peer (f ∷ found) = ap (λ l. rib_line peer (f.0, f.1.now.value) ++ l) (lines-dereferenced peer found)
 
 -- a table's lines were written, and then how many they are
 pub table_told : (routes : Routes) (peer : Peer) (ahead : List (Network × Route)) (old mid new : Option (List ℕ)) (count : ℕ) (result : Result (Unit {0}) WriteFault) → ahead ≡ [] → (walked : Walked (rib_line peer) (finite.entries (peer_routes routes peer)) ahead old mid)
-    → count ≡ counted (length walked.done) → Puts mid new (counts_line ((codes "routes ", count) ∷ [])) result → PutsPart old new (table_text routes peer) result
+    → count ≡ saturated_count (length walked.done) → Puts mid new (labelled_numbers_line ((codes "routes ", count) ∷ [])) result → PutsAllOrFront old new (table_text routes peer) result
 table_told routes peer ahead old mid new count result none walked is put =
     let entries = finite.entries (peer_routes routes peer) in
     let end = Walked-end (rib_line peer) entries ahead old mid none walked in
-    PutsPart-behind old mid new (flat_map (rib_line peer) entries) (counts_line ((codes "routes ", counted (finite.len (peer_routes routes peer))) ∷ [])) result end.1
-    (subst (λ n. Puts mid new (counts_line ((codes "routes ", n) ∷ [])) result) (is ∙ ap counted (ap length (sym end.0) ∙ sym (len-entries (peer_routes routes peer)))) put)
+    PutsAllOrFront-behind old mid new (flat_map (rib_line peer) entries) (labelled_numbers_line ((codes "routes ", saturated_count (finite.len (peer_routes routes peer))) ∷ [])) result end.1
+    (subst (λ n. Puts mid new (labelled_numbers_line ((codes "routes ", n) ∷ [])) result) (is ∙ ap saturated_count (ap length (sym end.0) ∙ sym (len-entries (peer_routes routes peer)))) put)
 
 -- ---- peers
 
@@ -111,18 +111,18 @@ lines_of_some routes (peer ∷ peers) some = refl
 
 -- peers with their counts have the lines that they have without
 paired-lines : (routes : Routes) (peers : List Peer)
-    → flat_map count_line (map (λ (p : Peer). (p, counted (finite.len (peer_routes routes p)))) peers) ≡ flat_map (peer_line routes) peers
+    → flat_map count_line (map (λ (p : Peer). (p, saturated_count (finite.len (peer_routes routes p)))) peers) ≡ flat_map (peer_line routes) peers
 paired-lines routes [] = refl
 paired-lines routes (peer ∷ peers) = ap (λ l. peer_line routes peer ++ l) (paired-lines routes peers)
 
-pub counts-told : (routes : Routes) → counts_text (counted_peers routes) ≡ peers_text routes
+pub counts-told : (routes : Routes) → peer_counts_text (counted_peers routes) ≡ peers_text routes
 counts-told routes = at (routed_peers routes)
   where
-    at : (peers : List Peer) → counts_text (map (λ (p : Peer). (p, counted (finite.len (peer_routes routes p)))) peers) ≡ peer_lines routes peers
+    at : (peers : List Peer) → peer_counts_text (map (λ (p : Peer). (p, saturated_count (finite.len (peer_routes routes p)))) peers) ≡ peer_lines routes peers
     at [] = refl
     at (peer ∷ peers) = paired-lines routes (peer ∷ peers)
 
 -- a text of entries, where there are some
-pub counts_of_some : (entries : List (Peer × ℕ)) → is_some (slice_get entries 0) ≡ true → flat_map count_line entries ≡ counts_text entries
+pub counts_of_some : (entries : List (Peer × ℕ)) → is_some (slice_get entries 0) ≡ true → flat_map count_line entries ≡ peer_counts_text entries
 counts_of_some [] some = cc
 counts_of_some (e ∷ es) some = refl

@@ -5,7 +5,7 @@ use Rattle.std.proofs.lemmas.List.Splits.{slice_split_none, slice_split_first, l
 use Rattle.std.proofs.lemmas.List.Sums.{position_or_len_is}
 use Rattle.std.specs.List.{AllWithin, HoldsAt, position_or_len}
 use Rattle.bgpdump_lines.specs.Lines.{space}
-use Rattle.bgpdump_tool.specs.Script.{pieces, SpellsDecimal, SpellsTimes}
+use Rattle.bgpdump_tool.specs.Script.{split_at_marks, SpellsDecimal, SpellsStepCount}
 use Rattle.std.proofs.lemmas.Bool.{cases_eq}
 use Rattle.std.proofs.lemmas.Fmt.{IsAscii-decimal, decimal_digit, first_decimal, parse-decimal, decimal-digits_value, decimal_injective}
 use Rattle.std.proofs.lemmas.Str.{IsUtf8-from_ascii}
@@ -13,7 +13,7 @@ use Rattle.std.proofs.lemmas.Str.Parse.{IsNumeralModel, numerals_by_value, tells
 use Rattle.std.specs.Result.{result_ok}
 use Rattle.std.specs.Str.Parse.{AllDigits, digits_value, ParsesUnsigned}
 use Rattle.bgp_wire.specs.Path.{IsNoSpelling}
-use Rattle.bgp_wire.specs.Readers.{Finds}
+use Rattle.bgp_wire.specs.Readers.{ParsesTo}
 
 abbrev pub IsMark : ℕ → ℕ → Type 0
 IsMark mark octet = (octet == mark) ≡ true
@@ -22,18 +22,18 @@ abbrev pub IsNoMark : ℕ → ℕ → Type 0
 IsNoMark mark octet = (octet == mark) ≡ false
 
 -- a text without a mark is one piece
-pub pieces_alone : (mark : ℕ) (text : List ℕ) → AllWithin (IsNoMark mark) text 0 (length text) → pieces mark text ≡ text ∷ []
+pub pieces_alone : (mark : ℕ) (text : List ℕ) → AllWithin (IsNoMark mark) text 0 (length text) → split_at_marks mark text ≡ text ∷ []
 pieces_alone mark text none = slice_split_none (λ octet. octet == mark) text (All-from_all_within (IsNoMark mark) text none)
 
 -- the first mark ends the first piece
 pub pieces_split : (mark : ℕ) (text : List ℕ) (at : ℕ) → at < length text → HoldsAt (IsMark mark) text at → AllWithin (IsNoMark mark) text 0 at
-    → pieces mark text ≡ take at text ∷ pieces mark (drop (at + 1) text)
+    → split_at_marks mark text ≡ take at text ∷ split_at_marks mark (drop (at + 1) text)
 pieces_split mark text at within here before =
     let first : position_or_len (λ octet. octet == mark) text ≡ at = position_or_len_is _ text at 0 (omega (arith, within)) (λ k h. before k 0 (omega arith) h) (λ h. here 0) in
-    slice_split_first _ text 0 (omega (arith, first, within)) ∙ ap (λ k. take k text ∷ pieces mark (drop (k + 1) text)) first
+    slice_split_first _ text 0 (omega (arith, first, within)) ∙ ap (λ k. take k text ∷ split_at_marks mark (drop (k + 1) text)) first
 
 -- there is always a word
-pub words_some : (line : List ℕ) → 0 < length (pieces space line)
+pub words_some : (line : List ℕ) → 0 < length (split_at_marks space line)
 words_some line = omega (arith, length-slice_split (λ octet. octet == space) line)
 
 -- ---- decimals
@@ -61,7 +61,7 @@ own : IsNumeralModel (AllDigits 10) (digits_value 10)
 own = numerals_by_value _ tells_digits
 
 -- any other is the decimal of the number that is parsed, and none where none is parsed
-pub parsed_decimal : {E : Type 0} (word : List ℕ) (r : Result ℕ E) → BeginsPlainly word → ParsesUnsigned 32 10 word r → Finds SpellsDecimal word (result_ok r)
+pub parsed_decimal : {E : Type 0} (word : List ℕ) (r : Result ℕ E) → BeginsPlainly word → ParsesUnsigned 32 10 word r → ParsesTo SpellsDecimal word (result_ok r)
 parsed_decimal {E = E} word (Err fault) plainly parsed = λ n (fits, e).
     let same : ◌≡◌ {A = Result ℕ E} (Err fault) (Ok n) = parse-decimal 32 n word (Err fault) fits (omega arith) e parsed in
     cc
@@ -78,5 +78,5 @@ parsed_decimal {E = E} word (Ok n) plainly parsed =
     ]
 
 -- a word of 0 says no number of times
-pub zero_no_times : (word : List ℕ) (n : ℕ) → n ≡ 0 → SpellsDecimal n word → IsNoSpelling SpellsTimes word
+pub zero_no_times : (word : List ℕ) (n : ℕ) → n ≡ 0 → SpellsDecimal n word → IsNoSpelling SpellsStepCount word
 zero_no_times word n zero (fits, e) m (some, (small, f)) = omega (arith, zero, some, decimal_injective m n (omega arith) (omega arith) (sym f ∙ e))

@@ -1,11 +1,12 @@
 pub use Rattle.bgpdump_lines.specs.Lines
 pub use Rattle.bgpdump_lines.specs.Run
+pub use Rattle.bgpdump_lines.specs.Flushing
 pub use Rattle.bgpdump_lines.specs.KnownOctets
-pub use Rattle.bgpdump_lines.specs.Going
+pub use Rattle.bgpdump_lines.specs.WrittenSoFar
 pub use Rattle.bgpdump_command_line.specs.CommandLine
 pub mod Script
 pub mod Replies
 pub mod Counts
 pub mod Meaning
 pub mod Course
-pub mod Carrying
+pub mod Execution

@@ -1,4 +1,4 @@
--- The lines of a script: commands, what each line asks for, and the report of one that is no command.
+-- The lines of a script: the commands that they spell, and the reports of those that are no commands.
 use Rattle.std.specs.Prelude.{◌≡◌, ℕ, ◌^◌, ◌<◌, ◌⊎◌, ◌==◌, List, [], ◌∷◌, decimal, codes, ◌≢◌, ◌++◌}
 use Rattle.std.specs.List.{slice_split}
 use Rattle.ip_prefix.specs.Network.{Address, Network}
@@ -8,104 +8,106 @@ use Rattle.bgpdump_tool.specs.declared.command.Command.{Command}
 use Rattle.bgpdump_tool.specs.declared.command.Command.TheVariants.{Next, Back, Goto, Position, Peers, Table, Route, Lookup, Lose, Forget}
 use Rattle.bgpdump_lines.specs.Lines.{space, line_feed}
 
--- ---- the lines of a script that spell commands
+-- ---- the words and the lines that spell commands
 
--- what stands before the marks in a text, between them and behind them, empty pieces too
-abbrev pub pieces : ℕ → List ℕ → List (List ℕ)
-pieces mark text = slice_split (λ octet. octet == mark) text
+-- The parts of a text before, between and after its marks, empty ones too: one more than there are marks.
+abbrev pub split_at_marks : ℕ → List ℕ → List (List ℕ)
+split_at_marks mark text = slice_split (λ octet. octet == mark) text
 
--- the decimal of a number of 32 bits, without leading zeros
+-- The word is the decimal of `n`, a number below 2^32, without leading zeros.
 abbrev pub SpellsDecimal : ℕ → List ℕ → Type 0
 SpellsDecimal n word = (n < 2 ^ 32) × (word ≡ decimal n)
 
--- a peer: its address, and its AS number in another word
+-- Two words spell a peer: the first its address, the second its AS number.
 abbrev pub SpellsPeer : List ℕ → Peer → List ℕ → Type 0
 SpellsPeer address peer number = SpellsAddress peer.addr address × SpellsDecimal peer.asn number
 
--- how often: at least once
-abbrev pub SpellsTimes : ℕ → List ℕ → Type 0
-SpellsTimes n word = (0 < n) × SpellsDecimal n word
+-- The word is the decimal of a number of steps, at least 1.
+abbrev pub SpellsStepCount : ℕ → List ℕ → Type 0
+SpellsStepCount n word = (0 < n) × SpellsDecimal n word
 
--- what stands behind a command's name: nothing; how often, unless it is once; a number; a peer; or a peer and what is sought in its table
+-- The arguments of a command: none; a number of steps, which may be left out if it is 1; a number; a peer; a
+-- peer and a prefix; or a peer and an address.
 pub data Arguments : Type 0 where
-  Alone : Arguments
+  NoArguments : Arguments
   Times : ℕ → Arguments
   Number : ℕ → Arguments
   OfPeer : Peer → Arguments
   SoughtPrefix : Peer → Network → Arguments
   SoughtAddress : Peer → Address → Arguments
 
--- a peer, and behind it something sought
+-- The words spell a peer, and then `value` in the way of `Spells`.
 abbrev pub SpellsSought : {A : Type 0} → (A → List ℕ → Type 0) → Peer → A → List (List ℕ) → Type 0
 SpellsSought Spells peer value words =
     (address number sought : List ℕ) × SpellsPeer address peer number × Spells value sought
     × (words ≡ address ∷ number ∷ sought ∷ [])
 
--- the words are these
+-- The words after a command's name spell these arguments.
 abbrev pub SpellsArguments : Arguments → List (List ℕ) → Type 0
-SpellsArguments Alone words = words ≡ []
+SpellsArguments NoArguments words = words ≡ []
 SpellsArguments (Times n) words =
-    ((n ≡ 1) × (words ≡ [])) ⊎ ((times : List ℕ) × SpellsTimes n times × (words ≡ times ∷ []))
+    ((n ≡ 1) × (words ≡ [])) ⊎ ((times : List ℕ) × SpellsStepCount n times × (words ≡ times ∷ []))
 SpellsArguments (Number n) words = (number : List ℕ) × SpellsDecimal n number × (words ≡ number ∷ [])
 SpellsArguments (OfPeer peer) words =
     (address number : List ℕ) × SpellsPeer address peer number × (words ≡ address ∷ number ∷ [])
 SpellsArguments (SoughtPrefix peer prefix) words = SpellsSought SpellsPrefix peer prefix words
 SpellsArguments (SoughtAddress peer address) words = SpellsSought SpellsAddress peer address words
 
--- the name of a command, and what stands behind it
-abbrev pub spelling : Command → List ℕ × Arguments
-spelling (Next n) = (codes "next", Times n)
-spelling (Back n) = (codes "back", Times n)
-spelling (Goto n) = (codes "goto", Number n)
-spelling Position = (codes "where", Alone)
-spelling Peers = (codes "peers", Alone)
-spelling (Table peer) = (codes "table", OfPeer peer)
-spelling (Route peer prefix) = (codes "route", SoughtPrefix peer prefix)
-spelling (Lookup peer address) = (codes "lookup", SoughtAddress peer address)
-spelling (Lose peer) = (codes "lose", OfPeer peer)
-spelling (Forget n) = (codes "forget", Number n)
+-- The name of a command in ASCII, and its arguments.
+abbrev pub name_and_arguments : Command → List ℕ × Arguments
+name_and_arguments (Next n) = (codes "next", Times n)
+name_and_arguments (Back n) = (codes "back", Times n)
+name_and_arguments (Goto n) = (codes "goto", Number n)
+name_and_arguments Position = (codes "where", NoArguments)
+name_and_arguments Peers = (codes "peers", NoArguments)
+name_and_arguments (Table peer) = (codes "table", OfPeer peer)
+name_and_arguments (Route peer prefix) = (codes "route", SoughtPrefix peer prefix)
+name_and_arguments (Lookup peer address) = (codes "lookup", SoughtAddress peer address)
+name_and_arguments (Lose peer) = (codes "lose", OfPeer peer)
+name_and_arguments (Forget n) = (codes "forget", Number n)
 
--- the words are those of the command
+-- The words spell the command: its name, and then its arguments.
 abbrev pub SpellsWords : Command → List (List ℕ) → Type 0
 SpellsWords command words =
-    (more : List (List ℕ)) × SpellsArguments (spelling command).1 more × (words ≡ (spelling command).0 ∷ more)
+    (more : List (List ℕ)) × SpellsArguments (name_and_arguments command).1 more × (words ≡ (name_and_arguments command).0 ∷ more)
 
--- the line spells the command: its words stand before, between and behind its spaces
+-- The line, without its line feed, spells the command: its words, one space apart, do.
 abbrev pub SpellsCommand : Command → List ℕ → Type 0
-SpellsCommand command line = SpellsWords command (pieces space line)
+SpellsCommand command line = SpellsWords command (split_at_marks space line)
 
 -- ---- the lines of a script, what each of them asks for, and the report of one that is no command
 
--- the lines of a script: what stands before its line feeds, between them and behind them. Behind a line feed at its end stands an empty line, which asks for nothing
+-- The lines of a script, without their line feeds. A script that ends with a line feed has an empty line
+-- after it, which asks for nothing.
 abbrev pub script_lines : List ℕ → List (List ℕ)
-script_lines script = pieces line_feed script
+script_lines script = split_at_marks line_feed script
 
--- what a line asks for
+-- What a line asks for.
 pub data Line : Type 0 where
-  -- nothing: it is empty
+  -- The line is empty.
   Empty : Line
-  -- what a command does
-  Asks : Command → Line
-  -- it is neither empty nor a command
+  -- The line spells this command.
+  HasCommand : Command → Line
+  -- The line is neither empty nor a command.
   NoCommand : Line
 
--- the octets of a line ask for this
+-- The octets of a line ask for this.
 abbrev pub IsLine : Line → List ℕ → Type 0
 IsLine Empty octets = octets ≡ []
-IsLine (Asks command) octets = SpellsCommand command octets
+IsLine (HasCommand command) octets = SpellsCommand command octets
 IsLine NoCommand octets = (octets ≢ []) × ((command : Command) → SpellsCommand command octets → ⊥)
 
--- the lines ask for these, one each
+-- The octets of each line ask for what `lines` has in its place, and there are as many.
 abbrev pub AreLines : List Line → List (List ℕ) → Type 0
 AreLines [] [] = Unit {0}
 AreLines [] (octets ∷ more) = ⊥
 AreLines (line ∷ lines) [] = ⊥
 AreLines (line ∷ lines) (octets ∷ more) = IsLine line octets × AreLines lines more
 
--- the lines of the script ask for these
+-- The lines of the script ask for these, one each.
 abbrev pub IsScript : List Line → List ℕ → Type 0
 IsScript lines script = AreLines lines (script_lines script)
 
--- the report of the line of this number, if it is no command
-abbrev pub line_report : ℕ → List ℕ
-line_report number = codes "bgpdump: script line " ++ (decimal number ++ codes ": bad command\n")
+-- The report of a line that is no command, where `number` counts lines from 1.
+abbrev pub bad_line_report : ℕ → List ℕ
+bad_line_report number = codes "bgpdump: script line " ++ (decimal number ++ codes ": bad command\n")

@@ -2,10 +2,10 @@
 //! script that isn't empty; read that first.
 
 ghost use Rattle.std.specs.Prelude.{◌∷◌, []};
-ghost use Rattle.bgp_wire.specs.Readers.{Finds};
-ghost use Rattle.bgpdump_tool.specs.Script.{SpellsCommand, SpellsWords, SpellsPeer, SpellsTimes};
+ghost use Rattle.bgp_wire.specs.Readers.{ParsesTo};
+ghost use Rattle.bgpdump_tool.specs.Script.{SpellsCommand, SpellsWords, SpellsPeer, SpellsStepCount};
 
-use crate::words::{is, read_number, split_first};
+use crate::words::{is, parse_number, split_once};
 use ip_prefix::{Addr, Prefix, SPACE};
 use mrt_wire::Peer;
 
@@ -37,26 +37,26 @@ pub enum Command {
 /// Parses a line of a script, without its line feed. Returns `None` if the line is no command; an
 /// empty one is none.
 pub fn read_command(line: &[u8]) -> Option<Command>
-    ensures { Finds SpellsCommand line.now result }
+    ensures { ParsesTo SpellsCommand line.now result }
 {
-    let Some((name, rest)) = split_first(line, SPACE) else {
-        return alone(line);
+    let Some((name, rest)) = split_once(line, SPACE) else {
+        return parse_bare_command(line);
     };
-    let Some((first, rest)) = split_first(rest, SPACE) else {
-        return with_one(name, rest);
+    let Some((first, rest)) = split_once(rest, SPACE) else {
+        return parse_with_one_argument(name, rest);
     };
-    let Some((second, rest)) = split_first(rest, SPACE) else {
-        return with_two(name, first, rest);
+    let Some((second, rest)) = split_once(rest, SPACE) else {
+        return parse_with_two_arguments(name, first, rest);
     };
-    match split_first(rest, SPACE) {
-        None => with_three(name, first, second, rest),
+    match split_once(rest, SPACE) {
+        None => parse_with_three_arguments(name, first, second, rest),
         Some(_) => None,
     }
 }
 
 /// Parses a command that consists of its name. Returns `None` if there is no such command.
-fn alone(name: &[u8]) -> Option<Command>
-    ensures { Finds SpellsWords (name.now ∷ []) result }
+fn parse_bare_command(name: &[u8]) -> Option<Command>
+    ensures { ParsesTo SpellsWords (name.now ∷ []) result }
 {
     if is(name, b"next") {
         Some(Command::Next(1))
@@ -73,17 +73,17 @@ fn alone(name: &[u8]) -> Option<Command>
 
 /// Parses a command of a name and an argument, a number. Returns `None` if there is no such
 /// command.
-fn with_one(name: &[u8], word: &[u8]) -> Option<Command>
-    ensures { Finds SpellsWords (name.now ∷ word.now ∷ []) result }
+fn parse_with_one_argument(name: &[u8], word: &[u8]) -> Option<Command>
+    ensures { ParsesTo SpellsWords (name.now ∷ word.now ∷ []) result }
 {
     if is(name, b"goto") {
-        Some(Command::Goto(read_number(word)?))
+        Some(Command::Goto(parse_number(word)?))
     } else if is(name, b"next") {
-        Some(Command::Next(read_times(word)?))
+        Some(Command::Next(parse_step_count(word)?))
     } else if is(name, b"back") {
-        Some(Command::Back(read_times(word)?))
+        Some(Command::Back(parse_step_count(word)?))
     } else if is(name, b"forget") {
-        Some(Command::Forget(read_number(word)?))
+        Some(Command::Forget(parse_number(word)?))
     } else {
         None
     }
@@ -91,10 +91,10 @@ fn with_one(name: &[u8], word: &[u8]) -> Option<Command>
 
 /// Parses a number of steps: a decimal number from 1 to 2^32 - 1, without sign or leading zeros.
 /// Returns `None` for any other word.
-fn read_times(word: &[u8]) -> Option<u32>
-    ensures { Finds SpellsTimes word.now result }
+fn parse_step_count(word: &[u8]) -> Option<u32>
+    ensures { ParsesTo SpellsStepCount word.now result }
 {
-    let number = read_number(word)?;
+    let number = parse_number(word)?;
     if number == 0 {
         return None;
     }
@@ -103,10 +103,10 @@ fn read_times(word: &[u8]) -> Option<u32>
 
 /// Parses a command of a name and two arguments, the address and the AS number of a peer. Returns
 /// `None` if there is no such command.
-fn with_two(name: &[u8], address: &[u8], number: &[u8]) -> Option<Command>
-    ensures { Finds SpellsWords (name.now ∷ address.now ∷ number.now ∷ []) result }
+fn parse_with_two_arguments(name: &[u8], address: &[u8], number: &[u8]) -> Option<Command>
+    ensures { ParsesTo SpellsWords (name.now ∷ address.now ∷ number.now ∷ []) result }
 {
-    let peer = read_peer(address, number)?;
+    let peer = parse_peer(address, number)?;
     if is(name, b"table") {
         Some(Command::Table(peer))
     } else if is(name, b"lose") {
@@ -118,10 +118,15 @@ fn with_two(name: &[u8], address: &[u8], number: &[u8]) -> Option<Command>
 
 /// Parses a command of a name and three arguments, the address and the AS number of a peer, and the
 /// prefix or the address that is `sought` in its table. Returns `None` if there is no such command.
-fn with_three(name: &[u8], address: &[u8], number: &[u8], sought: &[u8]) -> Option<Command>
-    ensures { Finds SpellsWords (name.now ∷ address.now ∷ number.now ∷ sought.now ∷ []) result }
+fn parse_with_three_arguments(
+    name: &[u8],
+    address: &[u8],
+    number: &[u8],
+    sought: &[u8],
+) -> Option<Command>
+    ensures { ParsesTo SpellsWords (name.now ∷ address.now ∷ number.now ∷ sought.now ∷ []) result }
 {
-    let peer = read_peer(address, number)?;
+    let peer = parse_peer(address, number)?;
     if is(name, b"route") {
         Some(Command::Route(peer, Prefix::parse(sought)?))
     } else if is(name, b"lookup") {
@@ -132,10 +137,10 @@ fn with_three(name: &[u8], address: &[u8], number: &[u8], sought: &[u8]) -> Opti
 }
 
 /// Parses a peer from its address and its AS number. Returns `None` if either is malformed.
-fn read_peer(address: &[u8], number: &[u8]) -> Option<Peer>
-    ensures { Finds (SpellsPeer address.now) number.now result }
+fn parse_peer(address: &[u8], number: &[u8]) -> Option<Peer>
+    ensures { ParsesTo (SpellsPeer address.now) number.now result }
 {
     let addr = Addr::parse(address)?;
-    let asn = read_number(number)?;
+    let asn = parse_number(number)?;
     Some(Peer { addr, asn })
 }

@@ -1,10 +1,10 @@
 //! Scripts that play MRT files (RFC 6396) forwards and backwards. The program calls [`run_play`]
-//! for `--play`; read `play.rt` first, then `carrying.rt`. What else the program needs is
+//! for `--play`; read `play.rt` first, then `execution.rt`. What else the program needs is
 //! re-exported from `bgpdump_command_line` and `bgpdump_lines`.
 #![tactic(auto)]
 
-mod carrying;
 mod command;
+mod execution;
 mod laws;
 mod play;
 mod replies;
@@ -13,8 +13,9 @@ mod words;
 
 pub use bgpdump_command_line::{Mode, STANDARD_INPUT, Settings, UsageFault, settings};
 pub use bgpdump_lines::{
-    OutFault, Outcome, Output, WriteOutput, line_numbers, put_all, put_lines, run_dump,
+    BufferedOutput, OutFault, Outcome, Output, WriteOutput, law_line_numbers, put_all, put_lines,
+    run_dump,
 };
 pub use command::{Command, read_command};
-pub use laws::{best_match, one_command, one_script, run_numbers};
+pub use laws::{law_best_match, law_one_command, law_one_script, law_run_numbers};
 pub use play::{LONGEST_SCRIPT, run_play};

@@ -1,21 +1,22 @@
 //! Running a script from its first line to its last. The program calls [`run_play`]; read that
-//! first, then `carry_line`, which executes one line.
+//! first, then `execute_line`, which executes one line.
 
 ghost use Rattle.std.specs.Prelude.{◌≡◌, ◌↔◌, ◌<◌, ◌≤◌, ◌+◌, ◌||◌, ℕ, List, false, IsTrue, length};
 ghost use Rattle.std.specs.Io.KnownBytes.{Consumes};
-ghost use Rattle.mrt_wire.specs.Results.{start_place, Took};
+ghost use Rattle.mrt_wire.specs.Results.{start_state, TakesFront};
 ghost use Rattle.rib_player.specs.Timeline.{fresh};
-ghost use Rattle.bgpdump_lines.specs.declared.dump.TheConstants.{LIMIT};
-ghost use Rattle.bgpdump_lines.specs.Going.{is_read_fault, is_write_fault};
-ghost use Rattle.bgpdump_lines.specs.Run.{IsTaken, OverDevices, outputs_of};
-ghost use Rattle.bgpdump_tool.specs.Course.{PlaysOnOctets, PlaysOverAll, BeganLines, WritesCut, TakesOnlyWanted};
-ghost use Rattle.bgpdump_tool.specs.Carrying.{HasRoom, OverScenes, CarriesLine, PlaysLines};
+ghost use Rattle.bgpdump_lines.specs.declared.dump.TheConstants.{INPUT_LIMIT};
+ghost use Rattle.bgpdump_lines.specs.Flushing.{AreFlushed, LeavesFlushed};
+ghost use Rattle.bgpdump_lines.specs.WrittenSoFar.{is_read_fault, is_write_fault};
+ghost use Rattle.bgpdump_lines.specs.Run.{IsTaken, HoldsForDevices, outputs_of};
+ghost use Rattle.bgpdump_tool.specs.Course.{ScriptEndsOnOctets, ScriptEndsSo, HasBegunLines, WritesCut, TakesOnlyWanted};
+ghost use Rattle.bgpdump_tool.specs.Execution.{HasRoom, HoldsForRunStates, ExecutesLine, ExecutesLines};
 
-use crate::carrying::carry_out;
 use crate::command::read_command;
-use crate::replies::write_numbers;
+use crate::execution::execute_command;
+use crate::replies::write_labelled_numbers;
 use crate::session::Session;
-use crate::words::split_first;
+use crate::words::split_once;
 use bgpdump_lines::{Outcome, Output, finish_outputs};
 use mrt_wire::{Input, Route, Stamp};
 use prefix_store::PrefixStore;
@@ -27,8 +28,8 @@ pub const LONGEST_SCRIPT: usize = 1 << 20;
 
 /// Runs `script` over an input of MRT records (RFC 6396), on a new player with stores of type `S`.
 /// Replies go to `out`, reports of faulty records and bad lines to `err`, each before the next
-/// record or line is read. Records that no command wants aren't read. If the run ends without a
-/// fault, `out` and then `err` are finished. A script of more than 1,048,576 octets isn't run.
+/// record or line is read, and both are flushed before a read that may wait. Records that no
+/// command wants aren't read. If the run ends without a fault, `out` and then `err` are finished. A script of more than 1,048,576 octets isn't run.
 pub fn run_play<S: PrefixStore<Rc<Route>>, I: Input, O: Output, E: Output>(
     alloc: Global,
     input: &mut I,
@@ -43,28 +44,28 @@ pub fn run_play<S: PrefixStore<Rc<Route>>, I: Input, O: Output, E: Output>(
 
     // If the input shows its octets, the texts of the script over them are written, or prefixes of
     // these texts.
-    ensures octets { PlaysOnOctets stamp script.now result (I.left input.old)
+    ensures octets { ScriptEndsOnOctets stamp script.now result (I.left input.old)
         (outputs_of O.written E.written out.old err.old)
         (outputs_of O.written E.written out.new err.new) }
 
     // The texts of the script over the whole input are written, or prefixes of them, whatever
     // octets may follow those taken. None follow if the run has met the end of the input.
-    ensures text { OverDevices I.left O.written E.written
-        (PlaysOverAll stamp script.now result)
+    ensures text { HoldsForDevices I.left O.written E.written
+        (ScriptEndsSo stamp script.now result)
         (input.old, out.old, err.old) (input.new, out.new, err.new) }
 
     // A run that is out of memory, or whose output fails, has executed some of the lines, and may
     // have begun the next one. The texts of the former are written, and a prefix of what the latter
     // adds, whatever octets may follow those taken. None follow if these lines have met the end of
     // the input.
-    ensures began { OverDevices I.left O.written E.written
-        (BeganLines stamp script.now result)
+    ensures began { HoldsForDevices I.left O.written E.written
+        (HasBegunLines stamp script.now result)
         (input.old, out.old, err.old) (input.new, out.new, err.new) }
 
     // A run that ends as the input fails or is too long has written what the whole records taken
     // give: the replies to the commands that it completed, and the reports of faulty records and of
     // bad lines before.
-    ensures whole_records { OverDevices I.left O.written E.written
+    ensures whole_records { HoldsForDevices I.left O.written E.written
         (WritesCut stamp script.now result)
         (input.old, out.old, err.old) (input.new, out.new, err.new) }
 
@@ -72,6 +73,10 @@ pub fn run_play<S: PrefixStore<Rc<Route>>, I: Input, O: Output, E: Output>(
     // all that the octets give; where the input fails or is too long, a command wanted more.
     ensures wanted { TakesOnlyWanted stamp script.now result
         (I.left input.old) (I.left input.new) }
+
+    // No reply waits: of outputs that tell what they hold back, nothing is held back at the end,
+    // nor where a read failed, as any read may that asks the device.
+    ensures flushed { LeavesFlushed result (O.pending out.new) (E.pending err.new) }
 
     // At most 2^40 octets are taken: whole records, and then the octets after them, but none after
     // a header with a length that is too great.
@@ -84,7 +89,7 @@ pub fn run_play<S: PrefixStore<Rc<Route>>, I: Input, O: Output, E: Output>(
     ensures write_fault { (result ≡ Outcome.WriteFault)
         ↔ IsTrue (O.failed out.new || E.failed err.new) }
     ensures too_long { result ≡ Outcome.InputTooLong → (taken after : List ℕ) →
-        Took (I.left input.old) (I.left input.new) taken after → length taken ≡ LIMIT }
+        TakesFront (I.left input.old) (I.left input.new) taken after → length taken ≡ INPUT_LIMIT }
     ensures script_too_long { (result ≡ Outcome.ScriptTooLong)
         ↔ (LONGEST_SCRIPT < length script.now) }
     ensures untouched { result ≡ Outcome.ScriptTooLong →
@@ -94,7 +99,7 @@ pub fn run_play<S: PrefixStore<Rc<Route>>, I: Input, O: Output, E: Output>(
         return Outcome::ScriptTooLong;
     }
     let mut session: Session<S> = Session::new(alloc, stamp);
-    match play_lines(&mut session, input, script, out, err) {
+    match execute_lines(&mut session, input, script, out, err) {
         Ok(()) => {
             let outcome = finish_outputs(out, err, session.reported);
             session.end();
@@ -109,7 +114,7 @@ pub fn run_play<S: PrefixStore<Rc<Route>>, I: Input, O: Output, E: Output>(
 
 /// Executes the lines of `script` in order, counted from 1. Fails with the outcome of the first
 /// line that ends the run.
-fn play_lines<S: PrefixStore<Rc<Route>>, I: Input, O: Output, E: Output>(
+fn execute_lines<S: PrefixStore<Rc<Route>>, I: Input, O: Output, E: Output>(
     session: &mut Session<S>,
     input: &mut I,
     script: &[u8],
@@ -118,28 +123,30 @@ fn play_lines<S: PrefixStore<Rc<Route>>, I: Input, O: Output, E: Output>(
 ) -> Result<(), Outcome>
     requires short { length script.now ≤ LONGEST_SCRIPT }
     requires player { session.old.player ≡ fresh }
-    requires source { session.old.source ≡ start_place session.old.source.stamp LIMIT }
+    requires source { session.old.source ≡ start_state session.old.source.stamp INPUT_LIMIT }
     requires reported { session.old.reported ≡ false }
-    ensures plays { OverScenes I.left O.written E.written (PlaysLines script.now)
+    ensures plays { HoldsForRunStates I.left O.written E.written (ExecutesLines script.now)
         (session.old, input.old, out.old, err.old)
         (session.new, input.new, out.new, err.new) result }
     ensures read { I.failed input.new ≡ (I.failed input.old || is_read_fault result) }
     ensures wrote { (O.failed out.new || E.failed err.new)
         ≡ (O.failed out.old || E.failed err.old || is_write_fault result) }
+    ensures flushed { IsTrue (is_read_fault result) →
+        AreFlushed (O.pending out.new) (E.pending err.new) }
 {
     let mut rest = script;
     let mut number: u64 = 1;
-    'lines: while let Some(found) = split_first(rest, b'\n') {
-        carry_line(session, input, found.0, number, out, err)?;
+    'lines: while let Some(found) = split_once(rest, b'\n') {
+        execute_line(session, input, found.0, number, out, err)?;
         number += 1;
         rest = found.1;
     }
-    carry_line(session, input, rest, number, out, err)
+    execute_line(session, input, rest, number, out, err)
 }
 
 /// Executes a line of a script: its command, or nothing if it is empty. Reports a line that is
 /// neither to `err`, with its `number`, counted from 1. Fails with the outcome that ends the run.
-fn carry_line<S: PrefixStore<Rc<Route>>, I: Input, O: Output, E: Output>(
+fn execute_line<S: PrefixStore<Rc<Route>>, I: Input, O: Output, E: Output>(
     session: &mut Session<S>,
     input: &mut I,
     line: &[u8],
@@ -148,7 +155,7 @@ fn carry_line<S: PrefixStore<Rc<Route>>, I: Input, O: Output, E: Output>(
     err: &mut E,
 ) -> Result<(), Outcome>
     requires room { HasRoom session.old.player session.old.source LONGEST_SCRIPT }
-    ensures carries_line { OverScenes I.left O.written E.written (CarriesLine line.now number)
+    ensures carries_line { HoldsForRunStates I.left O.written E.written (ExecutesLine line.now number)
         (session.old, input.old, out.old, err.old)
         (session.new, input.new, out.new, err.new) result }
     ensures room { (lost : ℕ) → HasRoom session.old.player session.old.source lost →
@@ -156,16 +163,18 @@ fn carry_line<S: PrefixStore<Rc<Route>>, I: Input, O: Output, E: Output>(
     ensures read { I.failed input.new ≡ (I.failed input.old || is_read_fault result) }
     ensures wrote { (O.failed out.new || E.failed err.new)
         ≡ (O.failed out.old || E.failed err.old || is_write_fault result) }
+    ensures flushed { IsTrue (is_read_fault result) →
+        AreFlushed (O.pending out.new) (E.pending err.new) }
 {
     if line.is_empty() {
         return Ok(());
     }
     match read_command(line) {
-        Some(command) => carry_out(session, input, out, err, command),
+        Some(command) => execute_command(session, input, out, err, command),
         None => {
             session.reported = true;
             let numbers: [(&[u8], u64); 1] = [(b"bgpdump: script line ", number)];
-            write_numbers(&numbers, b": bad command\n", err, &mut session.text)?;
+            write_labelled_numbers(&numbers, b": bad command\n", err, &mut session.text)?;
             Ok(())
         }
     }

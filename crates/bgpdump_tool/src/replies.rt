@@ -1,29 +1,29 @@
-//! Writing the replies to commands, and the reports of bad lines. `play.rt`, `carrying.rt` and the
-//! files of `carrying` call these functions; read [`write_numbers`] first.
+//! Writing the replies to commands, and the reports of bad lines. `play.rt`, `execution.rt` and the
+//! files of `execution` call these functions; read [`write_labelled_numbers`] first.
 
 ghost use Rattle.std.specs.Prelude.{◌≡◌, ◌||◌, map};
-ghost use Rattle.bgpdump_lines.specs.Going.{outcome_result, Puts, is_write};
-ghost use Rattle.bgpdump_tool.specs.Replies.{at_text, none_text, numbers_text};
+ghost use Rattle.bgpdump_lines.specs.WrittenSoFar.{with_outcome_error, Puts, is_output_fault};
+ghost use Rattle.bgpdump_tool.specs.Replies.{at_text, none_text, labelled_numbers_text};
 
 use bgpdump_lines::{Outcome, Output, WriteFault, put_all};
 use ip_prefix::Text;
 
 /// Writes each word to `out` with the number after it, in decimal, and then `ending`. Overwrites
 /// `text`. Fails if `out` or memory allocation fails; a prefix may be written then.
-pub(crate) fn write_numbers<O: Output>(
+pub(crate) fn write_labelled_numbers<O: Output>(
     numbers: &[(&[u8], u64)],
     ending: &[u8],
     out: &mut O,
     text: &mut Text,
 ) -> Result<(), WriteFault>
     ensures text { Puts (O.written out.old) (O.written out.new)
-        (numbers_text (map (λ part. (part.0.now, part.1)) numbers.now) ending.now) result }
-    ensures failed { O.failed out.new ≡ (O.failed out.old || is_write result) }
+        (labelled_numbers_text (map (λ part. (part.0.now, part.1)) numbers.now) ending.now) result }
+    ensures failed { O.failed out.new ≡ (O.failed out.old || is_output_fault result) }
 {
     text.clear();
     'numbers: for (word, number) in numbers {
         text.extend_from_slice(word)?;
-        text.put_long_decimal(*number)?;
+        text.put_decimal_u64(*number)?;
     }
     text.extend_from_slice(ending)?;
     put_all(out, text.as_slice())?;
@@ -31,7 +31,7 @@ pub(crate) fn write_numbers<O: Output>(
 }
 
 /// Writes to `out` the reply `at` with the position of the player, and with `end` if `ended`, that
-/// is if the command met the end of the input. Overwrites `text`. Fails as [`write_numbers`] does.
+/// is if the command met the end of the input. Overwrites `text`. Fails as [`write_labelled_numbers`] does.
 pub(crate) fn write_position<O: Output>(
     position: u64,
     ended: bool,
@@ -39,18 +39,18 @@ pub(crate) fn write_position<O: Output>(
     text: &mut Text,
 ) -> Result<(), WriteFault>
     ensures text { Puts (O.written out.old) (O.written out.new) (at_text position ended) result }
-    ensures failed { O.failed out.new ≡ (O.failed out.old || is_write result) }
+    ensures failed { O.failed out.new ≡ (O.failed out.old || is_output_fault result) }
 {
     if ended {
-        return write_numbers(&[(b"at ", position)], b" end\n", out, text);
+        return write_labelled_numbers(&[(b"at ", position)], b" end\n", out, text);
     }
-    write_numbers(&[(b"at ", position)], b"\n", out, text)
+    write_labelled_numbers(&[(b"at ", position)], b"\n", out, text)
 }
 
 /// Writes to `out` the reply `none`, for a question that finds nothing. Fails if `out` fails.
 pub(crate) fn write_none<O: Output>(out: &mut O) -> Result<(), WriteFault>
     ensures text { Puts (O.written out.old) (O.written out.new) none_text result }
-    ensures failed { O.failed out.new ≡ (O.failed out.old || is_write result) }
+    ensures failed { O.failed out.new ≡ (O.failed out.old || is_output_fault result) }
 {
     put_all(out, b"none\n")?;
     Ok(())
@@ -59,7 +59,7 @@ pub(crate) fn write_none<O: Output>(out: &mut O) -> Result<(), WriteFault>
 /// Converts the result of writing a reply into the result of a command, whose error is the outcome
 /// that ends the run.
 pub(crate) fn replied(reply: Result<(), WriteFault>) -> Result<(), Outcome>
-    ensures { result ≡ outcome_result reply }
+    ensures { result ≡ with_outcome_error reply }
 {
     Ok(reply?)
 }

@@ -1,16 +1,18 @@
 //! The state of a run of a script, and its steps forward. `play.rt` makes a [`Session`] for each
-//! run, and the commands of `carrying.rt` act on it; read [`Session::step`] first.
+//! run, and the commands of `execution.rt` act on it; read [`Session::step`] first.
 
-ghost use Rattle.std.specs.Prelude.{◌≡◌, ◌<◌, ◌+◌, ◌||◌, ℕ, false, IfOk, is_err};
+ghost use Rattle.std.specs.Prelude.{◌≡◌, ◌<◌, ◌+◌, ◌||◌, ℕ, false, IfOk, OnOk, IsTrue, is_err};
 ghost use Rattle.std.specs.Io.KnownBytes.{Keeps};
 ghost use Rattle.rib_player.specs.Timeline.{ahead_of, fresh};
-ghost use Rattle.mrt_wire.specs.Results.{start_place};
-ghost use Rattle.bgpdump_lines.specs.declared.dump.TheConstants.{LIMIT};
-ghost use Rattle.bgpdump_lines.specs.Going.{is_read_fault, is_write_fault};
+ghost use Rattle.mrt_wire.specs.Results.{start_state};
+ghost use Rattle.mrt_wire.specs.declared.next.Phase.{Phase};
+ghost use Rattle.bgpdump_lines.specs.Flushing.{AreFlushed, IsReadyToRead};
+ghost use Rattle.bgpdump_lines.specs.declared.dump.TheConstants.{INPUT_LIMIT};
+ghost use Rattle.bgpdump_lines.specs.WrittenSoFar.{is_read_fault, is_write_fault};
 ghost use Rattle.bgpdump_tool.specs.declared.play.TheConstants.{LONGEST_SCRIPT};
-ghost use Rattle.bgpdump_tool.specs.Carrying.{HasRoom, scene_of, Steps};
+ghost use Rattle.bgpdump_tool.specs.Execution.{HasRoom, run_state_from_devices, Steps};
 
-use bgpdump_lines::{LIMIT, OutFault, Outcome, Output, pass_on_before_waiting, write_report};
+use bgpdump_lines::{INPUT_LIMIT, OutFault, Outcome, Output, flush_before_waiting, write_report};
 use ip_prefix::Text;
 use mrt_wire::{Input, Next, Route, Source, Stamp};
 use prefix_store::PrefixStore;
@@ -39,30 +41,29 @@ impl<S: PrefixStore<Rc<Route>>> Session<S> {
     /// selects the time that the routes of tables get.
     pub(crate) fn new(alloc: Global, stamp: Stamp) -> Self
         ensures player { result.player ≡ fresh }
-        ensures source { result.source ≡ start_place stamp LIMIT }
+        ensures source { result.source ≡ start_state stamp INPUT_LIMIT }
         ensures reported { result.reported ≡ false }
     {
         Session {
             alloc,
             player: Player::new(alloc),
-            source: Source::new(alloc, stamp, LIMIT),
+            source: Source::new(alloc, stamp, INPUT_LIMIT),
             reported: false,
             text: Text::new(alloc),
         }
     }
 
     /// Drops the state at the end of a run, or leaks it if the stores leave their memory to the
-    /// system (`PrefixStore::is_left`).
+    /// system (`PrefixStore::leaks_on_drop`).
     pub(crate) fn end(self) {
-        if S::is_left() {
+        if S::leaks_on_drop() {
             mem::forget(self);
         }
     }
 
     /// Flushes `out` and `err` before the next record is waited for. Does nothing if the source
-    /// reads no more, if `input` has the whole record buffered, or if it can't say what it has
-    /// buffered.
-    fn pass_on<I: Input, O: Output, E: Output>(
+    /// reads no more, or if `input` has the whole record buffered.
+    fn flush_before_record<I: Input, O: Output, E: Output>(
         &self,
         input: &I,
         out: &mut O,
@@ -70,11 +71,13 @@ impl<S: PrefixStore<Rc<Route>>> Session<S> {
     ) -> Result<(), OutFault>
         ensures out { Keeps (O.written out.old) (O.written out.new) }
         ensures err { Keeps (E.written err.old) (E.written err.new) }
+        ensures flushed { OnOk result (self.now.source.phase ≡ Phase.Reading →
+            IsReadyToRead (I.buffered input.now) (O.pending out.new) (E.pending err.new)) }
         ensures failed { (O.failed out.new || E.failed err.new)
             ≡ (O.failed out.old || E.failed err.old || is_err result) }
     {
         if self.source.is_reading() {
-            return pass_on_before_waiting(input, out, err);
+            return flush_before_waiting(input, out, err);
         }
         Ok(())
     }
@@ -90,8 +93,8 @@ impl<S: PrefixStore<Rc<Route>>> Session<S> {
     ) -> Result<bool, Outcome>
         requires room { HasRoom self.old.player self.old.source LONGEST_SCRIPT }
         ensures steps { Steps
-            (scene_of I.left E.written self.old input.old err.old)
-            (scene_of I.left E.written self.new input.new err.new) result }
+            (run_state_from_devices I.left E.written self.old input.old err.old)
+            (run_state_from_devices I.left E.written self.new input.new err.new) result }
         ensures room { (lost : ℕ) → HasRoom self.old.player self.old.source lost →
             HasRoom self.new.player self.new.source lost }
         ensures smaller { IfOk result (λ ended. ended ≡ false →
@@ -101,16 +104,18 @@ impl<S: PrefixStore<Rc<Route>>> Session<S> {
         ensures read { I.failed input.new ≡ (I.failed input.old || is_read_fault result) }
         ensures wrote { (O.failed out.new || E.failed err.new)
             ≡ (O.failed out.old || E.failed err.old || is_write_fault result) }
+        ensures flushed { IsTrue (is_read_fault result) →
+            AreFlushed (O.pending out.new) (E.pending err.new) }
     {
         if self.player.redo().is_ok() {
             return Ok(false);
         }
-        self.pass_on(input, out, err)?;
+        self.flush_before_record(input, out, err)?;
         match self.source.next(input)? {
             Next::Event(event) => {
                 self.player.play(&event).map_err(|_| Outcome::Memory)?;
-                self.source.take_back(Next::Event(event));
-                self.player.give_back_routes();
+                self.source.recycle(Next::Event(event));
+                self.player.drop_unused_routes();
                 Ok(false)
             }
             Next::Bad(fault) => {

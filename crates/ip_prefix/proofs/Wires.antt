@@ -5,7 +5,7 @@ use Rattle.ip_prefix.specs.declared.addr.Family.{Family}
 use Rattle.ip_prefix.specs.Network.{bit_count, Network, SpellsNetwork}
 use Rattle.ip_prefix.specs.Bits.{bits_of, bits_of_octets}
 use Rattle.octet_forms.specs.Sequences.{Begins}
-use Rattle.octet_forms.specs.Fronts.{IsCode}
+use Rattle.octet_forms.specs.Fronts.{IsSelfDelimiting}
 use Rattle.ip_prefix.proofs.BitLists.{take-bits_of}
 use Rattle.octet_forms.proofs.Lists.{append_parts}
 use Rattle.ip_prefix.proofs.Masks.{first_bits}
@@ -22,7 +22,7 @@ begun : (kind : Family) (n : Network) (rest octets : List ℕ) (b : Begins (Spel
 begun kind n rest octets b = b.whole ∙ ap (λ front. front ++ rest) b.spelled.whole
 
 -- no prefix is spelled by nothing, and no octets begin with spellings of two
-pub network_code : (kind : Family) → IsCode (SpellsNetwork kind)
+pub network_code : (kind : Family) → IsSelfDelimiting (SpellsNetwork kind)
 network_code kind = record { some = some; same = same }
   where
     some : (n : Network) → SpellsNetwork kind n [] → ⊥

@@ -1,5 +1,6 @@
 -- Private.
--- Families, addresses and prefixes as plain data, which the values of types above are made of.
+-- Families, addresses and prefixes as plain data (`Coded`): a code of each, from which types that contain
+-- them make theirs.
 use Rattle.std.specs.Prelude.{◌≡◌, Bool, true, false, List, refl}
 use Rattle.std.specs.Coded.{Coded, code_by, coded×, coded_bool, coded_list}
 use Rattle.ip_prefix.specs.declared.addr.Family.{Family}
@@ -7,27 +8,27 @@ use Rattle.ip_prefix.specs.declared.addr.Family.TheVariants.{V4, V6}
 use Rattle.ip_prefix.specs.Network.{Address, Network}
 use Rattle.ip_prefix.specs.Turns.{family_bit}
 
--- the family of a bit
+-- the family whose `family_bit` this is
 abbrev family_of : Bool → Family
 family_of false = V4
 family_of true = V6
 
--- the bit tells the family
+-- a family is the one of its bit
 abbrev family_again : (family : Family) → family_of (family_bit family) ≡ family
 family_again V4 = refl
 family_again V6 = refl
 
--- a family as its bit
+-- families are coded by their bit
 abbrev pub coded_family : Coded Family
 coded_family = code_by Bool coded_bool family_bit family_of family_again
 
--- an address as its family and its bits
+-- addresses are coded by their family and their bits
 abbrev pub coded_address : Coded Address
 coded_address =
     code_by (Family × List Bool) (coded× coded_family (coded_list coded_bool))
     (λ a. (a.family, a.bits)) (λ p. record { family = p.0; bits = p.1 }) (λ _. refl)
 
--- a prefix as its family and its bits
+-- prefixes are coded by their family and their bits
 abbrev pub coded_network : Coded Network
 coded_network =
     code_by (Family × List Bool) (coded× coded_family (coded_list coded_bool))

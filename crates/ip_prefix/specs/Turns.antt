@@ -1,5 +1,5 @@
 -- Private.
--- Prefixes that contain what others contain, and prefixes as ways from a root.
+-- Prefixes that cover others, and where a prefix lies as seen from another (`Turn`).
 use Rattle.std.specs.Prelude.{Bool, ◌&&◌, IsTrue, true, false, cond, List, [], ◌∷◌, ◌++◌}
 use Rattle.ip_prefix.specs.Network.{Address, IsAddress, Network, same_family, begin_with, contains, same_bit}
 use Rattle.ip_prefix.specs.declared.addr.Family.{Family}
@@ -7,28 +7,29 @@ use Rattle.ip_prefix.specs.declared.addr.Family.TheVariants.{V4, V6}
 use Rattle.ip_prefix.specs.declared.turn.Turn.{Turn}
 use Rattle.ip_prefix.specs.declared.turn.Turn.TheVariants.{Outside, Here, Left, Right}
 
--- ---- prefixes that contain what others contain
+-- ---- covering
 
--- whether the other prefix is of the same family and begins with the bits of this one
+-- whether `other` is of the family of `n` and begins with its bits; so each prefix covers itself
 abbrev pub covers : Network → Network → Bool
 covers n other = same_family n.family other.family && begin_with n.bits other.bits
 
--- each address that the other prefix contains is contained in the first too
+-- each address that `other` contains is contained in `n` too
 abbrev pub ContainsAllOf : Network → Network → Type 0
 ContainsAllOf n other = (a : Address) → IsAddress a → IsTrue (contains other a) → IsTrue (contains n a)
 
--- ---- prefixes as ways from a root, where one lies, seen from another, and what two share
+-- ---- prefixes as paths from a root, and where one lies as seen from another
 
--- the family as a bit
+-- the family as a bit: 0 for IPv4, 1 for IPv6
 abbrev pub family_bit : Family → Bool
 family_bit V4 = false
 family_bit V6 = true
 
--- the way to a prefix from a root above both families: the family's bit, and then its own
+-- the path to a prefix in a binary tree of both families: the bit of its family, and then its bits
 unfoldable pub way : Network → List Bool
 way n = family_bit n.family ∷ n.bits
 
--- where a way goes, seen from the end of another: elsewhere, there, or on by a 0 or a 1
+-- where the second path goes as seen from the end of the first: `Here` if it ends there, `Left` or `Right` if
+-- it goes on from there by a 0 or a 1, and `Outside` if it doesn't begin with the first
 abbrev pub turn_of : List Bool → List Bool → Turn
 turn_of [] [] = Here
 turn_of [] (false ∷ bits) = Left
@@ -36,21 +37,21 @@ turn_of [] (true ∷ bits) = Right
 turn_of (first ∷ more) [] = Outside
 turn_of (first ∷ more) (bit ∷ bits) = cond (same_bit first bit) (turn_of more bits) Outside
 
--- the turn by a bit
+-- the turn of a path that goes on by this bit
 abbrev pub side : Bool → Turn
 side false = Left
 side true = Right
 
--- the bits that both begin with
+-- the longest list of bits with which both lists begin
 abbrev pub shared : List Bool → List Bool → List Bool
 shared [] bits = []
 shared (first ∷ more) [] = []
 shared (first ∷ more) (bit ∷ bits) = cond (same_bit first bit) (first ∷ shared more bits) []
 
--- the half of a prefix whose addresses go on by the bit
+-- the prefix of one bit more, whose last bit is `bit`
 abbrev pub half : Network → Bool → Network
 half n bit = record { family = n.family; bits = n.bits ++ bit ∷ [] }
 
--- the prefix of the bits that both begin with
+-- the longest prefix that covers both, if they are of one family
 abbrev pub common : Network → Network → Network
 common m n = record { family = m.family; bits = shared m.bits n.bits }

@@ -1,4 +1,4 @@
-//! Addresses of IPv4 and IPv6. Peers and next hops are addresses, and `prefix.rt` makes prefixes of
+//! IPv4 and IPv6 addresses. Peers and next hops are addresses, and `prefix.rt` makes prefixes of
 //! them. Read [`Addr`] first.
 
 ghost use Rattle.std.specs.Prelude.{◌≡◌, ◌*◌, ◌+◌, ◌<◌, ◌≤◌, Some, slice_get, refl};
@@ -9,7 +9,7 @@ ghost use Rattle.std.specs.Ordering.{eq_by_cmp, as_partial_cmp};
 ghost use Rattle.std.specs.Cmp.{partial_equiv_from_equiv, eq_by_cmp_equiv, partial_order_from_total};
 ghost use Rattle.ip_prefix.specs.OrderLaws.{address_cmp_total};
 
-use crate::number::{NUMBER_BITS, Number};
+use crate::number::{NUMBER_BITS, U128Halves};
 use std::cmp::Ordering;
 use std::marker::Model;
 
@@ -35,7 +35,7 @@ pub(crate) const GROUP_BITS: usize = 16;
 /// The number of groups of an IPv6 address.
 pub(crate) const GROUP_COUNT: usize = 8;
 
-/// The family of an address or a prefix. IPv4 is ordered before IPv6.
+/// The family of an address or a prefix. `V4` is ordered before `V6`.
 #[derive(Clone, Copy, Debug, PartialEq, Eq, PartialOrd, Ord)]
 pub enum Family {
     /// IPv4, whose addresses have 32 bits (RFC 791).
@@ -45,7 +45,7 @@ pub enum Family {
 }
 
 impl Family {
-    /// Returns the number of bits of an address of the family.
+    /// Returns the number of bits of an address of the family: 32 or 128.
     #[inline]
     pub fn width(self) -> u8
         ensures { result ≡ bit_count self }
@@ -62,14 +62,14 @@ impl Family {
 pub struct Addr {
     // The bits of the address are the highest of the number, for either family, and the bits below
     // are 0. So masks and comparisons are single operations.
-    number: Number,
+    number: U128Halves,
     family: Family,
 }
 
 impl Model for Addr {
     ghost use Rattle.ip_prefix.specs.Network.{Address, bit_count};
     ghost use Rattle.ip_prefix.specs.Bits.{highest_bits};
-    ghost use Rattle.ip_prefix.specs.Kept.{number_from, IsAligned, number-again};
+    ghost use Rattle.ip_prefix.specs.Kept.{number_with_high_bits, IsAligned, number-again};
 
     ghost Value = { Address };
 
@@ -81,7 +81,7 @@ impl Model for Addr {
     ghost invariant = { λ a. IsAligned a.family a.number };
 
     ghost inverse = { λ a. record {
-      number = number_from (bit_count a.family) a.bits;
+      number = number_with_high_bits (bit_count a.family) a.bits;
       family = a.family;
     } };
 
@@ -92,33 +92,33 @@ impl Model for Addr {
 }
 
 impl Addr {
-    /// Returns the IPv4 address of these octets, the most significant first.
+    /// Returns the IPv4 address of `octets`, the most significant first.
     #[inline]
     pub fn v4(octets: [u8; V4_OCTETS]) -> Self
         ensures { result ≡ record { family = Family.V4; bits = bits_of_octets octets } }
     {
         let number = u128::from(u32::from_be_bytes(octets)) << (NUMBER_BITS - V4_BITS);
         Addr {
-            number: Number::new(number),
+            number: U128Halves::new(number),
             family: Family::V4,
         }
     }
 
-    /// Returns the IPv6 address of these octets, the most significant first.
+    /// Returns the IPv6 address of `octets`, the most significant first.
     #[inline]
     pub fn v6(octets: [u8; V6_OCTETS]) -> Self
         ensures { result ≡ record { family = Family.V6; bits = bits_of_octets octets } }
     {
         Addr {
-            number: Number::new(u128::from_be_bytes(octets)),
+            number: U128Halves::new(u128::from_be_bytes(octets)),
             family: Family::V6,
         }
     }
 
-    /// Returns the address of `family` whose bits are the highest of `number`. The bits below must
-    /// be 0.
+    /// Returns the address of `family` whose bits are the highest of `number`. The bits of `number`
+    /// below them must be 0.
     #[inline]
-    pub(crate) fn aligned(number: u128, family: Family) -> Self
+    pub(crate) fn from_high_bits(number: u128, family: Family) -> Self
         requires { IsAligned family number }
         ensures { result ≡ record {
           family = family;
@@ -126,12 +126,12 @@ impl Addr {
         } }
     {
         Addr {
-            number: Number::new(number),
+            number: U128Halves::new(number),
             family,
         }
     }
 
-    /// Returns a number whose highest bits are those of the address. The bits below are 0.
+    /// Returns the address as a number: its bits are the highest, and the bits below them are 0.
     #[inline]
     pub(crate) fn number(&self) -> u128
         ensures aligned { IsAligned self.now.family result }
@@ -149,33 +149,35 @@ impl Addr {
         self.family
     }
 
-    /// Returns the octet at index `place`, counted from 0 at the most significant.
+    /// Returns the octet at index `index`, where 0 is the most significant. `index` must be below 4
+    /// for IPv4, and below 16 for IPv6.
     #[inline]
-    pub fn octet(&self, place: usize) -> u8
-        requires { place < octet_count self.now.family }
-        ensures { result ≡ octet_at self.now place }
+    pub fn octet(&self, index: usize) -> u8
+        requires { index < octet_count self.now.family }
+        ensures { result ≡ octet_at self.now index }
     {
-        (self.number.get() >> (NUMBER_BITS as usize - OCTET_BITS - OCTET_BITS * place) & 0xff) as u8
+        (self.number.get() >> (NUMBER_BITS as usize - OCTET_BITS - OCTET_BITS * index) & 0xff) as u8
     }
 
-    /// Returns the 16-bit group at index `place`, counted from 0 at the most significant.
+    /// Returns the 16-bit group at index `index`, where 0 is the most significant. `index` must be
+    /// below 2 for IPv4, and below 8 for IPv6.
     #[inline]
-    pub(crate) fn group(&self, place: usize) -> u16
-        requires { GROUP_BITS * place + GROUP_BITS ≤ bit_count self.now.family }
-        ensures { result ≡ group_at self.now place }
+    pub(crate) fn group(&self, index: usize) -> u16
+        requires { GROUP_BITS * index + GROUP_BITS ≤ bit_count self.now.family }
+        ensures { result ≡ group_at self.now index }
     {
-        (self.number.get() >> (NUMBER_BITS as usize - GROUP_BITS - GROUP_BITS * place)
+        (self.number.get() >> (NUMBER_BITS as usize - GROUP_BITS - GROUP_BITS * index)
             & 0xffff) as u16
     }
 
-    /// Returns whether the bit at index `place` is 1. Bits are counted from 0 at the most
-    /// significant.
+    /// Returns whether the bit at index `index` is 1, where 0 is the most significant. `index` must
+    /// be below the number of bits of the address.
     #[inline]
-    pub fn bit(&self, place: usize) -> bool
-        requires { place < bit_count self.now.family }
-        ensures { slice_get self.now.bits place ≡ Some result }
+    pub fn bit(&self, index: usize) -> bool
+        requires { index < bit_count self.now.family }
+        ensures { slice_get self.now.bits index ≡ Some result }
     {
-        self.number.get() >> (NUMBER_BITS as usize - 1 - place) & 1 == 1
+        self.number.get() >> (NUMBER_BITS as usize - 1 - index) & 1 == 1
     }
 }
 

@@ -1,6 +1,6 @@
 //! Theorems about the definitions that the contracts of this crate cite. The functions have no code
-//! and nothing calls them: what they state is proved as the crate is checked. `docs/proved.md`
-//! names them.
+//! and nothing calls them: their `ensures` clauses are proved as the crate is checked.
+//! `docs/proved.md` names them.
 
 ghost use Rattle.std.specs.Prelude.{◌≡◌, ◌≤◌, ◌↔◌, ℕ, true, false, List, [], ◌∷◌, codes, length, IsTrue};
 ghost use Rattle.std.specs.Cmp.{IsTotalOrder};
@@ -13,30 +13,31 @@ ghost use Rattle.ip_prefix.specs.declared.text.TheConstants.{DOT, COLON, SLASH};
 ghost use Rattle.ip_prefix.specs.declared.turn.Turn.TheVariants.{Outside, Here, Left, Right};
 ghost use Rattle.ip_prefix.specs.Network.{Address, IsAddress, Network, IsNetwork, IsFront, contains, address_cmp, network_cmp, SpellsNetwork};
 ghost use Rattle.ip_prefix.specs.Turns.{ContainsAllOf, covers, way, turn_of, half, common};
-ghost use Rattle.ip_prefix.specs.Kept.{filled_cmp};
+ghost use Rattle.ip_prefix.specs.Kept.{least_address_cmp};
 ghost use Rattle.ip_prefix.specs.Text.{SpellsAddress, SpellsPrefix, address_text, network_text};
 ghost use Rattle.ip_prefix.specs.Marks.{IsFirstLongestRun};
 ghost use Rattle.octet_forms.specs.Sequences.{SpellsAll};
-ghost use Rattle.octet_forms.specs.Fronts.{IsCode};
+ghost use Rattle.octet_forms.specs.Fronts.{IsSelfDelimiting};
 
-/// Proves that addresses are totally ordered, and that only equal ones compare as equal.
-pub fn address_order()
+/// States that addresses are totally ordered, and that only equal addresses compare as equal.
+pub fn law_address_order_is_total()
     ensures total { IsTotalOrder address_cmp }
     ensures ties { IsAntisymmetric address_cmp }
 {}
 
-/// Proves that prefixes are totally ordered, that only equal ones compare as equal, and that the
-/// order is by their least addresses, then by their lengths.
-pub fn prefix_order()
+/// States that prefixes are totally ordered, that only equal prefixes compare as equal, and that
+/// the order is by the least address, then by the length.
+pub fn law_prefix_order_is_total()
     ensures total { IsTotalOrder network_cmp }
     ensures ties { IsAntisymmetric network_cmp }
     ensures filled { (m n : Network) → IsNetwork m → IsNetwork n
-        → network_cmp m n ≡ filled_cmp m n }
+        → network_cmp m n ≡ least_address_cmp m n }
 {}
 
-/// Proves that a prefix contains the addresses of its family that begin with its bits, and covers
-/// the prefixes of its family that do, which are those whose addresses it all contains.
-pub fn containment()
+/// States that a prefix contains exactly the addresses of its family that begin with its bits, and
+/// covers exactly the prefixes of its family that do. These are the prefixes whose addresses it all
+/// contains.
+pub fn law_containment_is_by_bits()
     ensures contained { (n : Network) (a : Address)
         → (IsTrue (contains n a) ↔ ((n.family ≡ a.family) × IsFront n.bits a.bits)) }
     ensures covered { (n other : Network)
@@ -45,8 +46,8 @@ pub fn containment()
         → (IsTrue (covers n other) ↔ ContainsAllOf n other) }
 {}
 
-/// Proves that covering is a partial order of prefixes, and that no prefix covers a shorter one.
-pub fn covering_order()
+/// States that covering is a partial order of prefixes, and that no prefix covers a shorter one.
+pub fn law_covering_is_partial_order()
     ensures reflexive { (n : Network) → IsTrue (covers n n) }
     ensures transitive { (a b c : Network)
         → IsTrue (covers a b) → IsTrue (covers b c) → IsTrue (covers a c) }
@@ -54,19 +55,19 @@ pub fn covering_order()
     ensures lengths { (a b : Network) → IsTrue (covers a b) → length a.bits ≤ length b.bits }
 {}
 
-/// Proves that of two prefixes that contain one address, one that is no longer covers the other. So
-/// at most one prefix of a length contains an address.
-pub fn nested_prefixes()
+/// States that of two prefixes that contain one address, the shorter covers the longer. So at most
+/// one prefix of each length contains an address.
+pub fn law_containing_prefixes_nest()
     ensures covered { (m n : Network) (a : Address) → IsTrue (contains m a) → IsTrue (contains n a)
         → length m.bits ≤ length n.bits → IsTrue (covers m n) }
     ensures one { (m n : Network) (a : Address) → IsTrue (contains m a) → IsTrue (contains n a)
         → length m.bits ≡ length n.bits → m ≡ n }
 {}
 
-/// Proves which [`Turn`](crate::Turn) a prefix has as seen from another: `Outside` if the other
+/// States which [`Turn`](crate::Turn) a prefix has as seen from another: `Outside` if the other
 /// doesn't cover it, `Here` if they are equal, else `Left` or `Right` by the half of the other that
 /// covers it.
-pub fn turns_by_bits()
+pub fn law_turns_are_by_bits()
     ensures outside { (m n : Network)
         → ((turn_of (way m) (way n) ≡ Outside) ↔ (covers m n ≡ false)) }
     ensures here { (m n : Network) → ((turn_of (way m) (way n) ≡ Here) ↔ (m ≡ n)) }
@@ -76,47 +77,47 @@ pub fn turns_by_bits()
         → ((turn_of (way m) (way n) ≡ Right) ↔ IsTrue (covers (half m true) n)) }
 {}
 
-/// Proves that the prefix of the bits that two prefixes of one family share covers both, and that
-/// each prefix that covers both covers it.
-pub fn common_prefix()
+/// States that the prefix of the leading bits that two prefixes of one family share covers both,
+/// and that each prefix that covers both covers it.
+pub fn law_common_prefix_is_longest()
     ensures both { (m n : Network) → m.family ≡ n.family
         → IsTrue (covers (common m n) m) × IsTrue (covers (common m n) n) }
     ensures longest { (m n other : Network) → IsTrue (covers other m) → IsTrue (covers other n)
         → IsTrue (covers other (common m n)) }
 {}
 
-/// Proves that the printed text of an address is a spelling of it, and the printed text of a prefix
-/// one of the prefix.
-pub fn text_spells()
+/// States that the printed text of an address can be parsed as this address, and the printed text
+/// of a prefix as this prefix.
+pub fn law_printed_text_parses()
     ensures addresses { (a : Address) → IsAddress a → SpellsAddress a (address_text a) }
     ensures prefixes { (n : Network) → IsNetwork n → SpellsPrefix n (network_text n) }
 {}
 
-/// Proves that the groups that `::` stands for in the printed text of an IPv6 address are the first
+/// States that the groups that `::` replaces in the printed text of an IPv6 address are the first
 /// of the longest runs of zeros (RFC 5952, section 4.2).
-pub fn shortened_run()
+pub fn law_longest_zero_run_is_shortened()
     ensures { (groups : List ℕ) → IsFirstLongestRun groups (longest_zero_run groups) }
 {}
 
-/// Proves that no text is a spelling of two addresses, nor of two prefixes.
-pub fn one_spelling()
+/// States that no text can be parsed as two addresses, nor as two prefixes.
+pub fn law_text_has_one_value()
     ensures addresses { (a b : Address) (text : List ℕ)
         → SpellsAddress a text → SpellsAddress b text → a ≡ b }
     ensures prefixes { (m n : Network) (text : List ℕ)
         → SpellsPrefix m text → SpellsPrefix n text → m ≡ n }
 {}
 
-/// Proves that no octets begin with two prefixes of one family as BGP sends them, and that none are
-/// two lists of such prefixes.
-pub fn one_network()
-    ensures single { (family : Family) → IsCode (SpellsNetwork family) }
+/// States that no octets begin with two prefixes of one family, and that none are two lists of such
+/// prefixes, as BGP sends them (RFC 4271, section 4.3).
+pub fn law_octets_have_one_prefix()
+    ensures single { (family : Family) → IsSelfDelimiting (SpellsNetwork family) }
     ensures lists { (family : Family) (octets : List ℕ) (a b : List Network)
         → SpellsAll (SpellsNetwork family) a octets
         → SpellsAll (SpellsNetwork family) b octets → a ≡ b }
 {}
 
-/// Proves the values of the numbers and marks that the definitions name.
-pub fn address_numbers()
+/// States the values of the constants that the definitions name.
+pub fn law_address_constants()
     ensures octets { (V4_OCTETS ≡ 4) × (V6_OCTETS ≡ 16) }
     ensures bits { (V4_BITS ≡ 32) × (V6_BITS ≡ 128) × (NUMBER_BITS ≡ 128) }
     ensures parts { (OCTET_BITS ≡ 8) × (GROUP_BITS ≡ 16) × (GROUP_COUNT ≡ 8) }

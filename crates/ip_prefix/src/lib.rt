@@ -4,8 +4,8 @@
 #![tactic(auto)]
 
 mod addr;
-mod fronts;
 mod laws;
+mod leading_bits;
 mod number;
 mod parse;
 mod prefix;
@@ -15,12 +15,14 @@ mod zero_runs;
 
 pub use addr::{Addr, Family, V4_BITS, V4_OCTETS, V6_BITS, V6_OCTETS};
 pub use laws::{
-    address_numbers, address_order, common_prefix, containment, covering_order, nested_prefixes,
-    one_network, one_spelling, prefix_order, shortened_run, text_spells, turns_by_bits,
+    law_address_constants, law_address_order_is_total, law_common_prefix_is_longest,
+    law_containing_prefixes_nest, law_containment_is_by_bits, law_covering_is_partial_order,
+    law_longest_zero_run_is_shortened, law_octets_have_one_prefix, law_prefix_order_is_total,
+    law_printed_text_parses, law_text_has_one_value, law_turns_are_by_bits,
 };
 pub use octet_text::{
-    DECIMAL_ROOM, InPlace, SPACE, Text, WORD_ROOM, Word, put_decimal, put_octets, write_decimal,
-    write_ended_decimal,
+    DECIMAL_ROOM, SPACE, Text, WORD_ROOM, WordFormat, WriteTextAt, put_decimal, put_octets,
+    write_decimal, write_ended_decimal,
 };
 pub use prefix::Prefix;
 pub use text::{ADDRESS_ROOM, COLON, PREFIX_ROOM};

@@ -1,5 +1,5 @@
-//! The 128-bit numbers that addresses and prefixes are stored as. `addr.rt` and `prefix.rt` use
-//! them. Read [`Number`] first.
+//! 128-bit numbers as two halves. `addr.rt` and `prefix.rt` store the bits of addresses and
+//! prefixes so. Read [`U128Halves`] first.
 
 ghost use Rattle.std.specs.Prelude.{◌≡◌, ◌-◌, ◌/◌, ◌^◌, ◌<◌, ◌==◌, bit_and};
 ghost use Rattle.std.specs.Ordering.{nat_cmp};
@@ -7,21 +7,21 @@ ghost use Rattle.std.specs.Ordering.{nat_cmp};
 use std::cmp::Ordering;
 use std::marker::Model;
 
-/// The number of bits of a [`Number`].
+/// The number of bits of a [`U128Halves`].
 pub(crate) const NUMBER_BITS: u8 = 128;
 
-/// The number of bits of half a [`Number`].
+/// The number of bits of half a [`U128Halves`].
 pub(crate) const HALF_BITS: u8 = 64;
 
-/// A 128-bit number.
+/// A 128-bit number, stored as two halves of 64 bits.
 #[derive(Clone, Copy, Debug)]
-pub(crate) struct Number {
+pub(crate) struct U128Halves {
     // Two halves have an alignment of eight octets, where a `u128` has one of sixteen.
     high: u64,
     low: u64,
 }
 
-impl Model for Number {
+impl Model for U128Halves {
     ghost use Rattle.std.specs.Prelude.{ℕ, ◌^◌, ◌/◌, ◌%◌, ◌<◌};
     ghost use Rattle.ip_prefix.specs.declared.number.TheConstants.{HALF_BITS};
     ghost use Rattle.ip_prefix.specs.Kept.{whole, high-again, low-again};
@@ -43,13 +43,13 @@ impl Model for Number {
     } };
 }
 
-impl Number {
-    /// Returns `number` as two halves.
+impl U128Halves {
+    /// Splits `number` into its two halves.
     #[inline]
     pub(crate) fn new(number: u128) -> Self
         ensures { result ≡ number }
     {
-        Number {
+        U128Halves {
             high: (number >> HALF_BITS) as u64,
             low: (number % (1 << HALF_BITS)) as u64,
         }
@@ -63,23 +63,23 @@ impl Number {
         u128::from(self.high) << HALF_BITS | u128::from(self.low)
     }
 
-    /// Returns whether the bit at index `place` is 1. Bits are counted from 0 at the most
-    /// significant.
+    /// Returns whether the bit at index `index` is 1, where 0 is the most significant. `index` must
+    /// be below 128.
     #[inline]
-    pub(crate) fn bit(self, place: u8) -> bool
-        requires { place < NUMBER_BITS }
-        ensures { result ≡ (bit_and (self / 2 ^ (NUMBER_BITS - 1 - place)) 1 == 1) }
+    pub(crate) fn bit(self, index: u8) -> bool
+        requires { index < NUMBER_BITS }
+        ensures { result ≡ (bit_and (self / 2 ^ (NUMBER_BITS - 1 - index)) 1 == 1) }
     {
         // Mostly the bit is in the high half.
-        if place < HALF_BITS {
-            return self.high >> (HALF_BITS - 1 - place) & 1 == 1;
+        if index < HALF_BITS {
+            return self.high >> (HALF_BITS - 1 - index) & 1 == 1;
         }
-        self.get() >> (NUMBER_BITS - 1 - place) & 1 == 1
+        self.get() >> (NUMBER_BITS - 1 - index) & 1 == 1
     }
 
-    /// Returns the ordering of the two numbers by value.
+    /// Compares two numbers by value.
     #[inline]
-    pub(crate) fn compare(self, other: Number) -> Ordering
+    pub(crate) fn compare(self, other: U128Halves) -> Ordering
         ensures { result ≡ nat_cmp self other }
     {
         // Mostly the high halves decide.

@@ -1,5 +1,5 @@
-//! Parsing addresses and prefixes from text. `bgpdump_tool` parses the words of script commands
-//! with it. Read [`Addr::parse`] and [`Prefix::parse`].
+//! Parsers of addresses and prefixes from text. `bgpdump_tool` parses the words of script commands
+//! with them. Read [`Addr::parse`] and [`Prefix::parse`].
 
 ghost use Rattle.std.specs.Prelude.{◌≡◌, ◌≢◌, ℕ, ◌<◌, MatchOption, decimal};
 ghost use Rattle.ip_prefix.specs.Network.{Address, Network};
@@ -12,10 +12,10 @@ use crate::text::{DOT, SLASH};
 use std::net::{Ipv4Addr, Ipv6Addr};
 
 impl Addr {
-    /// Parses an address from text, and returns `None` if `text` spells none. IPv4 is four decimals
-    /// without leading zeros, joined by dots. IPv6 is groups of one to four hexadecimal digits of
-    /// either case, joined by colons, with at most one `::` for one or more groups of 0. An IPv6
-    /// address with a dotted end isn't parsed.
+    /// Parses an address from ASCII text, or returns `None` if `text` has another form. IPv4 is
+    /// four decimals from 0 to 255 without leading zeros, joined by dots. IPv6 is groups of one to
+    /// four hexadecimal digits of either case, joined by colons, with at most one `::` for one or
+    /// more groups of 0. An IPv6 address that ends in dotted decimals isn't parsed.
     pub fn parse(text: &[u8]) -> Option<Addr>
         ensures { MatchOption result ((a : Address) → SpellsAddress a text.now → ⊥)
             (λ addr. SpellsAddress addr text.now) }
@@ -34,9 +34,9 @@ impl Addr {
 }
 
 impl Prefix {
-    /// Parses a prefix from text: an address, a slash, and the length in decimal without leading
-    /// zeros. Bits of the address after the length are cleared. Returns `None` if `text` spells no
-    /// prefix, as with a length of more bits than the address has.
+    /// Parses a prefix from ASCII text: an address, a slash, and the length in decimal without
+    /// leading zeros. Bits of the address after the length are cleared. Returns `None` if `text`
+    /// has another form, or if the length is more than the address has bits.
     pub fn parse(text: &[u8]) -> Option<Prefix>
         ensures { MatchOption result ((n : Network) → SpellsPrefix n text.now → ⊥)
             (λ prefix. SpellsPrefix prefix text.now) }
@@ -48,7 +48,7 @@ impl Prefix {
     }
 }
 
-/// Returns the index of the last slash in `text`, or `None` if there is none.
+/// Returns the index of the last slash in `text`, or `None` if it has no slash.
 fn last_slash(text: &[u8]) -> Option<usize>
     ensures { MatchOption result (HasNoSlash text.now) (IsLastSlash text.now) }
 {
@@ -62,8 +62,8 @@ fn last_slash(text: &[u8]) -> Option<usize>
     None
 }
 
-/// Parses the length of a prefix from its decimal, which has no sign and no leading zeros. Returns
-/// `None` for other texts, and for numbers above 255.
+/// Parses a decimal number from 0 to 255 without sign and leading zeros: the length of a prefix.
+/// Returns `None` if `text` has another form.
 fn read_length(text: &[u8]) -> Option<u8>
     ensures { MatchOption result ((n : ℕ) → n < 256 → text.now ≢ decimal n)
         (λ n. text.now ≡ decimal n) }

@@ -1,5 +1,5 @@
-//! Prefixes of IPv4 and IPv6, and the parser of prefixes as BGP sends them. Read [`Prefix`] first;
-//! `turn.rt` compares the positions of prefixes, and `text.rt` prints them.
+//! IPv4 and IPv6 prefixes, and the parser of prefixes as BGP sends them. `parse.rt` and `text.rt`
+//! parse and print them as text, and `turn.rt` compares where they lie. Read [`Prefix`] first.
 
 ghost use Rattle.std.specs.Prelude.{◌≡◌, ◌-◌, ◌<◌, ◌≤◌, ◌++◌, false, Some, MatchOption, IfSome, IfNone, length, replicate, take, slice_get, refl};
 ghost use Rattle.ip_prefix.specs.declared.addr.Family.{Family};
@@ -12,17 +12,17 @@ ghost use Rattle.ip_prefix.specs.OrderLaws.{network_cmp_total};
 ghost use Rattle.octet_forms.specs.Fronts.{BeginsWithNone};
 
 use crate::addr::{Addr, Family, OCTET_BITS, V4_BITS};
-use crate::fronts::{highest, number_in_front};
-use crate::number::{HALF_BITS, NUMBER_BITS, Number};
+use crate::leading_bits::{keep_highest_bits, number_from_leading_octets};
+use crate::number::{HALF_BITS, NUMBER_BITS, U128Halves};
 use std::cmp::Ordering;
 use std::marker::Model;
 
-/// An IPv4 or IPv6 prefix: the addresses of a family that begin with some bits. Prefixes are
-/// ordered by family, then by their least addresses, then by length.
+/// An IPv4 or IPv6 prefix: a family, and bits with which addresses of the family begin. Prefixes
+/// are ordered by family, then by their least addresses, then by length.
 #[derive(Clone, Copy, Debug)]
 pub struct Prefix {
     // The bits of the prefix are the highest of the number, and the bits below are 0.
-    number: Number,
+    number: U128Halves,
     len: u8,
     family: Family,
 }
@@ -31,7 +31,7 @@ impl Model for Prefix {
     ghost use Rattle.std.specs.Prelude.{length};
     ghost use Rattle.ip_prefix.specs.Network.{Network};
     ghost use Rattle.ip_prefix.specs.Bits.{highest_bits};
-    ghost use Rattle.ip_prefix.specs.Kept.{number_from, IsMasked, number-masked, length-masked};
+    ghost use Rattle.ip_prefix.specs.Kept.{number_with_high_bits, IsMasked, number-masked, length-masked};
 
     ghost Value = { Network };
 
@@ -40,7 +40,7 @@ impl Model for Prefix {
     ghost invariant = { λ p. IsMasked p.family p.number p.len };
 
     ghost inverse = { λ n. record {
-      number = number_from (length n.bits) n.bits;
+      number = number_with_high_bits (length n.bits) n.bits;
       len = length n.bits;
       family = n.family;
     } };
@@ -53,7 +53,8 @@ impl Model for Prefix {
 }
 
 impl Prefix {
-    /// Returns the prefix of the first `len` bits of `addr`, or `None` if `addr` has fewer bits.
+    /// Returns the prefix of the first `len` bits of `addr`, whose other bits are cleared, or
+    /// `None` if `addr` has fewer than `len` bits.
     pub fn new(addr: Addr, len: u8) -> Option<Prefix>
         ensures { MatchOption result (bit_count addr.family < len)
             (λ prefix. (len ≤ bit_count addr.family) × (prefix ≡ network_of addr len)) }
@@ -63,20 +64,20 @@ impl Prefix {
             return None;
         }
         Some(Prefix {
-            number: Number::new(highest(addr.number(), len)),
+            number: U128Halves::new(keep_highest_bits(addr.number(), len)),
             len,
             family,
         })
     }
 
-    /// Returns the prefix that contains `addr` alone, of all its bits.
+    /// Returns the prefix of all bits of `addr`, which contains `addr` alone.
     #[inline]
     pub fn host(addr: Addr) -> Prefix
         ensures { result ≡ record { family = addr.family; bits = addr.bits } }
     {
         let family = addr.family();
         Prefix {
-            number: Number::new(addr.number()),
+            number: U128Halves::new(addr.number()),
             len: family.width(),
             family,
         }
@@ -90,15 +91,16 @@ impl Prefix {
         self.family
     }
 
-    /// Returns the least address of the prefix, whose bits after the length are 0.
+    /// Returns the least address that the prefix contains: its bits after the length are 0.
     pub fn addr(&self) -> Addr
         ensures value { result ≡ least_address self.now }
         ensures whole { IsAddress result }
     {
-        Addr::aligned(self.number.get(), self.family)
+        Addr::from_high_bits(self.number.get(), self.family)
     }
 
-    /// Returns a 128-bit number whose highest bits are those of the prefix. The bits below are 0.
+    /// Returns the bits of the prefix as a number, of which they are the highest. The bits below
+    /// them are 0.
     #[inline]
     pub(crate) fn number(&self) -> u128
         ensures { bits_of NUMBER_BITS result
@@ -107,27 +109,27 @@ impl Prefix {
         self.number.get()
     }
 
-    /// Returns whether the bit at index `place` is 1. Bits are counted from 0 at the most
-    /// significant.
+    /// Returns whether the bit at index `index` is 1, where 0 is the most significant. `index` must
+    /// be below the length.
     #[inline]
-    pub(crate) fn bit(&self, place: u8) -> bool
-        requires { place < length self.now.bits }
-        ensures { slice_get self.now.bits place ≡ Some result }
+    pub(crate) fn bit(&self, index: u8) -> bool
+        requires { index < length self.now.bits }
+        ensures { slice_get self.now.bits index ≡ Some result }
     {
-        self.number.bit(place)
+        self.number.bit(index)
     }
 
-    /// Returns the first 64 bits of the least address as a number. An IPv4 address is in its high
-    /// 32 bits, and the low 32 bits are 0.
+    /// Returns the highest 64 of 128 bits of the least address as a number. An IPv4 address has the
+    /// high 32 of them, and the low 32 are 0.
     #[inline]
-    pub fn high_half(&self) -> u64
+    pub fn high_64_bits(&self) -> u64
         ensures { bits_of HALF_BITS result ≡ take HALF_BITS
             (self.now.bits ++ replicate (NUMBER_BITS - length self.now.bits) false) }
     {
         (self.number.get() >> HALF_BITS) as u64
     }
 
-    /// Returns the least address of an IPv4 prefix as a number.
+    /// Returns the least address of the prefix, which must be of IPv4, as a 32-bit number.
     #[inline]
     pub(crate) fn v4_number(&self) -> u32
         requires { self.now.family ≡ Family.V4 }
@@ -137,43 +139,43 @@ impl Prefix {
         (self.number.get() >> (NUMBER_BITS - V4_BITS)) as u32
     }
 
-    /// Returns the prefix of the first `len` bits of this prefix.
+    /// Returns the prefix of the first `len` bits of this prefix. `len` must be at most its length.
     #[inline]
-    pub(crate) fn front(&self, len: u8) -> Prefix
+    pub(crate) fn shortened(&self, len: u8) -> Prefix
         requires { len ≤ length self.now.bits }
         ensures { result ≡ record { family = self.now.family; bits = take len self.now.bits } }
     {
         Prefix {
-            number: Number::new(highest(self.number.get(), len)),
+            number: U128Halves::new(keep_highest_bits(self.number.get(), len)),
             len,
             family: self.family,
         }
     }
 
-    /// Returns `true` if the prefix contains `addr`, that is, if both are of one family and `addr`
-    /// begins with the bits of the prefix.
+    /// Returns `true` if `addr` is of the family of the prefix and begins with its bits.
     #[inline]
     pub fn contains(&self, addr: &Addr) -> bool
         ensures { result ≡ contains self.now addr.now }
     {
-        self.family == addr.family() && highest(addr.number(), self.len) == self.number.get()
+        self.family == addr.family()
+            && keep_highest_bits(addr.number(), self.len) == self.number.get()
     }
 
-    /// Returns `true` if this prefix covers `other`, that is, if both are of one family and `other`
-    /// begins with the bits of this prefix. A prefix covers itself.
+    /// Returns `true` if `other` is of the family of this prefix and begins with its bits. A prefix
+    /// covers itself.
     #[inline]
     pub fn covers(&self, other: &Prefix) -> bool
         ensures { result ≡ covers self.now other.now }
     {
         self.family == other.family
             && self.len <= other.len
-            && highest(other.number.get(), self.len) == self.number.get()
+            && keep_highest_bits(other.number.get(), self.len) == self.number.get()
     }
 
-    /// Parses the prefix of `family` at the start of `octets`: its length in bits, one octet, and
-    /// its bits in as few octets as hold them (RFC 4271, section 4.3). Returns the prefix and the
-    /// number of octets that it takes, or `None` if `octets` begins with no prefix. Bits after the
-    /// length are ignored.
+    /// Parses the prefix of `family` at the start of `octets`: its length in bits, of one octet,
+    /// and its bits in as few octets as hold them (RFC 4271, section 4.3). Returns the prefix and
+    /// the number of octets that it takes. Returns `None` if the length is more than 32 or 128
+    /// bits, or if `octets` is too short. Bits after the length are ignored.
     #[inline]
     pub fn read(family: Family, octets: &[u8]) -> Option<(Prefix, usize)>
         ensures some { IfSome result (λ found. (found.1 ≤ length octets.now)
@@ -188,10 +190,10 @@ impl Prefix {
         if rest.len() < size {
             return None;
         }
-        let number = highest(number_in_front(rest, size), len);
+        let number = keep_highest_bits(number_from_leading_octets(rest, size), len);
         Some((
             Prefix {
-                number: Number::new(number),
+                number: U128Halves::new(number),
                 len,
                 family,
             },

@@ -1,5 +1,5 @@
-//! Printing addresses and prefixes. The printers of lines and replies call it, mostly through
-//! [`InPlace`]. Read [`Addr::write_text`] and [`Prefix::write_text`] first.
+//! Printing addresses and prefixes as text. The printers of lines and replies call it, mostly
+//! through [`WriteTextAt`]. Read [`Addr::write_text`] and [`Prefix::write_text`] first.
 
 ghost use Rattle.std.specs.Prelude.{◌≡◌, ◌+◌, ◌*◌, ◌<◌, ◌≤◌, [], ◌∷◌, ◌++◌, OnOk, OnErr, length, take, drop, replicate, decimal};
 ghost use Rattle.std.specs.Net.Text as Hex;
@@ -11,7 +11,9 @@ ghost use Rattle.octet_text.specs.Written.{IsWritten};
 use crate::addr::{Addr, Family, GROUP_COUNT, V4_OCTETS};
 use crate::prefix::Prefix;
 use crate::zero_runs::ZERO_RUNS;
-use octet_text::{HEX_PAIR, InPlace, ROW, hex_pair, put_octets, write_hex_pair, write_short};
+use octet_text::{
+    HEX_PAIR, ROW, WriteTextAt, hex_pair, put_octets, write_below_thousand, write_hex_pair,
+};
 use std::alloc::AllocError;
 
 /// The separator of the octets in the text of an IPv4 address.
@@ -29,20 +31,22 @@ const GROUP_DIGITS: usize = 4;
 /// The least number of groups of 0 in a row that `::` stands for (RFC 5952, section 4.2.2).
 const LEAST_RUN: usize = 2;
 
-/// The number of octets that a group and a colon before it take at most.
+/// The greatest number of octets of a group and a colon.
 const GROUP_ROOM: usize = GROUP_DIGITS + 1;
 
 /// The number of octets that [`Addr::write_text`] needs from its offset on: as many as eight
 /// groups, each with a colon.
 pub const ADDRESS_ROOM: usize = GROUP_ROOM * GROUP_COUNT;
 
-/// The number of octets that [`Prefix::write_text`] needs from its offset on.
+/// The number of octets that [`Prefix::write_text`] needs from its offset on: an address, a slash
+/// and the length.
 pub const PREFIX_ROOM: usize = ADDRESS_ROOM + 1 + ROW;
 
 impl Addr {
-    /// Writes the address as text into `text` at offset `at`, an IPv6 address as RFC 5952, section
-    /// 4, recommends, and returns the offset of the octet after it. `text` needs [`ADDRESS_ROOM`]
-    /// octets from `at` on, of which those after the address are unspecified.
+    /// Writes the address as text into `text` at offset `at`, and returns the offset of the octet
+    /// after it. IPv6 addresses have the form of RFC 5952, section 4, and never a dotted end.
+    /// `text` needs [`ADDRESS_ROOM`] octets from `at` on, of which those after the address are
+    /// unspecified.
     #[inline(always)]
     #[tactic(auto, unfolding(crate::specs::Text::address_text))]
     pub fn write_text(&self, text: &mut [u8], at: usize) -> usize
@@ -52,17 +56,17 @@ impl Addr {
     {
         match self.family() {
             Family::V4 => {
-                let second = write_octet(self.octet(0), text, at);
-                let third = write_octet(self.octet(1), text, second);
-                let fourth = write_octet(self.octet(2), text, third);
-                write_short(u32::from(self.octet(3)), text, fourth)
+                let second = write_octet_and_dot(self.octet(0), text, at);
+                let third = write_octet_and_dot(self.octet(1), text, second);
+                let fourth = write_octet_and_dot(self.octet(2), text, third);
+                write_below_thousand(u32::from(self.octet(3)), text, fourth)
             }
-            Family::V6 => write_colons(self, text, at),
+            Family::V6 => write_v6(self, text, at),
         }
     }
 
-    /// Appends the address as text, in the form of [`Addr::write_text`]. If memory allocation
-    /// fails, `text` is unchanged.
+    /// Appends the address to `text`, in the form of [`Addr::write_text`]. On error, `text` is
+    /// unchanged.
     pub fn put_text(&self, text: &mut Vec<u8>) -> Result<(), AllocError>
         ensures appended { OnOk result (text.new.items ≡ text.old.items ++ address_text self.now) }
         ensures unchanged { OnErr result (text.new.items ≡ text.old.items) }
@@ -85,11 +89,11 @@ impl Prefix {
     {
         let slash = self.addr().write_text(text, at);
         text[slash] = SLASH;
-        write_short(u32::from(self.len()), text, slash + 1)
+        write_below_thousand(u32::from(self.len()), text, slash + 1)
     }
 
-    /// Appends the prefix as text, in the form of [`Prefix::write_text`]. If memory allocation
-    /// fails, `text` is unchanged.
+    /// Appends the prefix to `text`, in the form of [`Prefix::write_text`]. On error, `text` is
+    /// unchanged.
     pub fn put_text(&self, text: &mut Vec<u8>) -> Result<(), AllocError>
         ensures appended { OnOk result (text.new.items ≡ text.old.items ++ network_text self.now) }
         ensures unchanged { OnErr result (text.new.items ≡ text.old.items) }
@@ -100,7 +104,7 @@ impl Prefix {
     }
 }
 
-impl InPlace for Addr {
+impl WriteTextAt for Addr {
     ghost shown = { address_text };
 
     ghost ROOM = { ADDRESS_ROOM };
@@ -108,12 +112,12 @@ impl InPlace for Addr {
     const ROOM: usize = ADDRESS_ROOM;
 
     #[inline(always)]
-    fn write_in_place(&self, text: &mut [u8], at: usize) -> usize {
+    fn write_text_at(&self, text: &mut [u8], at: usize) -> usize {
         self.write_text(text, at)
     }
 }
 
-impl InPlace for Prefix {
+impl WriteTextAt for Prefix {
     ghost shown = { network_text };
 
     ghost ROOM = { PREFIX_ROOM };
@@ -121,28 +125,29 @@ impl InPlace for Prefix {
     const ROOM: usize = PREFIX_ROOM;
 
     #[inline(always)]
-    fn write_in_place(&self, text: &mut [u8], at: usize) -> usize {
+    fn write_text_at(&self, text: &mut [u8], at: usize) -> usize {
         self.write_text(text, at)
     }
 }
 
-/// Writes `octet` in decimal and a dot at offset `at`, and returns the offset of the octet after
-/// the dot.
+/// Writes `octet` in decimal and then a dot into `text` at offset `at`, and returns the offset of
+/// the octet after the dot.
 #[inline]
-fn write_octet(octet: u8, text: &mut [u8], at: usize) -> usize
+fn write_octet_and_dot(octet: u8, text: &mut [u8], at: usize) -> usize
     requires { at + ROW ≤ length text.old }
     ensures written { IsWritten text.old at (decimal octet ++ DOT ∷ []) text.new result }
     ensures short { result ≤ at + ROW }
 {
-    let dot = write_short(u32::from(octet), text, at);
+    let dot = write_below_thousand(u32::from(octet), text, at);
     text[dot] = DOT;
     dot + 1
 }
 
-/// Writes the text of an IPv6 address at offset `at`, and returns the offset of the octet after it.
-/// The groups are joined by colons, and `::` stands for the longest run of two or more groups of 0.
+/// Writes `address`, which must be of IPv6, as text into `text` at offset `at`, and returns the
+/// offset of the octet after it. The groups are joined by colons, and `::` replaces the first of
+/// the longest runs of two or more groups of 0 (RFC 5952, section 4.2).
 #[inline(never)]
-fn write_colons(address: &Addr, text: &mut [u8], at: usize) -> usize
+fn write_v6(address: &Addr, text: &mut [u8], at: usize) -> usize
     requires { (address.now.family ≡ V6) × (at + ADDRESS_ROOM ≤ length text.old) }
     ensures written { IsWritten text.old at (v6_text address.now) text.new result }
     ensures short { result ≤ at + ADDRESS_ROOM }
@@ -166,8 +171,8 @@ fn write_colons(address: &Addr, text: &mut [u8], at: usize) -> usize
     write_groups(&groups[first + len..], text, gap + 2)
 }
 
-/// Returns the index of the first group and the number of groups of the longest run of groups of 0.
-/// Of several such runs, the first counts. If no group is 0, both numbers are 0.
+/// Returns the longest run of groups of 0: the index of its first group, and the number of its
+/// groups. Of several such runs, the first counts. If no group is 0, both numbers are 0.
 #[inline(always)]
 fn longest_zero_run(groups: &[u16; GROUP_COUNT]) -> (usize, usize)
     ensures value { result ≡ Hex.longest_zero_run groups.now }
@@ -186,8 +191,8 @@ fn longest_zero_run(groups: &[u16; GROUP_COUNT]) -> (usize, usize)
     (usize::from(row[0]), usize::from(row[1]))
 }
 
-/// Writes the groups in hexadecimal, joined by colons, at offset `at`, and returns the offset of
-/// the octet after them.
+/// Writes `groups` in lower-case hexadecimal, joined by colons, into `text` at offset `at`, and
+/// returns the offset of the octet after them.
 fn write_groups(groups: &[u16], text: &mut [u8], at: usize) -> usize
     requires { at + GROUP_ROOM * length groups.now ≤ length text.old }
     ensures written { IsWritten text.old at (Hex.groups_text groups.now) text.new result }
@@ -204,8 +209,8 @@ fn write_groups(groups: &[u16], text: &mut [u8], at: usize) -> usize
     place
 }
 
-/// Writes `group` in lower-case hexadecimal, without leading zeros, at offset `at`, and returns the
-/// offset of the octet after it.
+/// Writes `group` in lower-case hexadecimal, without leading zeros, into `text` at offset `at`, and
+/// returns the offset of the octet after it.
 #[inline]
 fn write_group(group: u16, text: &mut [u8], at: usize) -> usize
     requires { at + GROUP_DIGITS ≤ length text.old }
@@ -213,16 +218,16 @@ fn write_group(group: u16, text: &mut [u8], at: usize) -> usize
     ensures short { result ≤ at + GROUP_DIGITS }
 {
     if group < 0x100 {
-        return write_low_group(group, text, at);
+        return write_group_below_256(group, text, at);
     }
-    let low = write_low_group(group / 0x100, text, at);
+    let low = write_group_below_256(group / 0x100, text, at);
     write_hex_pair(group % 0x100, text, low)
 }
 
-/// Writes `group`, which is below 256, in lower-case hexadecimal, without leading zeros, at offset
-/// `at`, and returns the offset of the octet after it.
+/// Writes `group`, which must be below 256, in lower-case hexadecimal, without leading zeros, into
+/// `text` at offset `at`, and returns the offset of the octet after it.
 #[inline]
-fn write_low_group(group: u16, text: &mut [u8], at: usize) -> usize
+fn write_group_below_256(group: u16, text: &mut [u8], at: usize) -> usize
     requires { (group < 0x100) × (at + HEX_PAIR ≤ length text.old) }
     ensures written { IsWritten text.old at (Hex.hex group) text.new result }
     ensures short { result ≤ at + HEX_PAIR }

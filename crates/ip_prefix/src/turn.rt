@@ -1,5 +1,5 @@
-//! Where a prefix is as seen from another. The radix trees of `rib_store` decide by it where a key
-//! belongs below a node. Read [`Turn`] first.
+//! Where a prefix lies as seen from another. The radix trees of `rib_store` decide by it on which
+//! side of a node a key belongs. Read [`Turn`] first.
 
 ghost use Rattle.std.specs.Prelude.{◌≡◌, ◌≢◌, ℕ, ◌+◌, ◌≤◌, ◌++◌, Bool, true, false, List, length, replicate, take};
 ghost use Rattle.ip_prefix.specs.declared.addr.Family.{Family};
@@ -12,7 +12,7 @@ ghost use Rattle.ip_prefix.specs.Turns.{way, turn_of, common};
 use crate::addr::{Family, V4_BITS, V4_OCTETS};
 use crate::prefix::Prefix;
 
-/// Where a prefix is as seen from another prefix.
+/// Where a prefix lies as seen from another prefix: not below it, at it, or in one of its halves.
 #[derive(Clone, Copy, Debug, PartialEq, Eq)]
 pub enum Turn {
     /// The other prefix doesn't cover it.
@@ -26,7 +26,7 @@ pub enum Turn {
 }
 
 impl Prefix {
-    /// Returns where `other` is as seen from this prefix.
+    /// Returns where `other` lies as seen from this prefix.
     #[inline]
     pub fn turn(&self, other: &Prefix) -> Turn
         ensures { result ≡ turn_of (way self.now) (way other.now) }
@@ -37,8 +37,8 @@ impl Prefix {
         Turn::Outside
     }
 
-    /// Returns where this prefix is as seen from the IPv4 prefix of the first `len` bits of
-    /// `octets`.
+    /// Returns where this prefix lies as seen from the IPv4 prefix of the first `len` bits of
+    /// `octets`, the most significant octet first. `len` must be at most 32.
     #[inline]
     pub fn turn_from_v4(&self, octets: [u8; V4_OCTETS], len: u8) -> Turn
         requires { len ≤ V4_BITS }
@@ -56,8 +56,9 @@ impl Prefix {
         Turn::Outside
     }
 
-    /// Returns where this prefix is as seen from the prefix of `len` bits that covers it. At most
-    /// one bit is read. If no prefix of `len` bits covers it, the result is unspecified.
+    /// Returns where this prefix lies as seen from its first `len` bits: `Here` if it isn't longer,
+    /// or else `Right` if its bit at index `len` is 1, or `Left`. The caller knows that a prefix of
+    /// `len` bits covers this one; without one, the result is unspecified.
     #[inline]
     pub fn turn_under(&self, len: u8) -> Turn
         ensures { (other : Network) → length other.bits ≡ len
@@ -80,6 +81,6 @@ impl Prefix {
         ensures { result ≡ common self.now other.now }
     {
         let shared = (self.number() ^ other.number()).leading_zeros() as u8;
-        self.front(shared.min(self.len()).min(other.len()))
+        self.shortened(shared.min(self.len()).min(other.len()))
     }
 }

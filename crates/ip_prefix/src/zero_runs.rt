@@ -1,8 +1,8 @@
-//! The table of the longest runs of groups of 0, by which `text.rt` shortens IPv6 addresses.
+//! A table of the longest runs of groups of 0, by which `text.rt` shortens IPv6 addresses.
 
-/// The index of the first group and the number of groups of the longest run of groups of 0, and of
-/// several such runs the first, by which of the eight groups are 0. The lowest bit of a row's index
-/// stands for the first group, and is 1 if that is 0.
+/// The longest run of groups of 0, by which of the eight groups are 0: the index of its first
+/// group, and the number of its groups. Of several such runs, the first counts. Bit `i` of a row's
+/// index, where bit 0 is the lowest, is 1 if group `i` is 0.
 #[rattlefmt::skip]
 pub(crate) static ZERO_RUNS: [[u8; 2]; 256] = [
     [0, 0], [0, 1], [1, 1], [0, 2], [2, 1], [0, 1], [1, 2], [0, 3],

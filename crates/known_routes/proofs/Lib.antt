@@ -1,1 +1,1 @@
-pub mod PlacesLaws
+pub mod SlotLaws

@@ -1,12 +1,13 @@
 -- Private.
--- What is told of routes that were played.
+-- Numbers of routes of a `RouteInterner`, for the contracts of its methods.
 use Rattle.std.specs.Prelude.{ℕ}
-use Rattle.known_routes.specs.declared.routes.KnownRoutes.{KnownRoutes}
+use Rattle.known_routes.specs.declared.routes.RouteInterner.{RouteInterner}
 
--- how many routes stand there
-abbrev pub route_count : KnownRoutes → ℕ
+-- the number of slots of the table that have a route; routes in the overflow aren't counted
+abbrev pub route_count : RouteInterner → ℕ
 route_count known = known.routes.taken
 
--- for how many routes there may be places: for those that stood there when a play began, or when the places became more since
-abbrev pub stood_count : KnownRoutes → ℕ
-stood_count known = known.stood
+-- the number of routes that the table has slots for: those in slots when the last play began, or
+-- when the table last grew since
+abbrev pub sized_for : RouteInterner → ℕ
+sized_for known = known.stood

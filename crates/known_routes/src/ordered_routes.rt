@@ -1,6 +1,6 @@
-//! Sorted routes: the overflow of the hash table of `places.rt`, for routes that find all their
-//! slots taken. A search halves the routes, whatever hashes they have. Read [`OrderedRoutes`]
-//! first.
+//! A sorted list of routes: the overflow of the hash table of `slots.rt`, for routes whose slots
+//! are all taken. A search takes logarithmic time, even if all routes have one hash. Read
+//! [`OrderedRoutes`] first.
 
 ghost use Rattle.std.specs.Prelude.{◌≡◌, ◌≤◌, ◌<◌, IfSome, length, vec_len};
 
@@ -10,40 +10,38 @@ use std::alloc::{AllocError, Global};
 use std::cmp::Ordering;
 use std::rc::Rc;
 
-/// The largest number of routes of a run. A full run is split into two before it takes one more.
+/// The largest number of routes in a run. A full run is split into two before it takes one more.
 const LONGEST_RUN: usize = 64;
 
 /// The largest number of routes in the overflow. Each further one is put into a slot of the hash
-/// table, over the route that is there, which isn't found any more.
+/// table in place of the route that is there, which isn't found any more.
 const MOST_ORDERED: usize = 1 << 22;
 
-/// The largest factor by which the capacity of a list may exceed its length, once routes were
-/// removed. A list whose capacity divided by it, rounded down, is above the length is moved to a
-/// smaller block.
+/// The largest ratio of the capacity of a list to its length after routes were removed. A list
+/// whose capacity divided by it, rounded down, is above the length is moved to a smaller block.
 const MOST_TIMES: usize = 4;
 
-/// A route with its hash.
+/// A route with its hash, as [`hash_route`](crate::route_hash) returns it.
 #[derive(Drop)]
 pub(crate) struct HashedRoute {
     pub(crate) hash: u32,
     pub(crate) route: Rc<Route>,
 }
 
-/// A list of routes in the order of their hashes and, of one hash, of [`compare_routes`]. It is cut
-/// into runs: short sorted lists, each of which comes after the one before.
+/// A list of routes in ascending order of their hashes and, for equal hashes, of
+/// [`compare_routes`]. It is cut into runs, sorted lists of at most [`LONGEST_RUN`] routes.
 #[derive(Drop)]
 pub(crate) struct OrderedRoutes {
     // A search halves first the runs and then one run, and a route that comes or goes moves one run
     // alone.
     /// The runs, in order. None is empty, unless memory allocation failed.
     pub(crate) runs: Vec<Vec<HashedRoute>>,
-    /// The number of routes of all runs.
+    /// The number of routes in all runs.
     pub(crate) count: usize,
 }
 
 impl HashedRoute {
-    /// Compares this route with `route`, whose hash is `hash`: by their hashes, then by
-    /// [`compare_routes`].
+    /// Compares this route with `route`, whose hash is `hash`: by hash, then by [`compare_routes`].
     #[inline]
     fn compare_to(&self, hash: u32, route: &Route) -> Ordering {
         if self.hash != hash {
@@ -52,33 +50,33 @@ impl HashedRoute {
         compare_routes(&self.route, route)
     }
 
-    /// Returns whether the route has no other owner.
-    fn is_last_owner(&self) -> bool {
+    /// Returns `true` if nothing else owns the route.
+    fn is_only_owner(&self) -> bool {
         Rc::strong_count(&self.route) == 1
     }
 }
 
-/// Returns the index of the first route of the run that isn't before `route`, whose hash is `hash`.
-/// It is the length of the run if there is none.
+/// Returns the index of the first route of the run that isn't less than `route`, whose hash is
+/// `hash`. It is the length of the run if all are less.
 fn find_index(run: &[HashedRoute], hash: u32, route: &Route) -> usize
     ensures { result ≤ length run.now }
 {
     run.partition_point(|hashed| hashed.compare_to(hash, route) == Ordering::Less)
 }
 
-/// Returns whether the first route of the run is after `route`, whose hash is `hash`. An empty run
-/// isn't.
+/// Returns `true` if the first route of the run is greater than `route`, whose hash is `hash`.
+/// Returns `false` if the run is empty.
 #[inline]
-fn is_behind(run: &[HashedRoute], hash: u32, route: &Route) -> bool {
+fn starts_after(run: &[HashedRoute], hash: u32, route: &Route) -> bool {
     match run.first() {
         Some(first) => first.compare_to(hash, route) == Ordering::Greater,
         None => false,
     }
 }
 
-/// Shrinks the capacity of the list to its length if it is far more (`MOST_TIMES`). If memory
-/// allocation for the smaller block fails, the list stays as it is.
-fn give_back_room<T: Drop>(list: &mut Vec<T>)
+/// Shrinks the capacity of the list to its length if it is far more ([`MOST_TIMES`]). If memory
+/// allocation for the smaller block fails, the list is unchanged.
+fn shrink_if_sparse<T: Drop>(list: &mut Vec<T>)
     ensures { list.new.items ≡ list.old.items }
 {
     if list.capacity() / MOST_TIMES > list.len() {
@@ -86,24 +84,28 @@ fn give_back_room<T: Drop>(list: &mut Vec<T>)
     }
 }
 
-/// Removes the routes of a run that have no other owner, and returns the number of octets that they
-/// take.
-fn take_unowned_of(run: &mut Vec<HashedRoute>) -> u64 {
+/// Removes the routes of the run that have no other owner, and returns the number of octets that
+/// they took ([`route_size`]).
+fn remove_unowned_from(run: &mut Vec<HashedRoute>) -> u64 {
     let mut octets = 0u64;
     'routes: for hashed in run.iter() {
-        if hashed.is_last_owner() {
+        if hashed.is_only_owner() {
             octets = octets.saturating_add(route_size(&hashed.route));
         }
     }
     if octets > 0 {
-        run.retain(|hashed| !hashed.is_last_owner());
-        give_back_room(run);
+        run.retain(|hashed| !hashed.is_only_owner());
+        shrink_if_sparse(run);
     }
     octets
 }
 
-/// Removes the second half of a run, and returns it in order. On an error, the run is unchanged.
-fn split_half(alloc: Global, run: &mut Vec<HashedRoute>) -> Result<Vec<HashedRoute>, AllocError> {
+/// Removes the second half of the run and returns it, in order. Fails if memory allocation fails;
+/// the run is unchanged then.
+fn split_off_half(
+    alloc: Global,
+    run: &mut Vec<HashedRoute>,
+) -> Result<Vec<HashedRoute>, AllocError> {
     let kept = run.len() / 2;
     let mut half = Vec::with_capacity(alloc, run.len() - kept)?;
     'routes: for _ in kept..run.len() {
@@ -116,24 +118,24 @@ fn split_half(alloc: Global, run: &mut Vec<HashedRoute>) -> Result<Vec<HashedRou
 }
 
 impl OrderedRoutes {
-    /// Returns an empty list, without allocating memory.
-    pub(crate) fn none(alloc: Global) -> OrderedRoutes {
+    /// Returns an empty list. Allocates no memory.
+    pub(crate) fn empty(alloc: Global) -> OrderedRoutes {
         OrderedRoutes {
             runs: Vec::new(alloc),
             count: 0,
         }
     }
 
-    /// Returns whether the list has as many routes as it may have.
-    pub(crate) fn are_most(&self) -> bool {
+    /// Returns `true` if the list has as many routes as it may have ([`MOST_ORDERED`]).
+    pub(crate) fn is_full(&self) -> bool {
         self.count >= MOST_ORDERED
     }
 
     /// Returns the index of the run that `route`, whose hash is `hash`, belongs to: the last one
-    /// that doesn't begin after it, or 0 if there is none.
+    /// whose first route isn't greater, or 0 if there is none.
     fn find_run(&self, hash: u32, route: &Route) -> usize {
         self.runs
-            .partition_point(|run| !is_behind(run, hash, route))
+            .partition_point(|run| !starts_after(run, hash, route))
             .saturating_sub(1)
     }
 
@@ -149,19 +151,20 @@ impl OrderedRoutes {
         None
     }
 
-    /// Splits the run at the index into two. On an error, it is unchanged.
+    /// Splits the run at the index into two. Fails if memory allocation fails; the runs are
+    /// unchanged then.
     fn split_run(&mut self, index: usize) -> Result<(), AllocError>
         requires { index < vec_len self.old.runs }
     {
         self.runs.reserve(1)?;
-        let half = split_half(*self.runs.allocator(), &mut self.runs[index])?;
+        let half = split_off_half(*self.runs.allocator(), &mut self.runs[index])?;
         self.runs.insert(index + 1, half)?;
         Ok(())
     }
 
-    /// Returns the index of the run that `route`, whose hash is `hash`, is to be inserted into. A
-    /// full run is split before. On an error, the runs are unchanged.
-    fn find_room(&mut self, hash: u32, route: &Route) -> Result<usize, AllocError> {
+    /// Returns the index of the run that `route`, whose hash is `hash`, is to be inserted into, and
+    /// splits a full run before. Fails if memory allocation fails; the runs are unchanged then.
+    fn make_room_for(&mut self, hash: u32, route: &Route) -> Result<usize, AllocError> {
         let index = self.find_run(hash, route);
         if index >= self.runs.len() || self.runs[index].len() < LONGEST_RUN {
             return Ok(index);
@@ -170,55 +173,57 @@ impl OrderedRoutes {
         Ok(self.find_run(hash, route))
     }
 
-    /// Inserts a route, whose hash is `hash`, in order. On an error, it isn't inserted.
-    pub(crate) fn put_route(&mut self, hash: u32, route: Rc<Route>) -> Result<(), AllocError> {
+    /// Inserts a route, whose hash is `hash`, in order. Fails if memory allocation fails; the route
+    /// is dropped then.
+    pub(crate) fn insert_route(&mut self, hash: u32, route: Rc<Route>) -> Result<(), AllocError> {
         if self.runs.is_empty() {
             let first = Vec::new(*self.runs.allocator());
             self.runs.push(first)?;
         }
-        let index = self.find_room(hash, &route)?;
+        let index = self.make_room_for(hash, &route)?;
         if let Some(run) = self.runs.get_mut(index) {
-            let place = find_index(run, hash, &route);
-            run.insert(place, HashedRoute { hash, route })?;
+            let position = find_index(run, hash, &route);
+            run.insert(position, HashedRoute { hash, route })?;
             self.count = self.count.saturating_add(1);
         }
         Ok(())
     }
 
-    /// Removes `route` itself, not one that equals it, and returns whether it was found.
-    pub(crate) fn take_route(&mut self, hash: u32, route: &Rc<Route>) -> bool {
+    /// Removes `route` itself, not one that equals it, and returns `true` if it was found. Its hash
+    /// is `hash`.
+    pub(crate) fn remove_route(&mut self, hash: u32, route: &Rc<Route>) -> bool {
         let index = self.find_run(hash, route);
         if index >= self.runs.len() {
             return false;
         }
         let run = &mut self.runs[index];
-        let place = find_index(run, hash, route);
-        if place >= run.len() || !Rc::ptr_eq(&run[place].route, route) {
+        let position = find_index(run, hash, route);
+        if position >= run.len() || !Rc::ptr_eq(&run[position].route, route) {
             return false;
         }
-        let _gone = run.remove(place);
-        give_back_room(run);
+        let _gone = run.remove(position);
+        shrink_if_sparse(run);
         if run.is_empty() {
             let _run = self.runs.remove(index);
-            give_back_room(&mut self.runs);
+            shrink_if_sparse(&mut self.runs);
         }
         self.count = self.count.saturating_sub(1);
         true
     }
 
     /// Removes the routes that have no other owner, and returns the number of octets that they
-    /// take. Lists with far more capacity than they need are shrunk, unless memory allocation for a
-    /// smaller block fails.
-    pub(crate) fn take_unowned(&mut self) -> u64 {
+    /// took. Shrinks lists whose capacity is far more than their length, unless memory allocation
+    /// for a smaller block fails.
+    pub(crate) fn remove_unowned(&mut self) -> u64 {
         let mut octets = 0u64;
         let mut count = 0usize;
         'runs: for run in self.runs.iter_mut() {
-            octets = octets.saturating_add(take_unowned_of(run));
+            octets = octets.saturating_add(remove_unowned_from(run));
             count = count.saturating_add(run.len());
         }
         self.count = count;
         self.runs.retain(|run| !run.is_empty());
-        give_back_room(&mut self.runs);
+        shrink_if_sparse(&mut self.runs);
         octets
     }
 }

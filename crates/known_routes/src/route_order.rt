@@ -1,5 +1,6 @@
 //! A total order of routes, by their times and all their attributes. It is for searches in
-//! `ordered_routes.rt` alone, and says nothing of which route a router would prefer.
+//! `ordered_routes.rt` alone, and doesn't tell which route a router would prefer. Read
+//! [`compare_routes`] first.
 
 use bgp_wire::{Aggregator, Attrs, Origin, Segment};
 use mrt_events::Route;
@@ -8,7 +9,7 @@ use std::cmp::Ordering;
 /// The number that stands for an absent ORIGIN, above all its codes. One above it would do as well.
 const NO_ORIGIN: u64 = 3;
 
-/// Compares two lists of numbers, number by number, a list before those that continue it.
+/// Compares two lists of numbers lexicographically.
 #[inline]
 fn compare_numbers(one: &[u32], other: &[u32]) -> Ordering {
     one.cmp(&other)
@@ -28,8 +29,8 @@ fn compare_paths(ones: &[Segment], others: &[Segment]) -> Ordering {
     if counts != Ordering::Equal {
         return counts;
     }
-    'segments: for place in 0..ones.len().min(others.len()) {
-        let compared = compare_segments(&ones[place], &others[place]);
+    'segments: for index in 0..ones.len().min(others.len()) {
+        let compared = compare_segments(&ones[index], &others[index]);
         if compared != Ordering::Equal {
             return compared;
         }
@@ -45,7 +46,7 @@ fn compare_aggregators(one: &Aggregator, other: &Aggregator) -> Ordering {
     }
 }
 
-/// Compares two optional aggregators. `None` comes first.
+/// Compares two optional aggregators, of which `None` is the least.
 fn compare_optional_aggregators(one: &Option<Aggregator>, other: &Option<Aggregator>) -> Ordering {
     match (one, other) {
         (Some(one), Some(other)) => compare_aggregators(one, other),
@@ -53,14 +54,14 @@ fn compare_optional_aggregators(one: &Option<Aggregator>, other: &Option<Aggrega
     }
 }
 
-/// Compares two optional origins by their codes. `None` comes last.
+/// Compares two optional origins by their codes. `None` is the greatest.
 fn compare_origins(one: Option<Origin>, other: Option<Origin>) -> Ordering {
     let one = one.map_or(NO_ORIGIN, |origin| origin as u64);
     let other = other.map_or(NO_ORIGIN, |origin| origin as u64);
     one.cmp(&other)
 }
 
-/// Compares the attributes of two routes, but for paths and communities.
+/// Compares the attributes of two routes, except for paths and communities.
 fn compare_short_attributes(one: &Attrs, other: &Attrs) -> Ordering {
     one.next_hop
         .cmp(&other.next_hop)
@@ -71,7 +72,7 @@ fn compare_short_attributes(one: &Attrs, other: &Attrs) -> Ordering {
         .then(compare_optional_aggregators(&one.aggregator, &other.aggregator))
 }
 
-/// Compares two routes by time and by all attributes, so that only equal ones compare equal.
+/// Compares two routes by time and by all attributes: `Equal` is returned for equal routes only.
 #[inline(never)]
 pub(crate) fn compare_routes(one: &Route, other: &Route) -> Ordering {
     // It isn't inlined, since few routes have the same hash.

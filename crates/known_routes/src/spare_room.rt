@@ -1,5 +1,6 @@
-//! Copies of routes without spare capacity. [`KnownRoutes`](crate::KnownRoutes) copies a new route
-//! by [`copy_roomy`] where it has much, and the reader fills the original again.
+//! Copies of routes without spare capacity. [`RouteInterner`](crate::RouteInterner) adds a copy of
+//! a new route if that has much, and the reader fills the original again. Read
+//! [`copy_if_oversized`] first.
 
 ghost use Rattle.std.specs.Prelude.{◌≡◌, IfOk};
 
@@ -23,17 +24,18 @@ const NUMBER_OCTETS: usize = size_of::<u32>();
 /// The number of octets of a segment in the list of a path: no more and no fewer.
 const SEGMENT_OCTETS: usize = size_of::<Segment>();
 
-/// Returns `octets` and the octets of the spare capacity of a list, each item of which takes `size`
-/// octets.
+/// Returns the sum of `octets` and the octets of the spare capacity of the list, each element of
+/// which takes `size` octets.
 #[inline]
 fn add_spare<T>(octets: u64, list: &Vec<T>, size: usize) -> u64 {
     let spare = list.capacity().wrapping_sub(list.len());
     octets.wrapping_add((spare as u64).wrapping_mul(size as u64))
 }
 
-/// Returns whether a route, which takes `octets` octets, has much spare capacity.
+/// Returns `true` if the route, which takes `octets` octets, has much spare capacity
+/// ([`SPARE_SHARE`]).
 #[inline]
-fn has_much_room(route: &Route, octets: u64) -> bool {
+fn has_much_spare(route: &Route, octets: u64) -> bool {
     let attrs = &route.attrs;
     let segments = &attrs.path.segments.items;
     let mut spare = add_spare(0, &attrs.communities.items, NUMBER_OCTETS);
@@ -44,7 +46,7 @@ fn has_much_room(route: &Route, octets: u64) -> bool {
     spare > MOST_SPARE && spare - MOST_SPARE > octets / SPARE_SHARE
 }
 
-/// Returns a copy of the route without spare capacity.
+/// Returns a copy of the route without spare capacity. Fails if memory allocation fails.
 #[inline(never)]
 fn copy_route(alloc: Global, route: &Route) -> Result<Rc<Route>, AllocError>
     ensures { IfOk result (λ copy. copy.value ≡ route.now) }
@@ -54,16 +56,16 @@ fn copy_route(alloc: Global, route: &Route) -> Result<Rc<Route>, AllocError>
 }
 
 /// Returns `route`, or a copy without spare capacity if it has much. `octets` is the number of
-/// octets that it takes.
+/// octets that it takes. Fails if memory allocation fails.
 #[inline]
-pub(crate) fn copy_roomy(
+pub(crate) fn copy_if_oversized(
     alloc: Global,
     route: &Rc<Route>,
     octets: u64,
 ) -> Result<Rc<Route>, AllocError>
     ensures { IfOk result (λ copy. copy.value ≡ route.now.value) }
 {
-    if has_much_room(route, octets) {
+    if has_much_spare(route, octets) {
         return copy_route(alloc, route);
     }
     route.clone()

@@ -1,4 +1,4 @@
--- The order of peers, and what the items of events say, as plain data.
+-- The order of peers, and the values of items: what contracts see of an event's items.
 use Rattle.std.specs.declared.cmp.Ordering.{Ordering}
 use Rattle.std.specs.Ordering.{nat_cmp, on, then_cmp}
 use Rattle.ip_prefix.specs.Network.{address_cmp, Network}
@@ -10,22 +10,23 @@ use Rattle.mrt_events.specs.declared.event.Item.TheVariants as item
 
 -- ---- the order of peers
 
--- by address and then by AS number
+-- compares two peers, first by address and then by AS number
 abbrev pub peer_cmp : Peer → Peer → Ordering
 peer_cmp = then_cmp (on (λ p. p.addr) address_cmp) (on (λ p. p.asn) nat_cmp)
 
--- ---- what the items of events say, as plain data
+-- ---- the values of items
 
--- what an item says, with a route by its value
-pub data Saying : Type 0 where
-  -- the peer has this route to the prefix from now on
-  Announced : Peer → Network → Route → Saying
-  -- the peer has no route to the prefix any more
-  Withdrawn : Peer → Network → Saying
-  -- the session with the peer went from the first state to the second
-  Changed : Peer → ℕ → ℕ → Saying
+-- the value of an item: its peer and its prefix, with the value of its route and not a handle to it
+pub data ItemValue : Type 0 where
+  -- from now on the peer has this route to the prefix
+  Announced : Peer → Network → Route → ItemValue
+  -- from now on the peer has no route to the prefix
+  Withdrawn : Peer → Network → ItemValue
+  -- the session with the peer went from the first state to the second, by their numbers (RFC 6396, section 4.4.1)
+  Changed : Peer → ℕ → ℕ → ItemValue
 
-abbrev pub saying : Item → Saying
-saying (item.Announce peer network route) = Announced peer network route.value
-saying (item.Withdraw peer network) = Withdrawn peer network
-saying (item.State peer old new) = Changed peer old new
+-- the value of an item
+abbrev pub item_value : Item → ItemValue
+item_value (item.Announce peer network route) = Announced peer network route.value
+item_value (item.Withdraw peer network) = Withdrawn peer network
+item_value (item.State peer old new) = Changed peer old new

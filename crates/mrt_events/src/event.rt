@@ -11,7 +11,7 @@ use std::alloc::AllocError;
 use std::marker::Model;
 use std::rc::Rc;
 
-/// The time at which a record was written.
+/// The timestamp of a record (RFC 6396, sections 2 and 3).
 #[derive(Clone, Copy, Debug, PartialEq, Eq)]
 pub struct Time {
     /// Seconds since 1970.
@@ -33,13 +33,14 @@ pub enum Tag {
     Bgp4mpEt,
 }
 
-/// The attributes and the time of a route. Peer and prefix are beside it, as in [`Item::Announce`].
+/// The path attributes and the time of a route. Its peer and its prefix are beside it, as in
+/// [`Item::Announce`].
 #[derive(Debug, Drop)]
 pub struct Route {
     /// The path attributes.
     pub attrs: Attrs,
-    /// The time of the route, in seconds since 1970: the time of its record or, for an entry of a
-    /// table, the one that the [`Stamp`](crate::Stamp) of the reader selects.
+    /// The time of the route, in seconds since 1970: the timestamp of its record or, for a table
+    /// entry, the time that a [`Stamp`](crate::Stamp) chooses.
     pub time: u32,
 }
 
@@ -60,27 +61,27 @@ pub const ESTABLISHED: u16 = 6;
 /// A change of a peer's route to a prefix, or of the state of its session.
 #[derive(Debug, Drop)]
 pub enum Item {
-    /// An announcement: from now on the peer has this route to the prefix. An entry of a table is
-    /// one too.
+    /// An announcement: from now on the peer has this route to the prefix. The entries of routing
+    /// tables are announcements too.
     Announce(Peer, Prefix, Rc<Route>),
     /// A withdrawal: from now on the peer has no route to the prefix.
     Withdraw(Peer, Prefix),
-    /// A change of the session with the peer from the first state to the second (RFC 4271, section
-    /// 8.2.2), by their numbers (RFC 6396, section 4.4.1).
+    /// A change of the session with the peer from the first state to the second, by their numbers
+    /// (RFC 4271, section 8.2.2; RFC 6396, section 4.4.1).
     State(Peer, u16, u16),
 }
 
 /// A range of items that announce prefixes of one peer with one route. It may be empty.
 #[derive(Clone, Copy, Debug, PartialEq, Eq)]
-pub struct Shared {
+pub struct SharedRange {
     /// The index of the first item.
     pub start: usize,
     /// The index after the last item.
     pub end: usize,
 }
 
-/// Two adjacent ranges of items. Those of each range announce prefixes of one peer with one route.
-/// Either range may be empty.
+/// Two adjacent ranges of items. The items of each range announce prefixes of one peer with one
+/// route. Either range may be empty.
 #[derive(Clone, Copy, Debug, PartialEq, Eq)]
 pub struct SharedRanges {
     /// The index of the first item of the first range.
@@ -91,8 +92,8 @@ pub struct SharedRanges {
     pub end: usize,
 }
 
-/// A list of items in order, with the ranges of it that are known to share a route. In contracts it
-/// is the list of items, each route by its value.
+/// The items of an event in order, with two ranges of them that are known to share a route. In
+/// contracts it is the list of the items' values, which have routes and not handles to them.
 #[derive(Debug, Drop)]
 pub struct Items {
     items: Vec<Item>,
@@ -101,24 +102,24 @@ pub struct Items {
 
 impl Model for Items {
     ghost use Rattle.std.specs.Prelude.{List, map};
-    ghost use Rattle.mrt_events.specs.Event.{Saying, saying};
-    ghost use Rattle.mrt_events.specs.SharedRoute.{AreSharedIn};
+    ghost use Rattle.mrt_events.specs.Event.{ItemValue, item_value};
+    ghost use Rattle.mrt_events.specs.SharedRoute.{AreSharedRanges};
 
-    ghost Value = { List Saying };
+    ghost Value = { List ItemValue };
 
-    ghost view = { λ a. map saying a.items.items };
+    ghost view = { λ a. map item_value a.items.items };
 
-    ghost invariant = { λ a. AreSharedIn a.shared (map saying a.items.items) };
+    ghost invariant = { λ a. AreSharedRanges a.shared (map item_value a.items.items) };
 }
 
 impl Items {
     ghost use Rattle.std.specs.Prelude.{◌≤◌, length, map, slice_range};
-    ghost use Rattle.mrt_events.specs.Event.{saying};
-    ghost use Rattle.mrt_events.specs.SharedRoute.{AreOfOneRoute, AreSharedIn};
+    ghost use Rattle.mrt_events.specs.Event.{item_value};
+    ghost use Rattle.mrt_events.specs.SharedRoute.{AnnounceOneRoute, AreSharedRanges};
 
-    /// Returns the items of a vector, without a range that is known to share a route.
+    /// Returns the items of a vector, in order. No range of them is known to share a route.
     pub fn from_vec(items: Vec<Item>) -> Items
-        ensures { result ≡ map saying items.items }
+        ensures { result ≡ map item_value items.items }
     {
         Items {
             items,
@@ -130,18 +131,18 @@ impl Items {
         }
     }
 
-    /// Returns the items of a vector, where those of each range of `shared` announce prefixes of
-    /// one peer with one route.
-    pub fn sharing(items: Vec<Item>, shared: SharedRanges) -> Items
-        requires { AreSharedIn shared (map saying items.items) }
-        ensures { result ≡ map saying items.items }
+    /// Returns the items of a vector, in order. The items of each range of `shared` must announce
+    /// prefixes of one peer with one route.
+    pub fn with_shared_ranges(items: Vec<Item>, shared: SharedRanges) -> Items
+        requires { AreSharedRanges shared (map item_value items.items) }
+        ensures { result ≡ map item_value items.items }
     {
         Items { items, shared }
     }
 
     /// Converts the items into a vector, in order.
     pub fn into_vec(self) -> Vec<Item>
-        ensures { map saying result.items ≡ self }
+        ensures { map item_value result.items ≡ self }
     {
         let Items { items, .. } = self;
         items
@@ -149,29 +150,30 @@ impl Items {
 
     /// Returns the items as a slice, in order.
     pub fn as_slice(&self) -> &[Item]
-        ensures { map saying result.now ≡ self.now }
+        ensures { map item_value result.now ≡ self.now }
     {
         &self.items
     }
 
-    /// Returns a range of items that are known to announce prefixes of one peer with one route: the
-    /// longer one of [`Items::shared_ranges`]. It may be empty although several items do.
-    pub fn shared(&self) -> Shared
+    /// Returns the longer one of [`Items::shared_ranges`], the first if both have one length. Its
+    /// items announce prefixes of one peer with one route. It may be empty although several items
+    /// do.
+    pub fn longest_shared_range(&self) -> SharedRange
         ensures ordered { result.start ≤ result.end }
         ensures within { result.end ≤ length self.now }
-        ensures alike { AreOfOneRoute (slice_range self.now result.start result.end) }
+        ensures alike { AnnounceOneRoute (slice_range self.now result.start result.end) }
     {
         let SharedRanges { start, middle, end } = self.shared;
         if end.saturating_sub(middle) > middle.saturating_sub(start) {
-            return Shared { start: middle, end };
+            return SharedRange { start: middle, end };
         }
-        Shared { start, end: middle }
+        SharedRange { start, end: middle }
     }
 
-    /// Returns both ranges of items that are known to announce prefixes of one peer with one route.
-    /// Either may be empty although several items do.
+    /// Returns the two ranges of items that are known to announce prefixes of one peer with one
+    /// route each. Either may be empty although several items do.
     pub fn shared_ranges(&self) -> SharedRanges
-        ensures { AreSharedIn result self.now }
+        ensures { AreSharedRanges result self.now }
     {
         self.shared
     }

@@ -10,9 +10,9 @@ mod route_memory;
 mod same;
 mod stamp;
 
-pub use event::{ESTABLISHED, Event, Item, Items, Route, Shared, SharedRanges, Tag, Time};
-pub use laws::peer_order;
+pub use event::{ESTABLISHED, Event, Item, Items, Route, SharedRange, SharedRanges, Tag, Time};
+pub use laws::law_peer_order;
 pub use peer::Peer;
-pub use route_memory::{route_room, route_size};
+pub use route_memory::{max_route_size, route_size};
 pub use same::{same_peer, same_prefix, same_route};
 pub use stamp::Stamp;

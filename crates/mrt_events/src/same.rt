@@ -1,5 +1,6 @@
-//! Whether two routes, peers or prefixes are equal, so that one can stand for the other. The
-//! printers of lines, the table of known routes and the player call it. Read [`same_route`] first.
+//! Tests whether two routes, peers or prefixes are equal, so that one can stand for the other. The
+//! printers of lines, the table of known routes and the player call them. Read [`same_route`]
+//! first.
 
 ghost use Rattle.std.specs.Prelude.{◌≡◌, ◌↔◌, IsTrue};
 
@@ -8,21 +9,21 @@ use crate::peer::Peer;
 use bgp_wire::{Aggregator, Attrs, Segment};
 use ip_prefix::Prefix;
 
-/// Returns whether two lists of numbers are equal.
+/// Returns `true` if two lists of AS numbers or communities are equal.
 fn same_numbers(one: &[u32], other: &[u32]) -> bool
     ensures { IsTrue result ↔ (one.now ≡ other.now) }
 {
     one == other
 }
 
-/// Returns whether two segments of AS paths are equal, in kind and AS numbers.
+/// Returns `true` if two segments of AS paths are equal, in kind and AS numbers.
 fn same_segment(one: &Segment, other: &Segment) -> bool
     ensures { IsTrue result ↔ (one.now ≡ other.now) }
 {
     one.kind == other.kind && same_numbers(one.numbers.as_slice(), other.numbers.as_slice())
 }
 
-/// Returns whether two lists of segments are equal.
+/// Returns `true` if two AS paths, given by their segments, are equal.
 fn same_segments(ones: &[Segment], others: &[Segment]) -> bool
     ensures { IsTrue result ↔ (ones.now ≡ others.now) }
 {
@@ -37,8 +38,8 @@ fn same_segments(ones: &[Segment], others: &[Segment]) -> bool
     true
 }
 
-/// Returns whether two optional values are equal: both are `None`, or both are there and are equal.
-/// `==` must hold exactly for equal values of `T`.
+/// Returns `true` if two optional values are equal: both are `None`, or both are `Some` with equal
+/// values. `==` must hold exactly for equal values of `T`.
 fn same_option<T: Copy + PartialEq>(one: Option<T>, other: Option<T>) -> bool
     requires { (a b : T) → IsTrue (T.eq a b) ↔ (a ≡ b) }
     ensures { IsTrue result ↔ (one ≡ other) }
@@ -46,7 +47,7 @@ fn same_option<T: Copy + PartialEq>(one: Option<T>, other: Option<T>) -> bool
     one == other
 }
 
-/// Returns whether two optional aggregators are equal: both are `None`, or both are there, with
+/// Returns `true` if two optional aggregators are equal: both are `None`, or both are `Some` with
 /// equal AS numbers and addresses.
 #[tactic(auto, using(crate::proofs::PeerLaws::tied_addresses))]
 fn same_aggregator(one: Option<Aggregator>, other: Option<Aggregator>) -> bool
@@ -59,7 +60,7 @@ fn same_aggregator(one: Option<Aggregator>, other: Option<Aggregator>) -> bool
     }
 }
 
-/// Returns whether two sets of path attributes are equal.
+/// Returns `true` if two sets of path attributes are equal.
 fn same_attributes(one: &Attrs, other: &Attrs) -> bool
     ensures { IsTrue result ↔ (one.now ≡ other.now) }
 {
@@ -73,7 +74,7 @@ fn same_attributes(one: &Attrs, other: &Attrs) -> bool
         && same_numbers(one.communities.as_slice(), other.communities.as_slice())
 }
 
-/// Returns whether two routes are equal, in time and path attributes.
+/// Returns `true` if two routes are equal, in time and path attributes.
 #[inline]
 pub fn same_route(one: &Route, other: &Route) -> bool
     ensures { IsTrue result ↔ (one.now ≡ other.now) }
@@ -81,7 +82,7 @@ pub fn same_route(one: &Route, other: &Route) -> bool
     one.time == other.time && same_attributes(&one.attrs, &other.attrs)
 }
 
-/// Returns whether two peers are equal, in address and AS number.
+/// Returns `true` if two peers are equal, in address and AS number.
 #[inline]
 #[tactic(auto, using(crate::proofs::PeerLaws::tied_addresses))]
 pub fn same_peer(one: &Peer, other: &Peer) -> bool
@@ -90,7 +91,7 @@ pub fn same_peer(one: &Peer, other: &Peer) -> bool
     one.asn == other.asn && one.addr == other.addr
 }
 
-/// Returns whether two prefixes are equal, in family, least address and length.
+/// Returns `true` if two prefixes are equal, in address and length.
 #[inline]
 pub fn same_prefix(one: &Prefix, other: &Prefix) -> bool
     ensures { IsTrue result ↔ (one.now ≡ other.now) }

@@ -41,12 +41,12 @@ FillsWithin-stopped_place a b c k l m done part whole at end size limit fault le
     (done ++ front, omega (arith, length-append done front), stops, Takes-trans a b c k l m done front before now)
 
 -- octets of which n were passed over
-abbrev pub Passed : Option (List ℕ) → Option (List ℕ) → ℕ → ℕ → ℕ → Type 0
-Passed old new before after n = (octets : List ℕ) × (length octets ≡ n) × Takes old new before after octets
+abbrev pub Skipped : Option (List ℕ) → Option (List ℕ) → ℕ → ℕ → ℕ → Type 0
+Skipped old new before after n = (octets : List ℕ) × (length octets ≡ n) × Takes old new before after octets
 
 -- what was passed over before and now
-pub Passed-more : (a b c : Option (List ℕ)) (k l m n count all : ℕ) (buffer : List ℕ) → Passed a b k l n → count ≤ length buffer → Takes b c l m (take count buffer) → n + count ≡ all → Passed a c k m all
-Passed-more a b c k l m n count all buffer (done, len, before) fits now sum =
+pub Skipped-more : (a b c : Option (List ℕ)) (k l m n count all : ℕ) (buffer : List ℕ) → Skipped a b k l n → count ≤ length buffer → Takes b c l m (take count buffer) → n + count ≡ all → Skipped a c k m all
+Skipped-more a b c k l m n count all buffer (done, len, before) fits now sum =
     (done ++ take count buffer, omega (arith, len, sum, length-append done (take count buffer), length-take-le count buffer fits), Takes-trans a b c k l m done (take count buffer) before now)
 
 -- a buffer keeps its front as it is resized

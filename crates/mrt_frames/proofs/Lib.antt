@@ -1,3 +1,4 @@
+pub mod BufferedLaws
 pub mod Buffers
 pub mod RecordLaws
 pub mod RestLaws

@@ -1,7 +1,7 @@
 -- Laws of records: none begins another, so octets split into records in one way.
 use Rattle.std.proofs.Common.{◌≡◌, ℕ, ◌<◌, List, ◌++◌, length, take, drop, ap, arith, length-append}
 use Rattle.mrt_frames.specs.declared.header.TheConstants.{LONGEST_BODY}
-use Rattle.mrt_frames.specs.Record.{Record, IsHeader, header_octets, spelling, IsRecord, BeginsWithNoRecord}
+use Rattle.mrt_frames.specs.Record.{Record, FitsHeader, header_octets, spelling, IsRecord, BeginsWithNoRecord}
 use Rattle.octet_forms.proofs.Lists.{append_parts}
 use Rattle.octet_forms.proofs.Numbers.{same_w16, same_w32}
 
@@ -13,7 +13,7 @@ pub record SameHeader (s k t n s' k' t' n' : ℕ) (x y : List ℕ) : Type 0 wher
   pub size : n ≡ n'
   pub rest : x ≡ y
 
-pub same_header : (s k t n s' k' t' n' : ℕ) (x y : List ℕ) → IsHeader s k t n → IsHeader s' k' t' n'
+pub same_header : (s k t n s' k' t' n' : ℕ) (x y : List ℕ) → FitsHeader s k t n → FitsHeader s' k' t' n'
     → header_octets s k t n ++ x ≡ header_octets s' k' t' n' ++ y → SameHeader s k t n s' k' t' n' x y
 same_header s k t n s' k' t' n' x y p q e = record {
   seconds = same_w32 s s' p.seconds_fit q.seconds_fit (ap (take 4) e);
@@ -24,7 +24,7 @@ same_header s k t n s' k' t' n' x y p q e = record {
 }
 
 -- what stands behind a header whose record stands in front
-pub SameHeader-record : (s k t n : ℕ) (octets : List ℕ) → IsHeader s k t n → (r : Record) (more : List ℕ) → IsRecord r
+pub SameHeader-record : (s k t n : ℕ) (octets : List ℕ) → FitsHeader s k t n → (r : Record) (more : List ℕ) → IsRecord r
     → header_octets s k t n ++ octets ≡ spelling r ++ more → SameHeader s k t n r.seconds r.kind r.subtype (length r.body) octets (r.body ++ more)
 SameHeader-record s k t n octets p r more q e =
     same_header s k t n r.seconds r.kind r.subtype (length r.body) octets (r.body ++ more) p q.header e
@@ -35,13 +35,13 @@ BeginsWithNoRecord-short octets short r more q e =
     absurd (omega (arith, ap length e, length-append (spelling r) more, length-append (header_octets r.seconds r.kind r.subtype (length r.body)) r.body))
 
 -- nor of a header with fewer octets behind it than it states
-pub BeginsWithNoRecord-cut : (s k t n : ℕ) (body : List ℕ) → IsHeader s k t n → length body < n → BeginsWithNoRecord (header_octets s k t n ++ body)
+pub BeginsWithNoRecord-cut : (s k t n : ℕ) (body : List ℕ) → FitsHeader s k t n → length body < n → BeginsWithNoRecord (header_octets s k t n ++ body)
 BeginsWithNoRecord-cut s k t n body p short r more q e =
     let same = SameHeader-record s k t n body p r more q e in
     absurd (omega (arith, same.size, ap length same.rest, length-append r.body more))
 
 -- nor of a header that states too much
-pub BeginsWithNoRecord-too_long : (s k t n : ℕ) (octets : List ℕ) → IsHeader s k t n → LONGEST_BODY < n → BeginsWithNoRecord (header_octets s k t n ++ octets)
+pub BeginsWithNoRecord-too_long : (s k t n : ℕ) (octets : List ℕ) → FitsHeader s k t n → LONGEST_BODY < n → BeginsWithNoRecord (header_octets s k t n ++ octets)
 BeginsWithNoRecord-too_long s k t n octets p long r more q e =
     let same = SameHeader-record s k t n octets p r more q e in
     absurd (omega (arith, same.size, q.size))

@@ -1,101 +1,116 @@
 -- Private.
--- What the reader of records takes from its input, by what it answers.
+-- What the reader of records takes from its input, by what it returns.
 use Rattle.std.specs.Prelude.{ℕ, ◌<◌, List, slice_index, take, ◌≡◌, ◌+◌, ◌≤◌, Bool, true, false, length, Option, Some, None, Result, Ok, Err}
 use Rattle.mrt_frames.specs.declared.header.Header.{Header}
-use Rattle.mrt_frames.specs.Record.{Record, IsHeader, header_octets, spelling, IsRecord, rest_kind, rest_fault, IsRest, IsBegun}
+use Rattle.mrt_frames.specs.Record.{Record, FitsHeader, header_octets, spelling, IsRecord, rest_kind, rest_fault, IsRest, IsUnfinished}
 use Rattle.std.specs.Io.KnownBytes.{Consumes, IsAtEnd}
 use Rattle.mrt_frames.specs.declared.fault.SourceFault.{SourceFault}
 use Rattle.mrt_frames.specs.declared.fault.SourceFault.TheVariants.{Read, InputTooLong, Spent}
 use Rattle.mrt_frames.specs.declared.fault.TakeFault.{TakeFault}
 use Rattle.mrt_frames.specs.declared.fault.TakeFault.TheVariants.{InputFailed, PastLimit}
 use Rattle.mrt_frames.specs.declared.fault.RecordKind.TheVariants.{CutRecord}
-use Rattle.mrt_frames.specs.declared.frames.Start.{Start}
-use Rattle.mrt_frames.specs.declared.frames.Start.TheVariants as start
-use Rattle.mrt_frames.specs.declared.frames.Front.{Front}
-use Rattle.mrt_frames.specs.declared.frames.Front.TheVariants as front
+use Rattle.mrt_frames.specs.declared.frames.NextHeader.{NextHeader}
+use Rattle.mrt_frames.specs.declared.frames.NextHeader.TheVariants as start
+use Rattle.mrt_frames.specs.declared.frames.NextRecord.{NextRecord}
+use Rattle.mrt_frames.specs.declared.frames.NextRecord.TheVariants as front
 
--- ---- records made of their parts, and lists of octets
+-- ---- octets, and records made of their parts
 
--- each element is an octet
+-- each element of the list is less than 256
 abbrev pub IsOctets : List ℕ → Type 0
 IsOctets octets = (i : ℕ) → slice_index octets i < 256
 
--- the record of a header's fields and a body
-abbrev pub record_of : ℕ → ℕ → ℕ → List ℕ → Record
-record_of seconds kind subtype body = record { seconds = seconds; kind = kind; subtype = subtype; body = body }
+-- the record with this timestamp, type, subtype and body
+abbrev pub record_from_fields : ℕ → ℕ → ℕ → List ℕ → Record
+record_from_fields seconds kind subtype body = record { seconds = seconds; kind = kind; subtype = subtype; body = body }
 
--- the record of a header and a body
-abbrev pub record_under : Header → List ℕ → Record
-record_under header body = record_of header.seconds header.kind header.subtype body
+-- the record with the timestamp, type and subtype of a header, and with this body
+abbrev pub record_with_header : Header → List ℕ → Record
+record_with_header header body = record_from_fields header.seconds header.kind header.subtype body
 
--- the record of a header whose body is at the front of the buffer
-abbrev pub record_in : Header → List ℕ → Record
-record_in header buffer = record_under header (take header.size buffer)
+-- the record of a header whose body is at the start of a buffer: as many octets of it as the header states, or all
+-- where it has fewer
+abbrev pub record_in_buffer : Header → List ℕ → Record
+record_in_buffer header buffer = record_with_header header (take header.size buffer)
 
--- ---- what calls do to the octets that an input has left, where these are known
+-- ---- the octets that calls take from an input, where it knows those that are left
 
--- octets were taken, and the count of those taken went on by theirs
+-- a call took these octets from an input that had `old` left before and has `new` left afterwards, if these are
+-- known, and raised the number of octets taken in all from `before` to `after` by theirs
 abbrev pub Takes : Option (List ℕ) → Option (List ℕ) → ℕ → ℕ → List ℕ → Type 0
 Takes old new before after octets = Consumes old new octets × (after ≡ before + length octets)
 
--- the source's fault where octets couldn't be taken
-abbrev pub fault_of_source : TakeFault → SourceFault
-fault_of_source InputFailed = Read
-fault_of_source PastLimit = InputTooLong
+-- the error of a source for an error of reading octets into memory that is there
+abbrev pub source_fault : TakeFault → SourceFault
+source_fault InputFailed = Read
+source_fault PastLimit = InputTooLong
 
--- the source's answer, where octets were to be taken
-abbrev pub answer_of_source : {A : Type 0} → Result A TakeFault → Result A SourceFault
-answer_of_source (Ok answer) = Ok answer
-answer_of_source (Err fault) = Err (fault_of_source fault)
+-- a result with the error of a source in place of an error of reading octets
+abbrev pub source_answer : {A : Type 0} → Result A TakeFault → Result A SourceFault
+source_answer (Ok answer) = Ok answer
+source_answer (Err fault) = Err (source_fault fault)
 
--- a fault may come where so many octets were taken in all, of the most that may be
+-- the source may fail so when it has taken `taken` octets in all, of at most `limit`: with `InputTooLong` only at the
+-- limit, with `Spent` never, and with the others anywhere up to it
 abbrev pub Stops : SourceFault → ℕ → ℕ → Type 0
 Stops InputTooLong taken limit = taken ≡ limit
 Stops Spent taken limit = ⊥
 Stops other taken limit = taken ≤ limit
 
--- so many octets of a buffer were filled, where at most limit octets were to be taken in all and the buffer may have wanted memory
+-- a call that fills `size` octets of a buffer returned this result, with the input before and after it and the octets
+-- taken in all before and after it. On `Ok` the octets taken are the first of the buffer, and fewer than `size` only
+-- at the end of the input. On `Err` fewer than `size` octets were taken, which needn't be in the buffer.
 abbrev pub FillsWithin : Option (List ℕ) → Option (List ℕ) → ℕ → ℕ → List ℕ → ℕ → ℕ → Result ℕ SourceFault → Type 0
 FillsWithin old new before after buffer size limit (Ok count) = (count ≤ size) × (after ≤ limit) × Takes old new before after (take count buffer) × (count < size → IsAtEnd new)
 FillsWithin old new before after buffer size limit (Err fault) = (front : List ℕ) × (length front < size) × Stops fault after limit × Takes old new before after front
 
--- the call ended by a read fault
-abbrev pub is_read : {A : Type 0} → Result A SourceFault → Bool
-is_read (Err Read) = true
-is_read other = false
+-- true for the error that a read of the input failed, and false for any other result
+abbrev pub is_err_read : {A : Type 0} → Result A SourceFault → Bool
+is_err_read (Err Read) = true
+is_err_read other = false
 
--- ---- what the reader of records takes from its input, by what it answers
+-- ---- what the reader of records takes from its input, by what it returns
 
--- the octets are the rest; but for a length that is too long, the input ends there
+-- the octets are the rest of an input that has `left` left: they begin with no whole record, and the input ends after
+-- them unless a header in them states too much
 pub record EndsAt (left : Option (List ℕ)) (octets : List ℕ) : Type 0 where
   pub rest : IsRest octets
   pub seen : rest_kind octets ≡ CutRecord → IsAtEnd left
 
--- octets were taken from the input, and this is so of what it has left, of how many were taken now, and of those
+-- a call took octets from an input, and `AreSo` holds of what the input has left, of the number of octets taken in
+-- all afterwards, and of the octets
 abbrev pub TakesOctets : (Option (List ℕ) → ℕ → List ℕ → Type 0) → Option (List ℕ) → Option (List ℕ) → ℕ → ℕ → Type 0
 TakesOctets AreSo old new before after = (octets : List ℕ) × Takes old new before after octets × AreSo new after octets
 
--- the octets of a header, or the rest
-abbrev pub TakesHeader : ℕ → Result Start SourceFault → Option (List ℕ) → ℕ → List ℕ → Type 0
-TakesHeader limit (Ok (start.Header header)) left taken octets = IsHeader header.seconds header.kind header.subtype header.size × (octets ≡ header_octets header.seconds header.kind header.subtype header.size)
-TakesHeader limit (Ok (start.Rest kind)) left taken octets = EndsAt left octets × (kind ≡ rest_fault octets)
-TakesHeader limit (Err fault) left taken octets = IsBegun octets × Stops fault taken limit
+-- the octets taken by a call that reads a header and returns this result: those of the header, or of the rest, or on
+-- error a part of a header. The octets are the last argument; `left` is what the input has left, and `taken` how many
+-- were taken in all, of at most `limit`.
+abbrev pub TakesHeaderOrRest : ℕ → Result NextHeader SourceFault → Option (List ℕ) → ℕ → List ℕ → Type 0
+TakesHeaderOrRest limit (Ok (start.Header header)) left taken octets = FitsHeader header.seconds header.kind header.subtype header.size × (octets ≡ header_octets header.seconds header.kind header.subtype header.size)
+TakesHeaderOrRest limit (Ok (start.Rest kind)) left taken octets = EndsAt left octets × (kind ≡ rest_fault octets)
+TakesHeaderOrRest limit (Err fault) left taken octets = IsUnfinished octets × Stops fault taken limit
 
--- the octets of a body, which stand at the front of the buffer, or fewer
+-- the octets taken by a call that reads a body of `size` octets into the start of a buffer and returns this result:
+-- the whole body on `true`, and fewer octets otherwise, to the end of the input on `false`. The octets are the last
+-- argument.
 abbrev pub TakesBody : ℕ → List ℕ → ℕ → Result Bool SourceFault → Option (List ℕ) → ℕ → List ℕ → Type 0
 TakesBody limit buffer size (Ok true) left taken octets = (octets ≡ take size buffer) × (length octets ≡ size)
 TakesBody limit buffer size (Ok false) left taken octets = IsAtEnd left × (length octets < size)
 TakesBody limit buffer size (Err fault) left taken octets = (length octets < size) × Stops fault taken limit
 
--- the octets of a body that is passed over, or fewer
-abbrev pub PassesBody : ℕ → ℕ → Result Bool SourceFault → Option (List ℕ) → ℕ → List ℕ → Type 0
-PassesBody limit size result left taken octets = TakesBody limit octets size result left taken octets
+-- the octets taken by a call that skips a body of `size` octets and returns this result: the whole body on `true`,
+-- and fewer octets otherwise, to the end of the input on `false`. The octets are the last argument.
+abbrev pub SkipsBody : ℕ → ℕ → Result Bool SourceFault → Option (List ℕ) → ℕ → List ℕ → Type 0
+SkipsBody limit size result left taken octets = TakesBody limit octets size result left taken octets
 
--- the octets of a record, whose body stands at the front of the buffer, if such records are supported, and was passed over if they aren't; or the rest
-abbrev pub TakesRecord : {F : Type 0} → (ℕ → ℕ → Option F) → ℕ → List ℕ → Result (Front F) SourceFault → Option (List ℕ) → ℕ → List ℕ → Type 0
-TakesRecord form_at limit buffer (Ok (front.Record header form)) left taken octets =
-    (form_at header.kind header.subtype ≡ Some form) × (length (take header.size buffer) ≡ header.size) × IsRecord (record_in header buffer) × (octets ≡ spelling (record_in header buffer))
-TakesRecord form_at limit buffer (Ok (front.Passed header)) left taken octets =
-    (form_at header.kind header.subtype ≡ None) × ((body : List ℕ) × IsRecord (record_under header body) × (octets ≡ spelling (record_under header body)))
-TakesRecord form_at limit buffer (Ok (front.Rest kind)) left taken octets = EndsAt left octets × (kind ≡ rest_fault octets)
-TakesRecord form_at limit buffer (Err fault) left taken octets = IsBegun octets × Stops fault taken limit
+-- the octets taken by a call that reads a record and returns this result: those of a record of a supported type,
+-- whose body is at the start of the buffer, or of one of an unsupported type, which was skipped, or of the rest, or
+-- on error a part of a record. `format_at` gives the format of each type and subtype that is supported. The octets
+-- are the last argument.
+abbrev pub TakesRecordOrRest : {F : Type 0} → (ℕ → ℕ → Option F) → ℕ → List ℕ → Result (NextRecord F) SourceFault → Option (List ℕ) → ℕ → List ℕ → Type 0
+TakesRecordOrRest format_at limit buffer (Ok (front.Record header form)) left taken octets =
+    (format_at header.kind header.subtype ≡ Some form) × (length (take header.size buffer) ≡ header.size) × IsRecord (record_in_buffer header buffer) × (octets ≡ spelling (record_in_buffer header buffer))
+TakesRecordOrRest format_at limit buffer (Ok (front.Skipped header)) left taken octets =
+    (format_at header.kind header.subtype ≡ None) × ((body : List ℕ) × IsRecord (record_with_header header body) × (octets ≡ spelling (record_with_header header body)))
+TakesRecordOrRest format_at limit buffer (Ok (front.Rest kind)) left taken octets = EndsAt left octets × (kind ≡ rest_fault octets)
+TakesRecordOrRest format_at limit buffer (Err fault) left taken octets = IsUnfinished octets × Stops fault taken limit

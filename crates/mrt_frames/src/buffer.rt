@@ -1,21 +1,23 @@
 //! Filling buffers from an input, within a limit of octets. `frames.rt` reads headers and bodies
 //! with it. Read [`fill_within`] first.
 
-ghost use Rattle.std.specs.Prelude.{◌≡◌, ◌≤◌, ◌<◌, ◌+◌, ◌-◌, ◌*◌, ◌||◌, IfOk, length, max, take, drop, vec_len};
-ghost use Rattle.mrt_frames.specs.Taken.{FillsWithin, is_read, answer_of_source};
+ghost use Rattle.std.specs.Prelude.{◌≡◌, ◌≤◌, ◌<◌, ◌+◌, ◌-◌, ◌*◌, ◌||◌, false, IfOk, length, max, take, drop, vec_len};
+ghost use Rattle.mrt_frames.specs.Buffered.{FillsBuffered};
+ghost use Rattle.mrt_frames.specs.Taken.{FillsWithin, is_err_read, source_answer};
 
 use crate::fault::{SourceFault, TakeFault};
 use crate::header::LONGEST_BODY;
 use crate::input::Input;
 use std::ops::Range;
 
-/// The number of octets by which a full buffer grows while it has no more than these. A larger
-/// buffer is doubled.
+/// The number of octets by which a full buffer grows as long as it has no more than these. A longer
+/// one is doubled.
 const FIRST_GROWTH: usize = 4096;
 
 /// Fills `buffer` from `input`, and returns the number of octets filled, which is less than the
-/// length of `buffer` only at the end of the input. Adds the octets read to `taken`, on error too,
-/// and fails with `PastLimit` if `taken` reaches `limit` before `buffer` is full.
+/// length of `buffer` only at the end of the input. Adds the octets read to `taken`, on error too.
+/// Fails with `PastLimit` if `taken` reaches `limit` before `buffer` is full, or with `InputFailed`
+/// if a read fails.
 #[inline(always)]
 pub(crate) fn fill_within<I: Input>(
     input: &mut I,
@@ -25,9 +27,11 @@ pub(crate) fn fill_within<I: Input>(
 ) -> Result<usize, TakeFault>
     requires room { taken.old ≤ limit }
     ensures octets { FillsWithin (I.left input.old) (I.left input.new) taken.old taken.new
-        buffer.new (length buffer.new) limit (answer_of_source result) }
+        buffer.new (length buffer.new) limit (source_answer result) }
     ensures failed { I.failed input.new
-        ≡ (I.failed input.old || is_read (answer_of_source result)) }
+        ≡ (I.failed input.old || is_err_read (source_answer result)) }
+    ensures buffered { FillsBuffered (I.buffered input.old) (I.buffered input.new)
+        buffer.new (length buffer.new) (source_answer result) }
 {
     // The input isn't asked for its end when the limit is met. It may have ended there, and
     // `PastLimit` is returned all the same.
@@ -47,10 +51,10 @@ pub(crate) fn fill_within<I: Input>(
     Ok(filled)
 }
 
-/// Returns the index up to which to fill the buffer of a body of `size` octets next, where the
-/// buffer has `held` octets and the first `filled` are filled. It is the end of the buffer, or if
-/// that is full, the length to which it is to grow, and at most `size`.
-fn next_end(held: usize, filled: usize, size: usize) -> usize
+/// Returns the index up to which the buffer of a body of `size` octets is filled next, where the
+/// buffer has `held` octets and the first `filled` are filled. It is the end of the buffer, or, if
+/// that is full, the length to which the buffer is to grow; it is at most `size`.
+fn next_fill_end(held: usize, filled: usize, size: usize) -> usize
     requires unfinished { filled < size }
     requires small { size ≤ LONGEST_BODY }
     ensures further { filled < result }
@@ -66,7 +70,8 @@ fn next_end(held: usize, filled: usize, size: usize) -> usize
 }
 
 /// Fills the octets of `buffer` in the range `part` from `input`, and returns the number of octets
-/// filled, as [`fill_within`] does. The octets before the range are unchanged.
+/// filled. Counts them in `taken`, up to `limit`, and fails as [`fill_within`] does. The octets
+/// before the range are unchanged.
 pub(crate) fn fill_part<I: Input>(
     input: &mut I,
     buffer: &mut Vec<u8>,
@@ -80,17 +85,20 @@ pub(crate) fn fill_part<I: Input>(
     ensures kept { take part.start buffer.new.items ≡ take part.start buffer.old.items }
     ensures size { vec_len buffer.new ≡ vec_len buffer.old }
     ensures octets { FillsWithin (I.left input.old) (I.left input.new) taken.old taken.new
-        (drop part.start buffer.new.items) (part.end - part.start) limit (answer_of_source result) }
+        (drop part.start buffer.new.items) (part.end - part.start) limit (source_answer result) }
     ensures failed { I.failed input.new
-        ≡ (I.failed input.old || is_read (answer_of_source result)) }
+        ≡ (I.failed input.old || is_err_read (source_answer result)) }
+    ensures buffered { FillsBuffered (I.buffered input.old) (I.buffered input.new)
+        (drop part.start buffer.new.items) (part.end - part.start) (source_answer result) }
 {
     fill_within(input, &mut buffer[part], taken, limit)
 }
 
 /// Reads a body of `size` octets into the start of `buffer`, and returns the number of octets read,
 /// which is less than `size` only at the end of the input. Counts them in `taken`, up to `limit`,
-/// as [`fill_within`] does. `buffer` grows to at most twice the octets read plus 4,096, so a length
-/// that the input doesn't have allocates little.
+/// and fails as [`fill_within`] does, or with `Memory` if memory allocation fails. `buffer` grows
+/// to at most twice the octets read plus 4,096, so a length that the input doesn't have allocates
+/// little.
 #[inline(never)]
 pub(crate) fn fill_body<I: Input>(
     input: &mut I,
@@ -106,12 +114,13 @@ pub(crate) fn fill_body<I: Input>(
     ensures held { IfOk result (λ count. count ≤ vec_len buffer.new) }
     ensures growth { IfOk result (λ count.
         vec_len buffer.new ≤ max (vec_len buffer.old) (2 * count + FIRST_GROWTH)) }
-    ensures failed { I.failed input.new ≡ (I.failed input.old || is_read result) }
+    ensures failed { I.failed input.new ≡ (I.failed input.old || is_err_read result) }
+    ensures buffered { size ≤ length (I.buffered input.old) → is_err_read result ≡ false }
 {
-    // It is out of line, since few bodies are longer than all before.
+    // Out of line, since few bodies are longer than all before.
     let mut filled = 0;
     while filled < size {
-        let end = next_end(buffer.len(), filled, size);
+        let end = next_fill_end(buffer.len(), filled, size);
         buffer.resize(end, 0)?;
         filled += fill_part(input, buffer, filled..end, taken, limit)?;
         if filled < end {

@@ -1,8 +1,8 @@
 //! The faults of records, and the errors that stop a source. `frames.rt` and `mrt_wire` return
-//! them. Read [`RecordKind`] and [`SourceFault`].
+//! them. Read [`RecordKind`] and [`SourceFault`] first.
 
 ghost use Rattle.std.specs.Prelude.{◌≡◌};
-ghost use Rattle.mrt_frames.specs.Taken.{fault_of_source};
+ghost use Rattle.mrt_frames.specs.Taken.{source_fault};
 ghost use Rattle.mrt_frames.specs.declared.fault.TakeFault.TheVariants.{InputFailed};
 ghost use Rattle.mrt_frames.specs.declared.fault.SourceFault.TheVariants.{Memory};
 
@@ -10,8 +10,8 @@ use crate::input::InFault;
 use std::alloc::AllocError;
 use thiserror::Error;
 
-/// The kind of a record's fault. The first that applies in this order is reported, but a cut body
-/// (`CutRecord`) comes after `TooLong`.
+/// The kind of a record's fault. If several apply, the first in this order is reported; a body that
+/// is cut (`CutRecord`) is tested after `TooLong`.
 #[derive(Clone, Copy, Debug, PartialEq, Eq)]
 pub enum RecordKind {
     /// The input ends inside the record.
@@ -21,23 +21,23 @@ pub enum RecordKind {
     TooLong(u32),
     /// Records of this type and subtype aren't supported.
     Unsupported(u16, u16),
-    /// The body doesn't have the form of its type and subtype.
+    /// The body doesn't have the format of its type and subtype (RFC 6396, section 4).
     Malformed,
-    /// The record has entries of a table, but no peer index table was accepted before it.
+    /// The record is a RIB record, maybe without entries, and no peer index table was accepted
+    /// before it (RFC 6396, section 4.3).
     NoIndex,
-    /// An entry has this peer index, which is not in the peer index table. The first such entry is
-    /// reported.
+    /// The peer index of an entry, the first that isn't in the peer index table.
     PeerIndex(u16),
 }
 
-/// The fault of a record, and where the record is in the input.
+/// A faulty record: the fault, and where the record is in the input.
 #[derive(Clone, Copy, Debug, PartialEq, Eq)]
 pub struct RecordFault {
     /// The number of the record, counted from 1. Faulty and unsupported records count too.
     pub number: u64,
     /// The kind of the fault.
     pub kind: RecordKind,
-    /// The offset of the record's header from the start of the input, in octets.
+    /// The number of octets in the input before the record's header.
     pub offset: u64,
 }
 
@@ -70,13 +70,13 @@ pub enum SourceFault {
     /// Memory allocation failed.
     #[error("out of memory")]
     Memory,
-    /// The source stopped in an earlier call.
+    /// The source had returned an error in an earlier call.
     #[error("the source has stopped")]
     Spent,
 }
 
 impl From<TakeFault> for SourceFault {
-    ghost from_gives = { λ taking fault. fault ≡ fault_of_source taking };
+    ghost from_gives = { λ taking fault. fault ≡ source_fault taking };
 
     fn from(fault: TakeFault) -> SourceFault {
         match fault {

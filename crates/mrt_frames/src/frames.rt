@@ -1,8 +1,9 @@
 //! Reading records one after the other: headers, and the bodies of supported types. `mrt_wire`
 //! calls [`FrameReader::take_record`] for each record; read that first.
 
-ghost use Rattle.std.specs.Prelude.{◌≡◌, ◌+◌, ◌≤◌, ◌||◌, ℕ, Option, IfOk, IsTrue, take, length, vec_len};
-ghost use Rattle.mrt_frames.specs.Taken.{is_read, answer_of_source, TakesOctets, TakesHeader, TakesBody, PassesBody, TakesRecord};
+ghost use Rattle.std.specs.Prelude.{◌≡◌, ◌+◌, ◌≤◌, ◌||◌, ℕ, false, Option, IfOk, IsTrue, take, length, vec_len};
+ghost use Rattle.mrt_frames.specs.Buffered.{HoldsRecord, StartsBuffered};
+ghost use Rattle.mrt_frames.specs.Taken.{is_err_read, source_answer, TakesOctets, TakesHeaderOrRest, TakesBody, SkipsBody, TakesRecordOrRest};
 
 use crate::buffer::{fill_body, fill_part, fill_within};
 use crate::fault::{RecordKind, SourceFault, TakeFault};
@@ -10,51 +11,53 @@ use crate::header::{HEADER_SIZE, Header, LONGEST_BODY, read_header};
 use crate::input::Input;
 use std::alloc::Global;
 
-/// The greatest size of the buffer of bodies, in octets, that is kept when a body of no more octets
+/// The largest size of the buffer of bodies, in octets, that is kept when a body of no more octets
 /// is read. A buffer of one octet more is freed then, and grows anew.
 const MOST_KEPT: usize = 1 << 18;
 
-/// The number of octets of a skipped body that are read at once. They are few, since each skipped
-/// record makes a buffer for them. A body of one octet more takes one more read of the input.
+// They are few, since the buffer is filled with zeros for each skipped record.
+/// The number of octets of a skipped body that are read at once, into a buffer on the stack. A body
+/// of one octet more takes one more read of the input.
 const PIECE: usize = 512;
 
-/// The supported types of records, and the form of the bodies of each.
-pub trait Profile {
-    /// The form of a body, by which it is parsed.
-    type Form: Copy;
+/// The supported types and subtypes of records, and the format of the bodies of each.
+pub trait RecordTypes {
+    /// The format of a body, by which it is parsed.
+    type BodyFormat: Copy;
 
-    /// The form of the bodies of a type and subtype, if these are supported.
-    ghost form_at: { Self → ℕ → ℕ → Option Self.Form };
+    /// The format of the bodies of a type and subtype, or `None` if these aren't supported.
+    ghost format_at: { Self → ℕ → ℕ → Option Self.BodyFormat };
 
-    /// Returns the form of the bodies of type `kind` and `subtype`, or `None` if these aren't
+    /// Returns the format of the bodies of type `kind` and `subtype`, or `None` if these aren't
     /// supported.
-    fn form_of(&self, kind: u16, subtype: u16) -> Option<Self::Form>
-        ensures { result ≡ form_at self.now kind subtype };
+    fn body_format(&self, kind: u16, subtype: u16) -> Option<Self::BodyFormat>
+        ensures { result ≡ format_at self.now kind subtype };
 }
 
-/// The header of the next record, or what is left of the input if that is shorter.
+/// The header of the next record, or the fault of what is left of the input.
 #[derive(Clone, Copy)]
-enum Start {
-    /// The header of a record.
+enum NextHeader {
+    /// The header of the next record.
     Header(Header),
-    /// No whole header is left: the fault of the octets left, or `None` at the end of the input.
+    /// The input ends before a whole header: the fault of the octets that are left, or `None` if
+    /// none are.
     Rest(Option<RecordKind>),
 }
 
-/// The next record of an input, or its end.
+/// The next record of an input, or the fault of what is left of it.
 #[derive(Clone, Copy)]
-pub enum Front<F> {
-    /// A record of a supported type, with the form of its body, which [`FrameReader::body`]
-    /// returns.
+pub enum NextRecord<F> {
+    /// The header of a record of a supported type, and the format of its body, which
+    /// [`FrameReader::body`] returns.
     Record(Header, F),
-    /// A record of an unsupported type, whose body was skipped.
-    Passed(Header),
-    /// No whole record can be read: the fault of the octets left, or `None` at the end of the
-    /// input.
+    /// The header of a record of an unsupported type, whose body was skipped.
+    Skipped(Header),
+    /// No whole record can be read: the fault of the octets that are left, or `None` if none are.
     Rest(Option<RecordKind>),
 }
 
-/// A reader of records from an input, within a limit of octets.
+/// A reader of records, header and body, from an input, within a limit of octets. The caller holds
+/// the input and passes it to each call.
 #[derive(Drop)]
 pub struct FrameReader {
     /// A buffer whose start is the last body that was read. The next body reuses it.
@@ -67,7 +70,8 @@ pub struct FrameReader {
 }
 
 impl FrameReader {
-    /// Returns a reader at the start of its input, which reads at most `limit` octets.
+    /// Returns a reader at the start of its input, which reads at most `limit` octets, without
+    /// allocating memory.
     pub fn new(alloc: Global, limit: u64) -> Self
         ensures limit { result.limit ≡ limit }
         ensures taken { result.taken ≡ 0 }
@@ -87,8 +91,8 @@ impl FrameReader {
         self.taken
     }
 
-    /// Returns the first `size` octets of the buffer of bodies. They are the body of the last
-    /// record if `size` is the length that its header states.
+    /// Returns the first `size` octets of the buffer of bodies. They are the body of the record
+    /// that was read last if `size` is the length that its header states, in octets.
     pub fn body(&self, size: u32) -> &[u8]
         requires { size ≤ vec_len self.now.body }
         ensures { result.now ≡ take size self.now.body.items }
@@ -96,33 +100,37 @@ impl FrameReader {
         &self.body[..size as usize]
     }
 
-    /// Reads the next header, or returns [`Start::Rest`] if the input ends before or inside it.
+    /// Reads the next header, or returns [`NextHeader::Rest`] if the input ends before or inside
+    /// it. On error, a part of the header may have been read.
     #[inline(always)]
-    fn take_header<I: Input>(&mut self, input: &mut I) -> Result<Start, TakeFault>
-        ensures octets { TakesOctets (TakesHeader self.new.limit (answer_of_source result))
+    fn take_header<I: Input>(&mut self, input: &mut I) -> Result<NextHeader, TakeFault>
+        ensures octets { TakesOctets (TakesHeaderOrRest self.new.limit (source_answer result))
             (I.left input.old) (I.left input.new) self.old.taken self.new.taken }
         ensures failed { I.failed input.new
-            ≡ (I.failed input.old || is_read (answer_of_source result)) }
+            ≡ (I.failed input.old || is_err_read (source_answer result)) }
         ensures limit { self.new.limit ≡ self.old.limit }
+        ensures buffered { HEADER_SIZE ≤ length (I.buffered input.old) →
+            StartsBuffered (I.buffered input.old) (I.buffered input.new) (source_answer result) }
     {
         let mut octets = [0; HEADER_SIZE];
         let count = fill_within(input, &mut octets, &mut self.taken, self.limit)?;
         if count == HEADER_SIZE {
-            return Ok(Start::Header(read_header(&octets)));
+            return Ok(NextHeader::Header(read_header(&octets)));
         }
-        Ok(Start::Rest((count > 0).then_some(RecordKind::CutRecord)))
+        Ok(NextHeader::Rest((count > 0).then_some(RecordKind::CutRecord)))
     }
 
     /// Reads a body of `size` octets into the buffer of bodies. Returns `false` if the input ends
-    /// inside the body.
+    /// inside the body. On error, a part of the body may have been read.
     #[inline(always)]
     fn take_body<I: Input>(&mut self, input: &mut I, size: u32) -> Result<bool, SourceFault>
         requires { size ≤ LONGEST_BODY }
         ensures octets { TakesOctets
             (TakesBody self.new.limit self.new.body.items size result)
             (I.left input.old) (I.left input.new) self.old.taken self.new.taken }
-        ensures failed { I.failed input.new ≡ (I.failed input.old || is_read result) }
+        ensures failed { I.failed input.new ≡ (I.failed input.old || is_err_read result) }
         ensures limit { self.new.limit ≡ self.old.limit }
+        ensures buffered { size ≤ length (I.buffered input.old) → is_err_read result ≡ false }
     {
         // The buffer of a long body is freed before a short one is read.
         let size = size as usize;
@@ -137,14 +145,17 @@ impl FrameReader {
         Ok(count == size)
     }
 
-    /// Skips a body of `size` octets. Returns `false` if the input ends inside the body.
+    /// Skips a body of `size` octets. Returns `false` if the input ends inside the body. On error,
+    /// a part of the body may have been read.
     #[inline(never)]
-    fn pass_body<I: Input>(&mut self, input: &mut I, size: u32) -> Result<bool, TakeFault>
-        ensures octets { TakesOctets (PassesBody self.new.limit size (answer_of_source result))
+    fn skip_body<I: Input>(&mut self, input: &mut I, size: u32) -> Result<bool, TakeFault>
+        ensures octets { TakesOctets (SkipsBody self.new.limit size (source_answer result))
             (I.left input.old) (I.left input.new) self.old.taken self.new.taken }
         ensures failed { I.failed input.new
-            ≡ (I.failed input.old || is_read (answer_of_source result)) }
+            ≡ (I.failed input.old || is_err_read (source_answer result)) }
         ensures limit { self.new.limit ≡ self.old.limit }
+        ensures buffered { size ≤ length (I.buffered input.old) →
+            is_err_read (source_answer result) ≡ false }
     {
         let mut piece = [0; PIECE];
         let mut ahead = size as usize;
@@ -159,37 +170,39 @@ impl FrameReader {
         Ok(true)
     }
 
-    /// Reads the next record from `input`, or returns [`Front::Rest`] if there is no whole one.
-    /// Bodies of types that `profile` doesn't support are skipped. On error, a part of the record
-    /// may have been read.
+    /// Reads the next record from `input`, or returns [`NextRecord::Rest`] if there is no whole
+    /// one. Bodies of types that `record_types` doesn't support are skipped. Fails if the input fails,
+    /// the limit is met, or memory allocation fails; a part of the record may have been read then.
+    /// No read fails if the record is buffered as a whole.
     #[inline(always)]
-    pub fn take_record<P: Profile, I: Input>(
+    pub fn take_record<P: RecordTypes, I: Input>(
         &mut self,
-        profile: &P,
+        record_types: &P,
         input: &mut I,
-    ) -> Result<Front<P::Form>, SourceFault>
+    ) -> Result<NextRecord<P::BodyFormat>, SourceFault>
         ensures octets { TakesOctets
-            (TakesRecord (P.form_at profile.now) self.new.limit self.new.body.items result)
+            (TakesRecordOrRest (P.format_at record_types.now) self.new.limit self.new.body.items result)
             (I.left input.old) (I.left input.new) self.old.taken self.new.taken }
-        ensures failed { I.failed input.new ≡ (I.failed input.old || is_read result) }
+        ensures failed { I.failed input.new ≡ (I.failed input.old || is_err_read result) }
         ensures limit { self.new.limit ≡ self.old.limit }
+        ensures buffered { HoldsRecord (I.buffered input.old) → is_err_read result ≡ false }
     {
         let header = match self.take_header(input)? {
-            Start::Header(header) => header,
-            Start::Rest(kind) => return Ok(Front::Rest(kind)),
+            NextHeader::Header(header) => header,
+            NextHeader::Rest(kind) => return Ok(NextRecord::Rest(kind)),
         };
         if header.size > LONGEST_BODY {
-            return Ok(Front::Rest(Some(RecordKind::TooLong(header.size))));
+            return Ok(NextRecord::Rest(Some(RecordKind::TooLong(header.size))));
         }
-        let Some(form) = profile.form_of(header.kind, header.subtype) else {
-            if self.pass_body(input, header.size)? {
-                return Ok(Front::Passed(header));
+        let Some(form) = record_types.body_format(header.kind, header.subtype) else {
+            if self.skip_body(input, header.size)? {
+                return Ok(NextRecord::Skipped(header));
             }
-            return Ok(Front::Rest(Some(RecordKind::CutRecord)));
+            return Ok(NextRecord::Rest(Some(RecordKind::CutRecord)));
         };
         if self.take_body(input, header.size)? {
-            return Ok(Front::Record(header, form));
+            return Ok(NextRecord::Record(header, form));
         }
-        Ok(Front::Rest(Some(RecordKind::CutRecord)))
+        Ok(NextRecord::Rest(Some(RecordKind::CutRecord)))
     }
 }

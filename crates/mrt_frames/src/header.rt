@@ -1,9 +1,10 @@
 //! The header of an MRT record (RFC 6396, section 2). `frames.rt` parses it with [`read_header`];
 //! read that first.
 
-ghost use Rattle.std.specs.Prelude.{◌≡◌, ◌+◌, ◌≤◌, length, take, drop};
+ghost use Rattle.std.specs.Prelude.{◌≡◌, ◌↔◌, ◌+◌, ◌≤◌, IsTrue, length, take, drop};
 ghost use Rattle.std.specs.Int.{to_be_bytes, w16, w32};
-ghost use Rattle.mrt_frames.specs.Record.{IsHeader, header_octets};
+ghost use Rattle.mrt_frames.specs.Buffered.{HoldsRecord};
+ghost use Rattle.mrt_frames.specs.Record.{FitsHeader, header_octets};
 
 use byteorder::{BigEndian, ByteOrder};
 
@@ -27,25 +28,25 @@ pub struct Header {
     pub size: u32,
 }
 
-/// Returns the big-endian 16-bit number at offset `place` of `octets`.
-fn u16_at(octets: &[u8], place: usize) -> u16
-    requires { place + 2 ≤ length octets.now }
-    ensures { to_be_bytes w16 result ≡ take 2 (drop place octets.now) }
+/// Returns the big-endian 16-bit number at `offset` in `octets`.
+fn u16_at(octets: &[u8], offset: usize) -> u16
+    requires { offset + 2 ≤ length octets.now }
+    ensures { to_be_bytes w16 result ≡ take 2 (drop offset octets.now) }
 {
-    BigEndian::read_u16(&octets[place..])
+    BigEndian::read_u16(&octets[offset..])
 }
 
-/// Returns the big-endian 32-bit number at offset `place` of `octets`.
-fn u32_at(octets: &[u8], place: usize) -> u32
-    requires { place + 4 ≤ length octets.now }
-    ensures { to_be_bytes w32 result ≡ take 4 (drop place octets.now) }
+/// Returns the big-endian 32-bit number at `offset` in `octets`.
+fn u32_at(octets: &[u8], offset: usize) -> u32
+    requires { offset + 4 ≤ length octets.now }
+    ensures { to_be_bytes w32 result ≡ take 4 (drop offset octets.now) }
 {
-    BigEndian::read_u32(&octets[place..])
+    BigEndian::read_u32(&octets[offset..])
 }
 
-/// Returns the header of which `octets` are the spelling. Numbers are big-endian.
+/// Parses the octets of a header (RFC 6396, section 2). Its numbers are big-endian.
 pub(crate) fn read_header(octets: &[u8; HEADER_SIZE]) -> Header
-    ensures fits { IsHeader result.seconds result.kind result.subtype result.size }
+    ensures fits { FitsHeader result.seconds result.kind result.subtype result.size }
     ensures octets { header_octets result.seconds result.kind result.subtype result.size
         ≡ octets.now }
 {
@@ -57,9 +58,14 @@ pub(crate) fn read_header(octets: &[u8; HEADER_SIZE]) -> Header
     }
 }
 
-/// Returns `true` if `octets` begins with a whole record, by the length that its header states.
+/// Returns `true` if `octets` begins with a whole record: a header, and a body of the length that
+/// the header states.
 #[inline]
-pub(crate) fn begins_with_record(octets: &[u8]) -> bool {
-    octets.split_first_chunk::<HEADER_SIZE>().is_some_and(|(header, body)| body.len()
-        >= read_header(header).size as usize)
+pub(crate) fn begins_with_record(octets: &[u8]) -> bool
+    ensures { IsTrue result ↔ HoldsRecord octets.now }
+{
+    let Some((header, body)) = octets.split_first_chunk::<HEADER_SIZE>() else {
+        return false;
+    };
+    body.len() >= read_header(header).size as usize
 }

@@ -10,6 +10,6 @@ mod header;
 mod input;
 
 pub use fault::{RecordFault, RecordKind, SourceFault};
-pub use frames::{FrameReader, Front, Profile};
+pub use frames::{FrameReader, NextRecord, RecordTypes};
 pub use header::{HEADER_SIZE, Header, LONGEST_BODY};
 pub use input::{BufferedInput, InFault, Input, ReadInput};

@@ -1,9 +1,9 @@
 -- Laws of contents.
 use Rattle.std.proofs.Common.{◌≡◌, ◌∙◌, ℕ, List, Some, sym, ap, subst}
-use Rattle.ip_prefix.specs.Fronts.{IsOne}
-use Rattle.mrt_wire.specs.declared.profile.Form.{Form}
-use Rattle.mrt_wire.specs.declared.profile.Form.TheVariants as form
-use Rattle.mrt_wire.specs.Profile.{HasForm}
+use Rattle.ip_prefix.specs.Fronts.{IsUnambiguous}
+use Rattle.mrt_wire.specs.declared.record_types.BodyFormat.{BodyFormat}
+use Rattle.mrt_wire.specs.declared.record_types.BodyFormat.TheVariants as form
+use Rattle.mrt_wire.specs.RecordTypes.{HasBodyFormat}
 use Rattle.mrt_wire.specs.Content.{Content, Entry, Peers, Entries, Session, SpellsContent, IsBody}
 use Rattle.mrt_wire.proofs.PeerIndexLaws.{one_peer_index}
 use Rattle.mrt_wire.proofs.RibLaws.{one_rib}
@@ -11,11 +11,11 @@ use Rattle.mrt_wire.proofs.SessionLaws.{one_session_body}
 use Rattle.mrt_wire.proofs.TableDumpLaws.{one_peer_entry}
 
 -- bodies of a type and subtype have one form
-pub same_form : (kind subtype : ℕ) (a b : Form) → HasForm kind subtype a → HasForm kind subtype b → a ≡ b
+pub same_form : (kind subtype : ℕ) (a b : BodyFormat) → HasBodyFormat kind subtype a → HasBodyFormat kind subtype b → a ≡ b
 same_form kind subtype a b p q = let e : Some a ≡ Some b = sym p ∙ q in cc
 
 -- no octets are of two contents of one form
-pub one_content_of : (form : Form) → IsOne (SpellsContent form)
+pub one_content_of : (form : BodyFormat) → IsUnambiguous (SpellsContent form)
 one_content_of (form.Entry family) a b octets s t = s.1 ∙ ap Entry (one_peer_entry family s.0 t.0 octets s.2 t.2) ∙ sym t.1
 one_content_of form.Peers a b octets s t = s.1 ∙ ap Peers (one_peer_index s.0 t.0 octets s.2 t.2) ∙ sym t.1
 one_content_of (form.Entries family) a b octets s t = s.1 ∙ ap Entries (one_rib family s.0 t.0 octets s.2 t.2) ∙ sym t.1

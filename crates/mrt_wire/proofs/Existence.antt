@@ -7,13 +7,13 @@ use Rattle.std.specs.Int.{to_be_bytes, from_be_bytes, w16, w32}
 use Rattle.mrt_frames.specs.declared.fault.RecordKind.TheVariants.{Unsupported, Malformed}
 use Rattle.mrt_events.specs.declared.stamp.Stamp.{Stamp}
 use Rattle.mrt_frames.specs.declared.header.TheConstants.{LONGEST_BODY}
-use Rattle.mrt_frames.specs.Record.{Record, IsHeader, header_octets, spelling, IsRecord, BeginsWithNoRecord}
-use Rattle.mrt_frames.specs.Taken.{record_of, IsOctets}
+use Rattle.mrt_frames.specs.Record.{Record, FitsHeader, header_octets, spelling, IsRecord, BeginsWithNoRecord}
+use Rattle.mrt_frames.specs.Taken.{record_from_fields, IsOctets}
 use Rattle.mrt_frames.specs.declared.fault.RecordKind.{RecordKind}
-use Rattle.mrt_wire.specs.declared.profile.Form.{Form}
-use Rattle.mrt_wire.specs.Profile.{form_of}
+use Rattle.mrt_wire.specs.declared.record_types.BodyFormat.{BodyFormat}
+use Rattle.mrt_wire.specs.RecordTypes.{body_format}
 use Rattle.mrt_wire.specs.Content.{Content, IsBody}
-use Rattle.mrt_wire.specs.Results.{Verdict, Accepted, Refused, Frame, Index, index_after, content_fault, event_of, ReadsAs, Splits, spellings}
+use Rattle.mrt_wire.specs.Results.{RecordOutcome, Accepted, Refused, Frame, PeerTable, index_after, content_fault, event_of, ReadsAs, Splits, spellings}
 use Rattle.mrt_frames.proofs.RecordLaws.{BeginsWithNoRecord-short, BeginsWithNoRecord-cut, BeginsWithNoRecord-too_long}
 use Rattle.octet_forms.proofs.Lists.{drop_in_parts}
 
@@ -80,7 +80,7 @@ record BeginsWithHeader (octets : List ℕ) : Type 0 where
   kind : ℕ
   subtype : ℕ
   size : ℕ
-  fits : IsHeader seconds kind subtype size
+  fits : FitsHeader seconds kind subtype size
   whole : octets ≡ header_octets seconds kind subtype size ++ drop 12 octets
 
 -- one stands in front of any twelve octets
@@ -120,9 +120,9 @@ BeginsWithRecord-header octets small header enough short =
     let size : header.size ≡ length body = sym (length-take-le header.size behind enough) in
     let small_behind : IsOctets behind = IsOctets-drop 12 octets small in
     record {
-      mrt = record_of header.seconds header.kind header.subtype body;
+      mrt = record_from_fields header.seconds header.kind header.subtype body;
       more = drop header.size behind;
-      is_record = record { header = subst (IsHeader header.seconds header.kind header.subtype) size header.fits; size = omega arith };
+      is_record = record { header = subst (FitsHeader header.seconds header.kind header.subtype) size header.fits; size = omega arith };
       more_octets = IsOctets-drop header.size behind small_behind;
       whole = header.whole
           ∙ field_then _ _ _ _ (ap (header_octets header.seconds header.kind header.subtype) size) (sym (take-append-drop header.size behind));
@@ -149,24 +149,24 @@ cases_record octets small = elim (cases_lt (length octets) 12) [
 ]
 
 -- no record is without a verdict
-some_verdict : (stamp : Stamp) (index : Index) (r : Record) → ((verdict : Verdict) → ReadsAs stamp index r verdict → ⊥) → ⊥
-some_verdict stamp index r none = by_form (form_of r.kind r.subtype) refl
+some_verdict : (stamp : Stamp) (index : PeerTable) (r : Record) → ((outcome : RecordOutcome) → ReadsAs stamp index r outcome → ⊥) → ⊥
+some_verdict stamp index r none = by_form (body_format r.kind r.subtype) refl
   where
     by_fault : (content : Content) → IsBody r.kind r.subtype content r.body → (fault : Option RecordKind) → content_fault index content ≡ fault → ⊥
     by_fault content is_body None sound = none (Accepted content (event_of stamp index r content)) record { is_body = is_body; sound = sound; made = refl }
     by_fault content is_body (Some kind) is = none (Refused kind) (inr (inr (content, is_body, is)))
 
-    by_form : (found : Option Form) → form_of r.kind r.subtype ≡ found → ⊥
+    by_form : (found : Option BodyFormat) → body_format r.kind r.subtype ≡ found → ⊥
     by_form None unread = none (Refused (Unsupported r.kind r.subtype)) (inl ((λ supported. let e : None ≡ Some supported.0 = sym unread ∙ supported.1 in cc), refl))
     by_form (Some form) read = none (Refused Malformed) (inr (inl ((form, read), (λ content is_body. by_fault content is_body (content_fault index content) refl), refl)))
 
 -- octets that begin with no record are a rest
-Splits-rest : (stamp : Stamp) (index : Index) (octets : List ℕ) → BeginsWithNoRecord octets → Splits stamp index octets [] octets
+Splits-rest : (stamp : Stamp) (index : PeerTable) (octets : List ℕ) → BeginsWithNoRecord octets → Splits stamp index octets [] octets
 Splits-rest stamp index octets none = record { whole = refl; are_frames = tt; none = none }
 
 -- a record is put in front
-Splits-record : (stamp : Stamp) (index : Index) (frame : Frame) (octets more : List ℕ) (frames : List Frame) (rest : List ℕ) → IsRecord frame.mrt
-    → ReadsAs stamp index frame.mrt frame.verdict → octets ≡ spelling frame.mrt ++ more → Splits stamp (index_after index frame.verdict) more frames rest
+Splits-record : (stamp : Stamp) (index : PeerTable) (frame : Frame) (octets more : List ℕ) (frames : List Frame) (rest : List ℕ) → IsRecord frame.mrt
+    → ReadsAs stamp index frame.mrt frame.outcome → octets ≡ spelling frame.mrt ++ more → Splits stamp (index_after index frame.outcome) more frames rest
     → Splits stamp index octets (frame ∷ frames) rest
 Splits-record stamp index frame octets more frames rest is_record reads whole split = record {
   whole = whole ∙ ap (λ l. spelling frame.mrt ++ l) split.whole ∙ sym (append_assoc (spelling frame.mrt) (spellings frames) rest);
@@ -175,7 +175,7 @@ Splits-record stamp index frame octets more frames rest is_record reads whole sp
 }
 
 -- no octets of at most this length are without a split
-no_octets_without_a_split_within : (most : ℕ) (stamp : Stamp) (index : Index) (octets : List ℕ) → length octets ≤ most → IsOctets octets
+no_octets_without_a_split_within : (most : ℕ) (stamp : Stamp) (index : PeerTable) (octets : List ℕ) → length octets ≤ most → IsOctets octets
     → ((frames : List Frame) (rest : List ℕ) → Splits stamp index octets frames rest → ⊥) → ⊥
 no_octets_without_a_split_within zero stamp index octets within small none = none [] octets (Splits-rest stamp index octets (BeginsWithNoRecord-short octets (omega arith)))
 no_octets_without_a_split_within (suc most) stamp index octets within small none = elim (cases_record octets small) [
@@ -188,12 +188,12 @@ no_octets_without_a_split_within (suc most) stamp index octets within small none
         length-append (spelling r) front.more,
         length-append (header_octets r.seconds r.kind r.subtype (length r.body)) r.body,
       ) in
-      some_verdict stamp index r (λ verdict reads.
-      no_octets_without_a_split_within most stamp (index_after index verdict) front.more shorter front.more_octets (λ frames rest split.
-      none (record { mrt = r; verdict = verdict } ∷ frames) rest
-      (Splits-record stamp index (record { mrt = r; verdict = verdict }) octets front.more frames rest front.is_record reads front.whole split)))
+      some_verdict stamp index r (λ outcome reads.
+      no_octets_without_a_split_within most stamp (index_after index outcome) front.more shorter front.more_octets (λ frames rest split.
+      none (record { mrt = r; outcome = outcome } ∷ frames) rest
+      (Splits-record stamp index (record { mrt = r; outcome = outcome }) octets front.more frames rest front.is_record reads front.whole split)))
 ]
 
 -- no octets are without a split
-pub no_octets_without_a_split : (stamp : Stamp) (index : Index) (octets : List ℕ) → IsOctets octets → ((frames : List Frame) (rest : List ℕ) → Splits stamp index octets frames rest → ⊥) → ⊥
-no_octets_without_a_split stamp index octets small = no_octets_without_a_split_within (length octets) stamp index octets (omega arith) small
+pub law_no_octets_without_a_split : (stamp : Stamp) (index : PeerTable) (octets : List ℕ) → IsOctets octets → ((frames : List Frame) (rest : List ℕ) → Splits stamp index octets frames rest → ⊥) → ⊥
+law_no_octets_without_a_split stamp index octets small = no_octets_without_a_split_within (length octets) stamp index octets (omega arith) small

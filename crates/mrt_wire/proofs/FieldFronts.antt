@@ -5,13 +5,13 @@ use Rattle.ip_prefix.specs.declared.addr.Family.{Family}
 use Rattle.ip_prefix.specs.Network.{octet_count}
 use Rattle.ip_prefix.specs.Bits.{bits_of_octets}
 use Rattle.ip_prefix.specs.Sequences.{Begins}
-use Rattle.ip_prefix.specs.Fronts.{BeginsWithNone, OneFront}
+use Rattle.ip_prefix.specs.Fronts.{BeginsWithNone, HasOneFront}
 use Rattle.octet_forms.proofs.Fields.{then_front}
 use Rattle.octet_forms.proofs.Lists.{append_parts}
 use Rattle.bgp_wire.specs.declared.AsWidth.{AsWidth}
 use Rattle.bgp_wire.specs.declared.AsWidth.TheVariants.{Two, Four}
-use Rattle.bgp_wire.specs.Path.{SpellsAsn, SpellsWord}
-use Rattle.bgp_paths.proofs.OneFront.{number_code}
+use Rattle.bgp_wire.specs.Path.{SpellsAsn, SpellsU32}
+use Rattle.bgp_paths.proofs.HasOneFront.{number_code}
 use Rattle.bgp_wire.proofs.Reaching.{same_sized}
 use Rattle.mrt_wire.specs.Fields.{SpellsOctet, SpellsShort, AreOctets, AreSized, SpellsAddressOf, SpellsPeerOf}
 
@@ -19,23 +19,23 @@ use Rattle.mrt_wire.specs.Fields.{SpellsOctet, SpellsShort, AreOctets, AreSized,
 pub cut_whole : {octets front rest : List ℕ} (size : ℕ) → front ≡ take size octets → rest ≡ drop size octets → octets ≡ front ++ rest
 cut_whole {octets = octets} size first then = sym (ap₂ (λ front rest. front ++ rest) first then ∙ take-append-drop size octets)
 
-pub octet_front : OneFront SpellsOctet
+pub octet_front : HasOneFront SpellsOctet
 octet_front a b x y octets p q =
     let one : a ∷ x ≡ b ∷ y = sym (p.whole ∙ ap (λ l. l ++ x) p.spelled.whole) ∙ (q.whole ∙ ap (λ l. l ++ y) q.spelled.whole) in
     let firsts : a ≡ b = cc in
     let rests : x ≡ y = cc in
     (firsts, rests)
 
-pub octets_front : (size : ℕ) → OneFront (AreOctets size)
+pub octets_front : (size : ℕ) → HasOneFront (AreOctets size)
 octets_front size a b x y octets p q =
     let parts = append_parts p.front q.front x y (p.spelled.long ∙ sym q.spelled.long) (sym p.whole ∙ q.whole) in
     (sym p.spelled.whole ∙ parts.0 ∙ q.spelled.whole, parts.1)
 
-pub sized_front : OneFront AreSized
+pub sized_front : HasOneFront AreSized
 sized_front a b x y octets p q =
     same_sized a b x y p.spelled.fits q.spelled.fits (sym (p.whole ∙ ap (λ l. l ++ x) p.spelled.whole) ∙ (q.whole ∙ ap (λ l. l ++ y) q.spelled.whole))
 
-pub address_front : (family : Family) → OneFront (SpellsAddressOf family)
+pub address_front : (family : Family) → HasOneFront (SpellsAddressOf family)
 address_front family a b x y octets p q =
     let s = p.spelled in
     let t = q.spelled in
@@ -44,16 +44,16 @@ address_front family a b x y octets p q =
     let bits = s.spelled.bits ∙ ap bits_of_octets parts.0 ∙ sym t.spelled.bits in
     ((λ i. record { family = families i; bits = bits i }), parts.1)
 
-pub asn_front : (width : AsWidth) → OneFront (SpellsAsn width)
+pub asn_front : (width : AsWidth) → HasOneFront (SpellsAsn width)
 asn_front width = (number_code width).same
 
-pub short_front : OneFront SpellsShort
+pub short_front : HasOneFront SpellsShort
 short_front = asn_front Two
 
-pub word_front : OneFront SpellsWord
+pub word_front : HasOneFront SpellsU32
 word_front = asn_front Four
 
-pub peer_of_front : (family : Family) (width : AsWidth) → OneFront (SpellsPeerOf family width)
+pub peer_of_front : (family : Family) (width : AsWidth) → HasOneFront (SpellsPeerOf family width)
 peer_of_front family width a b x y octets p q =
     let one = then_front (SpellsAddressOf family) (λ address. SpellsAsn width) (address_front family) (λ address. asn_front width) (a.addr, a.asn) (b.addr, b.asn) x y octets
     record { front = p.front; spelled = p.spelled; whole = p.whole } record { front = q.front; spelled = q.spelled; whole = q.whole } in

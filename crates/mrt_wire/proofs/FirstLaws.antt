@@ -13,8 +13,8 @@ use Rattle.mrt_wire.specs.declared.next.Next.{Next}
 use Rattle.mrt_wire.specs.declared.next.Next.TheVariants as next
 use Rattle.mrt_frames.specs.declared.header.TheConstants.{LONGEST_BODY}
 use Rattle.mrt_frames.specs.Record.{Record, spelling, IsRecord, BeginsWithNoRecord, stated_size, rest_kind, rest_fault, IsRest}
-use Rattle.mrt_wire.specs.Results.{Frame, Splits, spellings, Finding, Found, Bad, fault_findings, Place, results, Took}
-use Rattle.mrt_wire.specs.Answered.{Nexts, answer_findings, MayFollow, IsFrameAt, IsRestAt}
+use Rattle.mrt_wire.specs.Results.{Frame, Splits, spellings, RecordResult, Found, Bad, fault_results, SourceState, results, TakesFront}
+use Rattle.mrt_wire.specs.Answered.{NextReturns, answer_results, MayFollow, AnswersFrame, AnswersRest}
 use Rattle.mrt_wire.proofs.SplitLaws.{frames_first, frames_all}
 use lib.Seq.{take-append-le}
 
@@ -63,13 +63,13 @@ rest_kind-small octets small = elim (cases_lt (length octets) 12) [
 ]
 
 -- an answer to a cut record, or to none, saw the end
-nothing_follows : (answer : Next) (number offset : ℕ) (octets more : List ℕ) → answer_findings answer ≡ fault_findings number offset (rest_fault octets) → rest_kind octets ≡ CutRecord → MayFollow answer more → more ≡ []
+nothing_follows : (answer : Next) (number offset : ℕ) (octets more : List ℕ) → answer_results answer ≡ fault_results number offset (rest_fault octets) → rest_kind octets ≡ CutRecord → MayFollow answer more → more ≡ []
 nothing_follows (next.Event event) number offset [] more tells cut follows = cc
 nothing_follows (next.Event event) number offset (octet ∷ octets) more tells cut follows = cc
 nothing_follows (next.Bad fault) number offset [] more tells cut follows = cc
 nothing_follows (next.Bad fault) number offset (octet ∷ octets) more tells cut follows = follows (ap kind_of tells ∙ cut)
   where
-    kind_of : List Finding → RecordKind
+    kind_of : List RecordResult → RecordKind
     kind_of (Bad f ∷ found) = f.kind
     kind_of (Found e ∷ found) = CutRecord
     kind_of [] = CutRecord
@@ -97,44 +97,44 @@ RestStays-rest octets more rest end = elim rest.stops [
   ]
 ]
 
-take-fault_findings : (number offset : ℕ) (fault : Option RecordKind) → take 1 (fault_findings number offset fault) ≡ fault_findings number offset fault
-take-fault_findings number offset None = refl
-take-fault_findings number offset (Some kind) = refl
+take-fault_results : (number offset : ℕ) (fault : Option RecordKind) → take 1 (fault_results number offset fault) ≡ fault_results number offset fault
+take-fault_results number offset None = refl
+take-fault_results number offset (Some kind) = refl
 
 -- the first result of octets that begin with a frame
-first_of_frame : (p q : Place) (octets : List ℕ) (answer : Next) (frame : Frame) → IsFrameAt p q answer octets frame
-    → (more : List ℕ) (frames : List Frame) (rest : List ℕ) → Splits p.stamp p.index (octets ++ more) frames rest → take 1 (results p frames rest) ≡ answer_findings answer
+first_of_frame : (p q : SourceState) (octets : List ℕ) (answer : Next) (frame : Frame) → AnswersFrame p q answer octets frame
+    → (more : List ℕ) (frames : List Frame) (rest : List ℕ) → Splits p.stamp p.index (octets ++ more) frames rest → take 1 (results p frames rest) ≡ answer_results answer
 first_of_frame p q octets answer frame at more frames rest split =
     let joined : spellings (frame ∷ []) ++ more ≡ spellings frames ++ rest = ap (λ l. l ++ more) (append-nil (spelling frame.mrt) ∙ sym at.whole) ∙ split.whole in
     let behind = frames_first p.stamp p.index (frame ∷ []) frames more rest (at.is_record, at.reads, tt) split.are_frames split.none joined in
     ap (λ f. take 1 (results p f rest)) behind.frames_are ∙ sym at.tells
 
 -- the first result of octets that are a rest
-first_of_rest : (p q : Place) (left : Option (List ℕ)) (octets : List ℕ) (answer : Next) → IsRestAt p q left answer octets
-    → (more : List ℕ) (frames : List Frame) (rest : List ℕ) → MayFollow answer more → Splits p.stamp p.index (octets ++ more) frames rest → take 1 (results p frames rest) ≡ answer_findings answer
+first_of_rest : (p q : SourceState) (left : Option (List ℕ)) (octets : List ℕ) (answer : Next) → AnswersRest p q left answer octets
+    → (more : List ℕ) (frames : List Frame) (rest : List ℕ) → MayFollow answer more → Splits p.stamp p.index (octets ++ more) frames rest → take 1 (results p frames rest) ≡ answer_results answer
 first_of_rest p q left octets answer at more frames rest follows split =
     let stays = RestStays-rest octets more at.ends.rest (λ cut. nothing_follows answer (p.number + 1) p.offset octets more at.tells cut follows) in
     let all = frames_all p.stamp p.index [] frames (octets ++ more) rest tt split.are_frames stays.none split.none split.whole in
     (λ i. take 1 (results p (all.0 i) (all.1 i)))
-    ∙ ap (λ f. take 1 (fault_findings (p.number + 1) p.offset f)) stays.fault
-    ∙ take-fault_findings (p.number + 1) p.offset (rest_fault octets) ∙ sym at.tells
+    ∙ ap (λ f. take 1 (fault_results (p.number + 1) p.offset f)) stays.fault
+    ∙ take-fault_results (p.number + 1) p.offset (rest_fault octets) ∙ sym at.tells
 
-pub first_result : (p q : Place) (left : Option (List ℕ)) (octets : List ℕ) (answer : Next) → Nexts p q left octets (Ok answer)
-    → (more : List ℕ) (frames : List Frame) (rest : List ℕ) → MayFollow answer more → Splits p.stamp p.index (octets ++ more) frames rest → take 1 (results p frames rest) ≡ answer_findings answer
+pub first_result : (p q : SourceState) (left : Option (List ℕ)) (octets : List ℕ) (answer : Next) → NextReturns p q left octets (Ok answer)
+    → (more : List ℕ) (frames : List Frame) (rest : List ℕ) → MayFollow answer more → Splits p.stamp p.index (octets ++ more) frames rest → take 1 (results p frames rest) ≡ answer_results answer
 first_result p q left octets answer (inl (frame, at)) more frames rest follows split = first_of_frame p q octets answer frame at more frames rest split
 first_result p q left octets answer (inr at) more frames rest follows split = first_of_rest p q left octets answer at more frames rest follows split
 
 -- the octets taken are those of the call
-pub same_taken : (left left' : Option (List ℕ)) (octets taken after : List ℕ) → Consumes left left' octets → Took left left' taken after → taken ≡ octets
+pub same_taken : (left left' : Option (List ℕ)) (octets taken after : List ℕ) → Consumes left left' octets → TakesFront left left' taken after → taken ≡ octets
 same_taken left left' octets taken after consumed p =
     let one = subst (λ o. Consumes o left' octets) p.before consumed in
     let two = subst (λ o. Consumes (Some (taken ++ after)) o octets) p.now one in
     append_cancel_right taken octets after two
 
 -- the same of a call, where the input tells its octets
-pub first_answered : (p q : Place) (left left' : Option (List ℕ)) (result : Result Next SourceFault) (answer : Next) → ((octets : List ℕ) × Consumes left left' octets × Nexts p q left' octets result) → result ≡ Ok answer
-    → (taken after more : List ℕ) (frames : List Frame) (rest : List ℕ) → Took left left' taken after → MayFollow answer more → Splits p.stamp p.index (taken ++ more) frames rest
-    → take 1 (results p frames rest) ≡ answer_findings answer
+pub first_answered : (p q : SourceState) (left left' : Option (List ℕ)) (result : Result Next SourceFault) (answer : Next) → ((octets : List ℕ) × Consumes left left' octets × NextReturns p q left' octets result) → result ≡ Ok answer
+    → (taken after more : List ℕ) (frames : List Frame) (rest : List ℕ) → TakesFront left left' taken after → MayFollow answer more → Splits p.stamp p.index (taken ++ more) frames rest
+    → take 1 (results p frames rest) ≡ answer_results answer
 first_answered p q left left' result answer (octets, consumed, nexts) is taken after more frames rest took follows split =
     let same = same_taken left left' octets taken after consumed took in
-    first_result p q left' octets answer (subst (Nexts p q left' octets) is nexts) more frames rest follows (subst (λ o. Splits p.stamp p.index (o ++ more) frames rest) same split)
+    first_result p q left' octets answer (subst (NextReturns p q left' octets) is nexts) more frames rest follows (subst (λ o. Splits p.stamp p.index (o ++ more) frames rest) same split)

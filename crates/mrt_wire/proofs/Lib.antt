@@ -2,7 +2,7 @@ pub mod ContentLaws
 pub mod Existence
 pub mod FieldFronts
 pub mod FirstLaws
-pub mod JudgingLaws
+pub mod DecodingLaws
 pub mod PeerIndexLaws
 pub mod ReadingLaws
 pub mod NextLaws

@@ -10,8 +10,8 @@ use Rattle.mrt_wire.specs.declared.next.Phase.{Phase}
 use Rattle.mrt_wire.specs.declared.next.Phase.TheVariants.{Reading, Ended, Spent}
 use Rattle.mrt_frames.specs.Record.{header_octets, spelling, IsRecord, BeginsWithNoRecord, rest_kind, rest_fault}
 use Rattle.mrt_frames.specs.Taken.{EndsAt}
-use Rattle.mrt_wire.specs.Results.{Frame, ReadsAs, index_after, AreFrames, Splits, spellings, Finding, finding, fault_findings, Place, place_behind, results}
-use Rattle.mrt_wire.specs.Answered.{Nexts, answer_findings, IsFrameAt, IsRestAt, SoFar, RestSoFar, is_nothing, place_behind_all}
+use Rattle.mrt_wire.specs.Results.{Frame, ReadsAs, index_after, AreFrames, Splits, spellings, RecordResult, record_result, fault_results, SourceState, state_after, results}
+use Rattle.mrt_wire.specs.Answered.{NextReturns, answer_results, AnswersFrame, AnswersRest, HasAnswered, RestSoFar, is_nothing, state_after_all}
 use Rattle.mrt_wire.proofs.SplitLaws.{frames_first, frames_all}
 use Rattle.mrt_wire.proofs.FirstLaws.{RestStays-rest}
 
@@ -22,32 +22,32 @@ spellings-push : (frames : List Frame) (frame : Frame) → spellings (frames ++ 
 spellings-push frames frame = flat_map-append (λ f. spelling f.mrt) frames (frame ∷ []) ∙ ap (λ l. spellings frames ++ l) (append-nil (spelling frame.mrt))
 
 -- the octets taken behind frames
-pub place_behind_all-offset : (p : Place) (frames : List Frame) → (place_behind_all p frames).offset ≡ p.offset + length (spellings frames)
-place_behind_all-offset p [] = omega arith
-place_behind_all-offset p (f ∷ frames) = omega (arith, place_behind_all-offset (place_behind p f) frames, length-append (spelling f.mrt) (spellings frames))
+pub state_after_all-offset : (p : SourceState) (frames : List Frame) → (state_after_all p frames).offset ≡ p.offset + length (spellings frames)
+state_after_all-offset p [] = omega arith
+state_after_all-offset p (f ∷ frames) = omega (arith, state_after_all-offset (state_after p f) frames, length-append (spelling f.mrt) (spellings frames))
 
-place_behind_all-push : (p : Place) (frames : List Frame) (frame : Frame) → place_behind_all p (frames ++ frame ∷ []) ≡ place_behind (place_behind_all p frames) frame
-place_behind_all-push p [] frame = refl
-place_behind_all-push p (f ∷ frames) frame = place_behind_all-push (place_behind p f) frames frame
+state_after_all-push : (p : SourceState) (frames : List Frame) (frame : Frame) → state_after_all p (frames ++ frame ∷ []) ≡ state_after (state_after_all p frames) frame
+state_after_all-push p [] frame = refl
+state_after_all-push p (f ∷ frames) frame = state_after_all-push (state_after p f) frames frame
 
 -- one frame more
-AreFrames-push : (p : Place) (frames : List Frame) (frame : Frame) → AreFrames p.stamp p.index frames → IsRecord frame.mrt
-    → ReadsAs p.stamp (place_behind_all p frames).index frame.mrt frame.verdict → AreFrames p.stamp p.index (frames ++ frame ∷ [])
+AreFrames-push : (p : SourceState) (frames : List Frame) (frame : Frame) → AreFrames p.stamp p.index frames → IsRecord frame.mrt
+    → ReadsAs p.stamp (state_after_all p frames).index frame.mrt frame.outcome → AreFrames p.stamp p.index (frames ++ frame ∷ [])
 AreFrames-push p [] frame are is_record reads = (is_record, reads, tt)
-AreFrames-push p (f ∷ frames) frame are is_record reads = (are.0, are.1, AreFrames-push (place_behind p f) frames frame are.2 is_record reads)
+AreFrames-push p (f ∷ frames) frame are is_record reads = (are.0, are.1, AreFrames-push (state_after p f) frames frame are.2 is_record reads)
 
 -- what is found in more frames, or in a rest
-pub results-append : (p : Place) (frames later : List Frame) (rest : List ℕ) → results p (frames ++ later) rest ≡ results p frames [] ++ results (place_behind_all p frames) later rest
+pub results-append : (p : SourceState) (frames later : List Frame) (rest : List ℕ) → results p (frames ++ later) rest ≡ results p frames [] ++ results (state_after_all p frames) later rest
 results-append p [] later rest = refl
-results-append p (f ∷ frames) later rest = ap (λ l. finding (p.number + 1) p.offset f.verdict ∷ l) (results-append (place_behind p f) frames later rest)
+results-append p (f ∷ frames) later rest = ap (λ l. record_result (p.number + 1) p.offset f.outcome ∷ l) (results-append (state_after p f) frames later rest)
 
-results-rest : (p : Place) (frames : List Frame) (rest : List ℕ) → results p frames rest ≡ results p frames [] ++ results (place_behind_all p frames) [] rest
+results-rest : (p : SourceState) (frames : List Frame) (rest : List ℕ) → results p frames rest ≡ results p frames [] ++ results (state_after_all p frames) [] rest
 results-rest p frames rest = ap (λ f. results p f rest) (sym (append-nil frames)) ∙ results-append p frames [] rest
 
 -- ---- so far
 
-pub SoFar-start : (p : Place) (left : Option (List ℕ)) → p.phase ≡ Reading → SoFar p p left left []
-SoFar-start p left reading = record {
+pub HasAnswered-start : (p : SourceState) (left : Option (List ℕ)) → p.phase ≡ Reading → HasAnswered p p left left []
+HasAnswered-start p left reading = record {
   frames = [];
   rest = [];
   are_frames = tt;
@@ -62,30 +62,30 @@ SoFar-start p left reading = record {
 }
 
 -- nothing but frames was taken while the source reads
-pub no_rest : (p q : Place) (left left' : Option (List ℕ)) (found : List Finding) → (s : SoFar p q left left' found) → q.phase ≡ Reading → s.rest ≡ []
+pub no_rest : (p q : SourceState) (left left' : Option (List ℕ)) (found : List RecordResult) → (s : HasAnswered p q left left' found) → q.phase ≡ Reading → s.rest ≡ []
 no_rest p q left left' found s reading = subst (λ t. RestSoFar t left' s.rest) reading s.rest_is
 
 -- a frame more was taken
-abbrev SoFar-frame : (p q q' : Place) (left left' left'' : Option (List ℕ)) (found : List Finding) (answer : Next) (octets : List ℕ) (frame : Frame) → SoFar p q left left' found → q.phase ≡ Reading
-    → Consumes left' left'' octets → IsFrameAt q q' answer octets frame → SoFar p q' left left'' (found ++ answer_findings answer)
-SoFar-frame p q q' left left' left'' found answer octets frame s reading taken at =
-    let b : Place = place_behind_all p s.frames in
+abbrev HasAnswered-frame : (p q q' : SourceState) (left left' left'' : Option (List ℕ)) (found : List RecordResult) (answer : Next) (octets : List ℕ) (frame : Frame) → HasAnswered p q left left' found → q.phase ≡ Reading
+    → Consumes left' left'' octets → AnswersFrame q q' answer octets frame → HasAnswered p q' left left'' (found ++ answer_results answer)
+HasAnswered-frame p q q' left left' left'' found answer octets frame s reading taken at =
+    let b : SourceState = state_after_all p s.frames in
     let none = no_rest p q left left' found s reading in
     let only : spellings s.frames ++ s.rest ≡ spellings s.frames = ap (λ l. spellings s.frames ++ l) none ∙ append-nil (spellings s.frames) in
-    let offset : q.offset ≡ b.offset = omega (arith, s.offset, ap length only, place_behind_all-offset p s.frames) in
-    let reads = subst (λ x. ReadsAs x b.index frame.mrt frame.verdict) s.stamp (subst (λ x. ReadsAs q.stamp x frame.mrt frame.verdict) s.index at.reads) in
+    let offset : q.offset ≡ b.offset = omega (arith, s.offset, ap length only, state_after_all-offset p s.frames) in
+    let reads = subst (λ x. ReadsAs x b.index frame.mrt frame.outcome) s.stamp (subst (λ x. ReadsAs q.stamp x frame.mrt frame.outcome) s.index at.reads) in
     let all : List Frame = s.frames ++ frame ∷ [] in
     let phase : q'.phase ≡ Reading = ap (λ x. x.phase) at.place ∙ reading in
     let octets_are : (spellings s.frames ++ s.rest) ++ octets ≡ spellings all ++ [] =
     (λ i. only i ++ at.whole i) ∙ sym (append-nil (spellings all) ∙ spellings-push s.frames frame) in
-    let end : place_behind b frame ≡ place_behind_all p all = sym (place_behind_all-push p s.frames frame) in
+    let end : state_after b frame ≡ state_after_all p all = sym (state_after_all-push p s.frames frame) in
     record {
       frames = all;
       rest = [];
       are_frames = AreFrames-push p s.frames frame s.are_frames at.is_record reads;
       consumed = subst (Consumes left left'') octets_are (Consumes-trans left left' left'' (spellings s.frames ++ s.rest) octets s.consumed taken);
-      found_is = (λ i. (s.found_is ∙ ap (results p s.frames) none) i ++ at.tells i) ∙ (λ i. results p s.frames [] ++ finding (s.number i + 1) (offset i) frame.verdict ∷ []) ∙ sym (results-append p s.frames (frame ∷ []) []);
-      index = ap (λ x. x.index) at.place ∙ ap (λ x. index_after x frame.verdict) s.index ∙ ap (λ x. x.index) end;
+      found_is = (λ i. (s.found_is ∙ ap (results p s.frames) none) i ++ at.tells i) ∙ (λ i. results p s.frames [] ++ record_result (s.number i + 1) (offset i) frame.outcome ∷ []) ∙ sym (results-append p s.frames (frame ∷ []) []);
+      index = ap (λ x. x.index) at.place ∙ ap (λ x. index_after x frame.outcome) s.index ∙ ap (λ x. x.index) end;
       number = ap (λ x. x.number) at.place ∙ ap (λ n. n + 1) s.number ∙ ap (λ x. x.number) end;
       offset = omega (arith, ap (λ x. x.offset) at.place, s.offset, ap length at.whole, ap length octets_are, length-append (spellings s.frames ++ s.rest) octets);
       limit = ap (λ x. x.limit) at.place ∙ s.limit;
@@ -94,20 +94,20 @@ SoFar-frame p q q' left left' left'' found answer octets frame s reading taken a
     }
 
 -- the rest was taken
-abbrev SoFar-rest : (p q q' : Place) (left left' left'' : Option (List ℕ)) (found : List Finding) (answer : Next) (octets : List ℕ) → SoFar p q left left' found → q.phase ≡ Reading
-    → Consumes left' left'' octets → IsRestAt q q' left'' answer octets → SoFar p q' left left'' (found ++ answer_findings answer)
-SoFar-rest p q q' left left' left'' found answer octets s reading taken at =
-    let b : Place = place_behind_all p s.frames in
+abbrev HasAnswered-rest : (p q q' : SourceState) (left left' left'' : Option (List ℕ)) (found : List RecordResult) (answer : Next) (octets : List ℕ) → HasAnswered p q left left' found → q.phase ≡ Reading
+    → Consumes left' left'' octets → AnswersRest q q' left'' answer octets → HasAnswered p q' left left'' (found ++ answer_results answer)
+HasAnswered-rest p q q' left left' left'' found answer octets s reading taken at =
+    let b : SourceState = state_after_all p s.frames in
     let none = no_rest p q left left' found s reading in
     let only : spellings s.frames ++ s.rest ≡ spellings s.frames = ap (λ l. spellings s.frames ++ l) none ∙ append-nil (spellings s.frames) in
-    let offset : q.offset ≡ b.offset = omega (arith, s.offset, ap length only, place_behind_all-offset p s.frames) in
+    let offset : q.offset ≡ b.offset = omega (arith, s.offset, ap length only, state_after_all-offset p s.frames) in
     let octets_are : (spellings s.frames ++ s.rest) ++ octets ≡ spellings s.frames ++ octets = ap (λ l. l ++ octets) only in
     record {
       frames = s.frames;
       rest = octets;
       are_frames = s.are_frames;
       consumed = subst (Consumes left left'') octets_are (Consumes-trans left left' left'' (spellings s.frames ++ s.rest) octets s.consumed taken);
-      found_is = (λ i. (s.found_is ∙ ap (results p s.frames) none) i ++ at.tells i) ∙ (λ i. results p s.frames [] ++ fault_findings (s.number i + 1) (offset i) (rest_fault octets)) ∙ sym (results-rest p s.frames octets);
+      found_is = (λ i. (s.found_is ∙ ap (results p s.frames) none) i ++ at.tells i) ∙ (λ i. results p s.frames [] ++ fault_results (s.number i + 1) (offset i) (rest_fault octets)) ∙ sym (results-rest p s.frames octets);
       index = ap (λ x. x.index) at.place ∙ s.index;
       number = ap (λ x. x.number) at.place ∙ s.number;
       offset = omega (arith, ap (λ x. x.offset) at.place, s.offset, ap length octets_are, length-append (spellings s.frames ++ s.rest) octets);
@@ -117,20 +117,20 @@ SoFar-rest p q q' left left' left'' found answer octets s reading taken at =
     }
 
 -- what is found so far is first in whatever the input may hold, and all of it where the source has ended
-pub record FirstSoFar (p q : Place) (found : List Finding) (frames : List Frame) (rest : List ℕ) : Type 0 where
-  pub later : List Finding
+pub record FirstSoFar (p q : SourceState) (found : List RecordResult) (frames : List Frame) (rest : List ℕ) : Type 0 where
+  pub later : List RecordResult
   pub first : results p frames rest ≡ found ++ later
   pub all : q.phase ≡ Ended → later ≡ []
 
 -- what frames tell is first, whatever follows them
-first_of_frames : (p : Place) (done frames : List Frame) (more rest : List ℕ) → AreFrames p.stamp p.index done → AreFrames p.stamp p.index frames → BeginsWithNoRecord rest
-    → spellings done ++ more ≡ spellings frames ++ rest → (later : List Finding) × (results p frames rest ≡ results p done [] ++ later)
+first_of_frames : (p : SourceState) (done frames : List Frame) (more rest : List ℕ) → AreFrames p.stamp p.index done → AreFrames p.stamp p.index frames → BeginsWithNoRecord rest
+    → spellings done ++ more ≡ spellings frames ++ rest → (later : List RecordResult) × (results p frames rest ≡ results p done [] ++ later)
 first_of_frames p done frames more rest are are' none joined =
     let behind = frames_first p.stamp p.index done frames more rest are are' none joined in
-    (results (place_behind_all p done) behind.later rest, ap (λ f. results p f rest) behind.frames_are ∙ results-append p done behind.later rest)
+    (results (state_after_all p done) behind.later rest, ap (λ f. results p f rest) behind.frames_are ∙ results-append p done behind.later rest)
 
 -- whatever follows frames and a rest
-all_of_frames : (p q : Place) (left : Option (List ℕ)) (done frames : List Frame) (last more rest : List ℕ) → EndsAt left last → (rest_kind last ≡ CutRecord → more ≡ []) → AreFrames p.stamp p.index done
+all_of_frames : (p q : SourceState) (left : Option (List ℕ)) (done frames : List Frame) (last more rest : List ℕ) → EndsAt left last → (rest_kind last ≡ CutRecord → more ≡ []) → AreFrames p.stamp p.index done
     → AreFrames p.stamp p.index frames → BeginsWithNoRecord rest → spellings done ++ (last ++ more) ≡ spellings frames ++ rest → FirstSoFar p q (results p done last) frames rest
 all_of_frames p q left done frames last more rest ends follows are are' none joined =
     let stays = RestStays-rest last more ends.rest follows in
@@ -138,12 +138,12 @@ all_of_frames p q left done frames last more rest ends follows are are' none joi
     record {
       later = [];
       first = (λ i. results p (all.0 i) (all.1 i)) ∙ results-rest p done (last ++ more)
-          ∙ ap (λ f. results p done [] ++ fault_findings ((place_behind_all p done).number + 1) (place_behind_all p done).offset f) stays.fault
+          ∙ ap (λ f. results p done [] ++ fault_results ((state_after_all p done).number + 1) (state_after_all p done).offset f) stays.fault
           ∙ sym (results-rest p done last) ∙ sym (append-nil (results p done last));
       all = λ _. refl;
     }
 
-pub first_so_far : (p q : Place) (left left' : Option (List ℕ)) (found : List Finding) → (s : SoFar p q left left' found) → (more : List ℕ)
+pub first_so_far : (p q : SourceState) (left left' : Option (List ℕ)) (found : List RecordResult) → (s : HasAnswered p q left left' found) → (more : List ℕ)
     → (q.phase ≡ Ended → rest_kind s.rest ≡ CutRecord → IsAtEnd left' → more ≡ [])
     → (frames : List Frame) (rest : List ℕ) → Splits p.stamp p.index ((spellings s.frames ++ s.rest) ++ more) frames rest → FirstSoFar p q found frames rest
 first_so_far p q left left' found s more follows frames rest split = subst (λ f. FirstSoFar p q f frames rest) (sym s.found_is) (by_phase q.phase refl s.rest_is)
@@ -159,32 +159,32 @@ first_so_far p q left left' found s more follows frames rest split = subst (λ f
     by_phase Spent is none = absurd none
 
 -- where nothing was taken behind the frames, what is found is first, whatever follows
-pub front_so_far : (p q : Place) (left left' : Option (List ℕ)) (found : List Finding) → (s : SoFar p q left left' found) → s.rest ≡ [] → (more : List ℕ)
+pub front_so_far : (p q : SourceState) (left left' : Option (List ℕ)) (found : List RecordResult) → (s : HasAnswered p q left left' found) → s.rest ≡ [] → (more : List ℕ)
     → (frames : List Frame) (rest : List ℕ) → Splits p.stamp p.index ((spellings s.frames ++ s.rest) ++ more) frames rest
-    → (later : List Finding) × (results p frames rest ≡ found ++ later)
+    → (later : List RecordResult) × (results p frames rest ≡ found ++ later)
 front_so_far p q left left' found s none more frames rest split =
     let joined : spellings s.frames ++ (s.rest ++ more) ≡ spellings frames ++ rest = sym (append_assoc (spellings s.frames) s.rest more) ∙ split.whole in
     let first = first_of_frames p s.frames frames (s.rest ++ more) rest s.are_frames split.are_frames split.none joined in
     (first.0, first.1 ∙ ap (λ f. f ++ first.0) (sym (s.found_is ∙ ap (results p s.frames) none)))
 
 -- what `next` promises of a source that reads, and of one that has ended
-abbrev pub Promises : Place → Place → Option (List ℕ) → Option (List ℕ) → Next → Type 0
+abbrev pub Promises : SourceState → SourceState → Option (List ℕ) → Option (List ℕ) → Next → Type 0
 Promises q q' left' left'' answer =
-    (q.phase ≡ Reading → (octets : List ℕ) × Consumes left' left'' octets × Nexts q q' left'' octets (Ok answer))
-    × (q.phase ≡ Ended → (answer_findings answer ≡ []) × (q' ≡ q) × (left'' ≡ left'))
+    (q.phase ≡ Reading → (octets : List ℕ) × Consumes left' left'' octets × NextReturns q q' left'' octets (Ok answer))
+    × (q.phase ≡ Ended → (answer_results answer ≡ []) × (q' ≡ q) × (left'' ≡ left'))
 
 -- the promises of an answer, by what it says of the result
-abbrev pub told_by : Result Next SourceFault → List Finding
-told_by (Ok answer) = answer_findings answer
+abbrev pub told_by : Result Next SourceFault → List RecordResult
+told_by (Ok answer) = answer_results answer
 told_by (Err fault) = []
 
 -- what an answer took and told of a source that read, or of one that had ended
-abbrev IsAnswer : Place → Place → Option (List ℕ) → Option (List ℕ) → Next → Type 0
+abbrev IsAnswer : SourceState → SourceState → Option (List ℕ) → Option (List ℕ) → Next → Type 0
 IsAnswer q q' left' left'' answer =
-    ((q.phase ≡ Reading) × ((octets : List ℕ) × Consumes left' left'' octets × Nexts q q' left'' octets (Ok answer)))
-    ⊎ ((q.phase ≡ Ended) × (answer_findings answer ≡ []) × (q' ≡ q) × (left'' ≡ left'))
+    ((q.phase ≡ Reading) × ((octets : List ℕ) × Consumes left' left'' octets × NextReturns q q' left'' octets (Ok answer)))
+    ⊎ ((q.phase ≡ Ended) × (answer_results answer ≡ []) × (q' ≡ q) × (left'' ≡ left'))
 
-cases_answer : (p q q' : Place) (left left' left'' : Option (List ℕ)) (found : List Finding) (answer : Next) → SoFar p q left left' found → Promises q q' left' left'' answer
+cases_answer : (p q q' : SourceState) (left left' left'' : Option (List ℕ)) (found : List RecordResult) (answer : Next) → HasAnswered p q left left' found → Promises q q' left' left'' answer
     → IsAnswer q q' left' left'' answer
 cases_answer p q q' left left' left'' found answer s promised = by_phase q.phase refl s.rest_is
   where
@@ -196,20 +196,20 @@ cases_answer p q q' left left' left'' found answer s promised = by_phase q.phase
     by_phase Spent is rest = absurd rest
 
 -- an answer more
-pub SoFar-answer : (p q q' : Place) (left left' left'' : Option (List ℕ)) (found : List Finding) (answer : Next) → SoFar p q left left' found → Promises q q' left' left'' answer
-    → SoFar p q' left left'' (found ++ answer_findings answer)
-SoFar-answer p q q' left left' left'' found answer s promised = by_cases (cases_answer p q q' left left' left'' found answer s promised)
+pub HasAnswered-answer : (p q q' : SourceState) (left left' left'' : Option (List ℕ)) (found : List RecordResult) (answer : Next) → HasAnswered p q left left' found → Promises q q' left' left'' answer
+    → HasAnswered p q' left left'' (found ++ answer_results answer)
+HasAnswered-answer p q q' left left' left'' found answer s promised = by_cases (cases_answer p q q' left left' left'' found answer s promised)
   where
-    by_cases : IsAnswer q q' left' left'' answer → SoFar p q' left left'' (found ++ answer_findings answer)
-    by_cases (inl (is, (octets, taken, inl (frame, at)))) = SoFar-frame p q q' left left' left'' found answer octets frame s is taken at
-    by_cases (inl (is, (octets, taken, inr at))) = SoFar-rest p q q' left left' left'' found answer octets s is taken at
+    by_cases : IsAnswer q q' left' left'' answer → HasAnswered p q' left left'' (found ++ answer_results answer)
+    by_cases (inl (is, (octets, taken, inl (frame, at)))) = HasAnswered-frame p q q' left left' left'' found answer octets frame s is taken at
+    by_cases (inl (is, (octets, taken, inr at))) = HasAnswered-rest p q q' left left' left'' found answer octets s is taken at
     by_cases (inr (is, tells, same, unasked)) =
-        subst (λ f. SoFar p q' left left'' f) (sym (append-nil found) ∙ ap (λ l. found ++ l) (sym tells))
-        (subst (λ x. SoFar p x left left'' found) (sym same) (subst (λ l. SoFar p q left l found) (sym unasked) s))
+        subst (λ f. HasAnswered p q' left left'' f) (sym (append-nil found) ∙ ap (λ l. found ++ l) (sym tells))
+        (subst (λ x. HasAnswered p x left left'' found) (sym same) (subst (λ l. HasAnswered p q left l found) (sym unasked) s))
 
 -- an answer that tells nothing is the end
-pub ends_with_none : (p q q' : Place) (left left' left'' : Option (List ℕ)) (found : List Finding) (answer : Next) → SoFar p q left left' found → Promises q q' left' left'' answer
-    → is_nothing (answer_findings answer) ≡ true → q'.phase ≡ Ended
+pub ends_with_none : (p q q' : SourceState) (left left' left'' : Option (List ℕ)) (found : List RecordResult) (answer : Next) → HasAnswered p q left left' found → Promises q q' left' left'' answer
+    → is_nothing (answer_results answer) ≡ true → q'.phase ≡ Ended
 ends_with_none p q q' left left' left'' found answer s promised none = by_cases (cases_answer p q q' left left' left'' found answer s promised)
   where
     by_cases : IsAnswer q q' left' left'' answer → q'.phase ≡ Ended
@@ -218,11 +218,11 @@ ends_with_none p q q' left left' left'' found answer s promised none = by_cases 
     by_cases (inr (is, tells, same, unasked)) = ap (λ x. x.phase) same ∙ is
 
 -- an answer that tells something takes octets
-pub goes_on_with_some : (p q q' : Place) (left left' left'' : Option (List ℕ)) (found : List Finding) (answer : Next) → SoFar p q left left' found → Promises q q' left' left'' answer
-    → is_nothing (answer_findings answer) ≡ false → q.offset < q'.offset
+pub goes_on_with_some : (p q q' : SourceState) (left left' left'' : Option (List ℕ)) (found : List RecordResult) (answer : Next) → HasAnswered p q left left' found → Promises q q' left' left'' answer
+    → is_nothing (answer_results answer) ≡ false → q.offset < q'.offset
 goes_on_with_some p q q' left left' left'' found answer s promised some = by_cases (cases_answer p q q' left left' left'' found answer s promised)
   where
-    nonempty : (octets : List ℕ) → IsRestAt q q' left'' answer octets → 0 < length octets
+    nonempty : (octets : List ℕ) → AnswersRest q q' left'' answer octets → 0 < length octets
     nonempty [] at = let e : true ≡ false = sym (ap is_nothing at.tells) ∙ some in cc
     nonempty (octet ∷ octets) at = omega arith
 
@@ -234,17 +234,17 @@ goes_on_with_some p q q' left left' left'' found answer s promised some = by_cas
     by_cases (inr (is, tells, same, unasked)) = let e : true ≡ false = sym (ap is_nothing tells) ∙ some in cc
 
 -- an answer more that tells something: where it ends the reading, something was taken behind the frames
-pub SoFar-told : (p q q' : Place) (left left' left'' : Option (List ℕ)) (found : List Finding) (answer : Next) → SoFar p q left left' found → Promises q q' left' left'' answer
-    → is_nothing (answer_findings answer) ≡ false → (s' : SoFar p q' left left'' (found ++ answer_findings answer)) × (q'.phase ≡ Ended → s'.rest ≡ [] → ⊥)
-SoFar-told p q q' left left' left'' found answer s promised some = by_cases (cases_answer p q q' left left' left'' found answer s promised)
+pub HasAnswered-told : (p q q' : SourceState) (left left' left'' : Option (List ℕ)) (found : List RecordResult) (answer : Next) → HasAnswered p q left left' found → Promises q q' left' left'' answer
+    → is_nothing (answer_results answer) ≡ false → (s' : HasAnswered p q' left left'' (found ++ answer_results answer)) × (q'.phase ≡ Ended → s'.rest ≡ [] → ⊥)
+HasAnswered-told p q q' left left' left'' found answer s promised some = by_cases (cases_answer p q q' left left' left'' found answer s promised)
   where
-    by_cases : IsAnswer q q' left' left'' answer → (s' : SoFar p q' left left'' (found ++ answer_findings answer)) × (q'.phase ≡ Ended → s'.rest ≡ [] → ⊥)
+    by_cases : IsAnswer q q' left' left'' answer → (s' : HasAnswered p q' left left'' (found ++ answer_results answer)) × (q'.phase ≡ Ended → s'.rest ≡ [] → ⊥)
     by_cases (inl (is, (octets, taken, inl (frame, at)))) = (
-      SoFar-frame p q q' left left' left'' found answer octets frame s is taken at,
+      HasAnswered-frame p q q' left left' left'' found answer octets frame s is taken at,
       (λ ended none. let e : Ended ≡ Reading = sym ended ∙ ap (λ x. x.phase) at.place ∙ is in cc),
     )
     by_cases (inl (is, (octets, taken, inr at))) = (
-      SoFar-rest p q q' left left' left'' found answer octets s is taken at,
-      (λ ended none. let e : true ≡ false = sym (ap is_nothing (at.tells ∙ ap (λ o. fault_findings (q.number + 1) q.offset (rest_fault o)) none)) ∙ some in cc),
+      HasAnswered-rest p q q' left left' left'' found answer octets s is taken at,
+      (λ ended none. let e : true ≡ false = sym (ap is_nothing (at.tells ∙ ap (λ o. fault_results (q.number + 1) q.offset (rest_fault o)) none)) ∙ some in cc),
     )
     by_cases (inr (is, tells, same, unasked)) = let e : true ≡ false = sym (ap is_nothing tells) ∙ some in cc

@@ -1,4 +1,4 @@
--- What the contents of records say of routes and sessions.
+-- The values of the items that the contents of records make.
 use Rattle.std.specs.Prelude.{ℕ, List, [], ◌∷◌, ◌++◌, map, slice_get, Option, Some, None, is_none, option_to_list, find, flat_map}
 use Rattle.ip_prefix.specs.Network.{Network}
 use Rattle.bgp_wire.specs.declared.attrs.Attrs.{Attrs}
@@ -9,64 +9,68 @@ use Rattle.mrt_events.specs.declared.peer.Peer.{Peer}
 use Rattle.mrt_events.specs.declared.event.Route.{Route}
 use Rattle.mrt_events.specs.declared.stamp.Stamp.{Stamp}
 use Rattle.mrt_events.specs.declared.stamp.Stamp.TheVariants.{Dump, Change}
-use Rattle.mrt_events.specs.Event.{Saying, Announced, Withdrawn, Changed}
-use Rattle.mrt_wire.specs.Rib.{RibEntry, PrefixEntries, PeerEntry}
+use Rattle.mrt_events.specs.Event.{ItemValue, Announced, Withdrawn, Changed}
+use Rattle.mrt_wire.specs.Rib.{RibEntry, PrefixEntries, TableDumpEntry}
 use Rattle.mrt_wire.specs.Session.{SessionContent, Change, Receipt}
 
--- ---- tables
+-- ---- the entries of routing tables
 
--- the time of a table entry's route: that of the record, or that at which it was originated
+-- the time of a table entry's route, as the stamp chooses: `seconds`, the timestamp of the record, or `originated`,
+-- the Originated Time of the entry
 abbrev pub entry_time : Stamp → ℕ → ℕ → ℕ
 entry_time Dump seconds originated = seconds
 entry_time Change seconds originated = originated
 
--- a route of these attributes and time
+-- the route of these attributes and this time
 abbrev pub route_of : Attrs → ℕ → Route
 route_of attrs time = record { attrs = attrs; time = time }
 
--- the first number of an entry's peer that is no peer's
+-- the first peer index among the entries that isn't below the number of peers, and `None` where all are
 abbrev pub first_unknown : List Peer → List RibEntry → Option ℕ
 first_unknown peers entries = find (λ number. is_none (slice_get peers number)) (map (λ entry. entry.index) entries)
 
--- what an entry announces: nothing where there is no such peer
-abbrev pub entry_items : List Peer → Stamp → ℕ → Network → RibEntry → List Saying
+-- the announcement of a prefix by a RIB entry, in a record with this timestamp. It is none where the peer index of
+-- the entry isn't below the number of peers.
+abbrev pub entry_items : List Peer → Stamp → ℕ → Network → RibEntry → List ItemValue
 entry_items peers stamp seconds prefix entry =
     map (λ peer. Announced peer prefix (route_of entry.attrs (entry_time stamp seconds entry.time)))
     (option_to_list (slice_get peers entry.index))
 
--- what the entries announce, one after the other
-abbrev pub entries_items : List Peer → Stamp → ℕ → PrefixEntries → List Saying
+-- the announcements of all RIB entries of a record with this timestamp, in order
+abbrev pub entries_items : List Peer → Stamp → ℕ → PrefixEntries → List ItemValue
 entries_items peers stamp seconds rib = flat_map (entry_items peers stamp seconds rib.prefix) rib.entries
 
--- what an entry with its peer announces
-abbrev pub peer_entry_items : Stamp → ℕ → PeerEntry → List Saying
-peer_entry_items stamp seconds entry =
+-- the announcement of a TABLE_DUMP record with this timestamp
+abbrev pub table_dump_items : Stamp → ℕ → TableDumpEntry → List ItemValue
+table_dump_items stamp seconds entry =
     Announced entry.peer entry.prefix (route_of entry.attrs (entry_time stamp seconds entry.time)) ∷ []
 
--- ---- sessions
+-- ---- messages and state changes
 
--- announcements of prefixes with one route
-abbrev pub announcements : Peer → Route → List Network → List Saying
+-- the announcements of prefixes by a peer, all with one route
+abbrev pub announcements : Peer → Route → List Network → List ItemValue
 announcements peer route prefixes = map (λ prefix. Announced peer prefix route) prefixes
 
--- those of MP_REACH_NLRI, which have attributes of their own
-abbrev pub mp_announcements : Peer → ℕ → Option Attrs → List Network → List Saying
+-- the announcements of MP_REACH_NLRI, with its own attributes, at this time in seconds. They are none where there are
+-- no such attributes.
+abbrev pub mp_announcements : Peer → ℕ → Option Attrs → List Network → List ItemValue
 mp_announcements peer seconds None prefixes = []
 mp_announcements peer seconds (Some attrs) prefixes = announcements peer (route_of attrs seconds) prefixes
 
--- what an UPDATE says of its withdrawn prefixes, those of MP_UNREACH_NLRI, its announced prefixes, and those of MP_REACH_NLRI, in this order
-abbrev pub update_items : Peer → ℕ → Update → List Saying
+-- the items of an UPDATE that a peer sent at this time in seconds: the withdrawn prefixes, those of MP_UNREACH_NLRI,
+-- the announced ones, and those of MP_REACH_NLRI
+abbrev pub update_items : Peer → ℕ → Update → List ItemValue
 update_items peer seconds update =
     map (Withdrawn peer) update.withdrawn ++ (map (Withdrawn peer) update.mp_withdrawn
     ++ (announcements peer (route_of update.attrs seconds) update.announced
     ++ mp_announcements peer seconds update.mp_attrs update.mp_announced))
 
--- what a message says: nothing, where it isn't an UPDATE
-abbrev pub message_items : Peer → ℕ → Message → List Saying
+-- the items of a message that a peer sent at this time in seconds: none where it isn't an UPDATE
+abbrev pub message_items : Peer → ℕ → Message → List ItemValue
 message_items peer seconds (message.Update update) = update_items peer seconds update
 message_items peer seconds (message.Other kind) = []
 
--- what is said of a session
-abbrev pub session_items : ℕ → SessionContent → List Saying
+-- the items of a state change or a message, in a record with this timestamp
+abbrev pub session_items : ℕ → SessionContent → List ItemValue
 session_items seconds (Change change) = Changed change.peer change.old change.new ∷ []
 session_items seconds (Receipt m) = message_items m.peer seconds m.message

@@ -1,5 +1,6 @@
 pub use Rattle.mrt_frames.specs.Taken
 pub use Rattle.mrt_frames.specs.Record
+pub use Rattle.mrt_frames.specs.Buffered
 pub mod Fields
 pub mod Rib
 pub mod Session
@@ -7,7 +8,7 @@ pub mod Content
 pub mod Items
 pub use Rattle.mrt_events.specs.Event
 pub use Rattle.mrt_events.specs.SharedRoute
-pub mod Profile
+pub mod RecordTypes
 pub mod Results
-pub mod Judging
+pub mod Decoding
 pub mod Answered

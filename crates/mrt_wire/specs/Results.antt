@@ -1,4 +1,4 @@
--- What becomes of each record, and the results of an input.
+-- The result of each record, an event or a fault, and the results of an input.
 use Rattle.std.specs.Prelude.{◌≡◌, ◌⊎◌, ℕ, List, [], Option, Some, None, ◌++◌, ◌∷◌, ◌+◌, length, flat_map}
 use Rattle.mrt_frames.specs.declared.fault.RecordKind.{RecordKind}
 use Rattle.mrt_frames.specs.declared.fault.RecordKind.TheVariants.{Unsupported, Malformed, NoIndex, PeerIndex}
@@ -8,148 +8,155 @@ use Rattle.mrt_events.specs.declared.event.Tag.TheVariants.{TableDump, TableDump
 use Rattle.mrt_events.specs.declared.event.Event.{Event}
 use Rattle.mrt_events.specs.declared.peer.Peer.{Peer}
 use Rattle.mrt_frames.specs.Record.{Record, spelling, IsRecord, BeginsWithNoRecord, rest_fault}
-use Rattle.mrt_events.specs.Event.{Saying}
+use Rattle.mrt_events.specs.Event.{ItemValue}
 use Rattle.mrt_wire.specs.Content.{Content, Entry, Peers, Entries, Session, IsBody}
-use Rattle.mrt_wire.specs.Items.{first_unknown, peer_entry_items, entries_items, session_items}
-use Rattle.mrt_wire.specs.Profile.{IsSupported}
+use Rattle.mrt_wire.specs.Items.{first_unknown, table_dump_items, entries_items, session_items}
+use Rattle.mrt_wire.specs.RecordTypes.{IsSupported}
 use Rattle.mrt_wire.specs.declared.next.Phase.{Phase}
 use Rattle.mrt_wire.specs.declared.next.Phase.TheVariants.{Reading}
 use Rattle.mrt_frames.specs.declared.fault.RecordFault.{RecordFault}
 
--- ---- what becomes of a record: an event, or the first fault that it has
+-- ---- the outcome of a record: its event, or the first fault that it has
 
--- what becomes of a record
-pub data Verdict : Type 0 where
-  -- with this content, and the event that it makes
-  Accepted : Content → Event → Verdict
-  Refused : RecordKind → Verdict
+-- the outcome of a record: it is accepted with this content and event, or refused with this fault
+pub data RecordOutcome : Type 0 where
+  Accepted : Content → Event → RecordOutcome
+  Refused : RecordKind → RecordOutcome
 
--- a record and what becomes of it
+-- a whole record, and its outcome
 pub record Frame : Type 0 where
   pub mrt : Record
-  pub verdict : Verdict
+  pub outcome : RecordOutcome
 
--- the peers of the last accepted peer index table, by their numbers
-abbrev pub Index : Type 0
-Index = Option (List Peer)
+-- the peers of the last accepted peer index table, in the order of their peer indexes, and `None` before the first
+abbrev pub PeerTable : Type 0
+PeerTable = Option (List Peer)
 
--- the peer index after a record: its own, where it brings one
-abbrev pub index_after : Index → Verdict → Index
+-- the peer index table after a record with this outcome, where `index` is the one before it: its own, if it is an
+-- accepted PEER_INDEX_TABLE, and otherwise `index`
+abbrev pub index_after : PeerTable → RecordOutcome → PeerTable
 index_after index (Accepted (Entry entry) event) = index
 index_after index (Accepted (Peers peers) event) = Some peers
 index_after index (Accepted (Entries rib) event) = index
 index_after index (Accepted (Session body) event) = index
 index_after index (Refused kind) = index
 
--- the peers that an index has
-abbrev pub peers_in : Index → List Peer
+-- the peers of a peer index table, and none where there is no table
+abbrev pub peers_in : PeerTable → List Peer
 peers_in None = []
 peers_in (Some peers) = peers
 
--- the fault of a table's entries, by the first number among them that is no peer's
-abbrev pub entries_fault : Index → Option ℕ → Option RecordKind
+-- the fault of a RIB record, where `unknown` is the first peer index among its entries that isn't in the table:
+-- `NoIndex` without a table, even without entries, or else `PeerIndex` with `unknown`
+abbrev pub entries_fault : PeerTable → Option ℕ → Option RecordKind
 entries_fault None unknown = Some NoIndex
 entries_fault (Some peers) None = None
 entries_fault (Some peers) (Some number) = Some (PeerIndex number)
 
--- the fault of a content, with this peer index before it
-abbrev pub content_fault : Index → Content → Option RecordKind
+-- the fault of a record whose body has this content, with this peer index table before it
+abbrev pub content_fault : PeerTable → Content → Option RecordKind
 content_fault index (Entry entry) = None
 content_fault index (Peers peers) = None
 content_fault index (Entries rib) = entries_fault index (first_unknown (peers_in index) rib.entries)
 content_fault index (Session body) = None
 
--- the tag of what happened in a session, by the microseconds
+-- the tag of the event of a BGP4MP or BGP4MP_ET record: `Bgp4mpEt` with microseconds, and `Bgp4mp` without
 abbrev pub session_tag : Option ℕ → Tag
 session_tag None = Bgp4mp
 session_tag (Some micros) = Bgp4mpEt
 
--- an event at this time, in seconds and maybe microseconds
-abbrev pub event_at : ℕ → Option ℕ → Tag → List Saying → Event
+-- the event with this time in seconds and microseconds, this tag and these items
+abbrev pub event_at : ℕ → Option ℕ → Tag → List ItemValue → Event
 event_at seconds micros tag items = record { time = record { seconds = seconds; micros = micros }; tag = tag; items = items }
 
--- the event of an accepted record, with this peer index before it
-abbrev pub event_of : Stamp → Index → Record → Content → Event
-event_of stamp index r (Entry entry) = event_at r.seconds None TableDump (peer_entry_items stamp r.seconds entry)
+-- the event of an accepted record with this content, with this peer index table before it
+abbrev pub event_of : Stamp → PeerTable → Record → Content → Event
+event_of stamp index r (Entry entry) = event_at r.seconds None TableDump (table_dump_items stamp r.seconds entry)
 event_of stamp index r (Peers peers) = event_at r.seconds None TableDump2 []
 event_of stamp index r (Entries rib) = event_at r.seconds None TableDump2 (entries_items (peers_in index) stamp r.seconds rib)
 event_of stamp index r (Session body) = event_at r.seconds body.micros (session_tag body.micros) (session_items r.seconds body.content)
 
--- the first fault that a whole record has, with this peer index before it: its type and subtype aren't read, or its body has no content, or a content with a fault
-abbrev pub HasFault : Index → Record → RecordKind → Type 0
+-- `kind` is the first fault that a whole record has, with this peer index table before it: `Unsupported`, or else
+-- `Malformed` where its body has no content, or else the fault of its content
+abbrev pub HasFault : PeerTable → Record → RecordKind → Type 0
 HasFault index r kind =
     ((IsSupported r → ⊥) × (kind ≡ Unsupported r.kind r.subtype))
     ⊎ ((IsSupported r × ((content : Content) → IsBody r.kind r.subtype content r.body → ⊥) × (kind ≡ Malformed))
     ⊎ ((content : Content) × IsBody r.kind r.subtype content r.body × (content_fault index content ≡ Some kind)))
 
--- the content makes this event, with this peer index before it
-pub record MakesEvent (stamp : Stamp) (index : Index) (r : Record) (content : Content) (event : Event) : Type 0 where
+-- the body of the record has this content, which has no fault with this peer index table before it, and this is its
+-- event
+pub record MakesEvent (stamp : Stamp) (index : PeerTable) (r : Record) (content : Content) (event : Event) : Type 0 where
   pub is_body : IsBody r.kind r.subtype content r.body
   pub sound : content_fault index content ≡ None
   pub made : event ≡ event_of stamp index r content
 
--- with this peer index before it, this is what becomes of the record
-abbrev pub ReadsAs : Stamp → Index → Record → Verdict → Type 0
+-- the record has this outcome, with this peer index table before it
+abbrev pub ReadsAs : Stamp → PeerTable → Record → RecordOutcome → Type 0
 ReadsAs stamp index r (Accepted content event) = MakesEvent stamp index r content event
 ReadsAs stamp index r (Refused kind) = HasFault index r kind
 
--- ---- the frames of octets, where a source stands, and the results: what it finds, in order, with number and offset
+-- ---- frames, the state of a source, and the results of an input
 
--- these octets were taken from the input, which has the others left
-pub record Took (old new : Option (List ℕ)) (taken after : List ℕ) : Type 0 where
+-- `taken` was taken off the front of an input that knows its octets, and `after` is left. It doesn't hold of an input
+-- that doesn't know them.
+pub record TakesFront (old new : Option (List ℕ)) (taken after : List ℕ) : Type 0 where
   pub before : old ≡ Some (taken ++ after)
   pub now : new ≡ Some after
 
--- the octets of records one behind the other
+-- the octets of the records of these frames, one after the other
 abbrev pub spellings : List Frame → List ℕ
 spellings frames = flat_map (λ frame. spelling frame.mrt) frames
 
--- records one behind the other, each with what becomes of it, with this peer index before the first
-abbrev pub AreFrames : Stamp → Index → List Frame → Type 0
+-- each frame has a record and the outcome of it, with this peer index table before the first record, and before each
+-- further one the table that the records before it leave
+abbrev pub AreFrames : Stamp → PeerTable → List Frame → Type 0
 AreFrames stamp index [] = Unit {0}
 AreFrames stamp index (frame ∷ frames) =
-    IsRecord frame.mrt × ReadsAs stamp index frame.mrt frame.verdict × AreFrames stamp (index_after index frame.verdict) frames
+    IsRecord frame.mrt × ReadsAs stamp index frame.mrt frame.outcome × AreFrames stamp (index_after index frame.outcome) frames
 
--- the octets are those of the frames, and then a rest that begins with no record
-pub record Splits (stamp : Stamp) (index : Index) (octets : List ℕ) (frames : List Frame) (rest : List ℕ) : Type 0 where
+-- the octets are those of the frames and then a rest, which begins with no whole record
+pub record Splits (stamp : Stamp) (index : PeerTable) (octets : List ℕ) (frames : List Frame) (rest : List ℕ) : Type 0 where
   pub whole : octets ≡ spellings frames ++ rest
   pub are_frames : AreFrames stamp index frames
   pub none : BeginsWithNoRecord rest
 
--- an event, or a fault with the record's number from 1 and the offset of its header
-pub data Finding : Type 0 where
-  Found : Event → Finding
-  Bad : RecordFault → Finding
+-- what an input has at a record: an event, or a fault with the record's number and offset
+pub data RecordResult : Type 0 where
+  Found : Event → RecordResult
+  Bad : RecordFault → RecordResult
 
--- what is found at a record of this number and offset
-abbrev pub finding : ℕ → ℕ → Verdict → Finding
-finding number offset (Accepted content event) = Found event
-finding number offset (Refused kind) = Bad (record { number = number; offset = offset; kind = kind })
+-- what an input has at a record of this number, counted from 1, with a header at this offset, and with this outcome
+abbrev pub record_result : ℕ → ℕ → RecordOutcome → RecordResult
+record_result number offset (Accepted content event) = Found event
+record_result number offset (Refused kind) = Bad (record { number = number; offset = offset; kind = kind })
 
--- a fault at a record of this number and offset, where there is one
-abbrev pub fault_findings : ℕ → ℕ → Option RecordKind → List Finding
-fault_findings number offset None = []
-fault_findings number offset (Some kind) = Bad (record { number = number; offset = offset; kind = kind }) ∷ []
+-- the fault, if there is one, with this number and offset, as a list of at most one
+abbrev pub fault_results : ℕ → ℕ → Option RecordKind → List RecordResult
+fault_results number offset None = []
+fault_results number offset (Some kind) = Bad (record { number = number; offset = offset; kind = kind }) ∷ []
 
--- where a source stands: the peer index there, how many records and octets are behind it, how many octets it takes at most, which time entries get, and whether it still reads
-pub record Place : Type 0 where
-  pub index : Index
+-- the state of a source, as contracts see it: the peer index table, how many records and octets it has read, how many
+-- octets it may read, the choice of the time of table entries, and the phase
+pub record SourceState : Type 0 where
+  pub index : PeerTable
   pub number : ℕ
   pub offset : ℕ
   pub limit : ℕ
   pub stamp : Stamp
   pub phase : Phase
 
--- the place behind a frame
-abbrev pub place_behind : Place → Frame → Place
-place_behind p frame =
-    record { index = index_after p.index frame.verdict; number = p.number + 1; offset = p.offset + length (spelling frame.mrt); limit = p.limit; stamp = p.stamp; phase = p.phase }
+-- the state of a source after the record of a frame, where `p` is that before it
+abbrev pub state_after : SourceState → Frame → SourceState
+state_after p frame =
+    record { index = index_after p.index frame.outcome; number = p.number + 1; offset = p.offset + length (spelling frame.mrt); limit = p.limit; stamp = p.stamp; phase = p.phase }
 
--- a source that has taken nothing
-abbrev pub start_place : Stamp → ℕ → Place
-start_place stamp limit = record { index = None; number = 0; offset = 0; limit = limit; stamp = stamp; phase = Reading }
+-- the state of a new source with this stamp and limit: nothing is read, and there is no peer index table
+abbrev pub start_state : Stamp → ℕ → SourceState
+start_state stamp limit = record { index = None; number = 0; offset = 0; limit = limit; stamp = stamp; phase = Reading }
 
--- what is found from a place on in octets that split so
-abbrev pub results : Place → List Frame → List ℕ → List Finding
-results p [] rest = fault_findings (p.number + 1) p.offset (rest_fault rest)
-results p (frame ∷ frames) rest = finding (p.number + 1) p.offset frame.verdict ∷ results (place_behind p frame) frames rest
+-- the results of an input from a state on, where its octets split into these frames and this rest: an event or a
+-- fault for each frame, in order, and then the fault of the rest, if it isn't empty
+abbrev pub results : SourceState → List Frame → List ℕ → List RecordResult
+results p [] rest = fault_results (p.number + 1) p.offset (rest_fault rest)
+results p (frame ∷ frames) rest = record_result (p.number + 1) p.offset frame.outcome ∷ results (state_after p frame) frames rest

@@ -1,85 +1,93 @@
--- How state changes and messages are sent (RFC 6396, section 4.4), behind microseconds or not (section 3).
+-- State changes and messages of sessions, and the octets that spell them (RFC 6396, section 4.4), after microseconds
+-- or not (section 3).
 use Rattle.std.specs.Prelude.{◌≡◌, ℕ, ◌<◌, Bool, true, false, List, [], ◌∷◌, Option, Some, None}
 use Rattle.ip_prefix.specs.declared.addr.Family.{Family}
 use Rattle.ip_prefix.specs.Network.{Address, octet_count}
-use Rattle.ip_prefix.specs.Fields.{Then, WithMore}
+use Rattle.ip_prefix.specs.Fields.{SpellsPair, SpellsFront}
 use Rattle.bgp_wire.specs.declared.AsWidth.{AsWidth}
 use Rattle.bgp_wire.specs.declared.message.Message.{Message}
-use Rattle.bgp_wire.specs.Path.{SpellsAsn, SpellsWord, octets_at}
+use Rattle.bgp_wire.specs.Path.{SpellsAsn, SpellsU32, asn_size}
 use Rattle.bgp_wire.specs.Reach.{family_code}
 use Rattle.bgp_wire.specs.Update.{SpellsMessage}
 use Rattle.mrt_events.specs.declared.peer.Peer.{Peer}
-use Rattle.mrt_wire.specs.declared.profile.SessionKind.{SessionKind}
-use Rattle.mrt_wire.specs.declared.profile.SessionKind.TheVariants as kind
-use Rattle.mrt_wire.specs.declared.profile.SessionForm.{SessionForm}
+use Rattle.mrt_wire.specs.declared.record_types.SessionKind.{SessionKind}
+use Rattle.mrt_wire.specs.declared.record_types.SessionKind.TheVariants as kind
+use Rattle.mrt_wire.specs.declared.record_types.SessionFormat.{SessionFormat}
 use Rattle.mrt_wire.specs.declared.session.TheConstants.{INTERFACE_SIZE, MICROS_PER_SECOND}
 use Rattle.mrt_wire.specs.Fields.{SpellsShort, AreOctets, SpellsAddressOf}
 
--- a peer's old and new state (RFC 4271, section 8.2.2)
+-- the change of a session with a peer from an old state to a new one, by their numbers (RFC 4271, section 8.2.2)
 pub record StateChange : Type 0 where
   pub peer : Peer
   pub old : ℕ
   pub new : ℕ
 
--- a message that a peer has sent
+-- a BGP message, and the peer that sent it
 pub record PeerMessage : Type 0 where
   pub message : Message
   pub peer : Peer
 
--- what happened in a session: its state changed, or the peer sent a message
+-- what a BGP4MP record holds: a state change, or a message
 pub data SessionContent : Type 0 where
   Change : StateChange → SessionContent
   Receipt : PeerMessage → SessionContent
 
--- what happened in a session, and the microseconds, where the body has them
+-- what the body of a BGP4MP record holds, and the microseconds, which are `None` where the body doesn't begin with
+-- them
 pub record SessionBody : Type 0 where
   pub content : SessionContent
   pub micros : Option ℕ
 
--- an address family, in two octets
+-- the two octets of an address family: 1 for IPv4, 2 for IPv6
 abbrev pub SpellsFamily : Family → List ℕ → Type 0
 SpellsFamily family octets = octets ≡ 0 ∷ family_code family ∷ []
 
--- Peer AS Number, Local AS Number, Interface Index
-abbrev pub AreSystems : AsWidth → ℕ × (List ℕ × List ℕ) → List ℕ → Type 0
-AreSystems width =
-    Then (SpellsAsn width) (λ asn. Then (AreOctets (octets_at width)) (λ local_asn. AreOctets INTERFACE_SIZE))
+-- the octets of Peer AS Number, Local AS Number and Interface Index, with AS numbers of this width. The value is the
+-- peer's number, and the octets of the other two, which may be any.
+abbrev pub AreAsnFields : AsWidth → ℕ × (List ℕ × List ℕ) → List ℕ → Type 0
+AreAsnFields width =
+    SpellsPair (SpellsAsn width) (λ asn. SpellsPair (AreOctets (asn_size width)) (λ local_asn. AreOctets INTERFACE_SIZE))
 
--- Address Family, Peer IP Address, Local IP Address
-abbrev pub AreAddresses : Family × (Address × List ℕ) → List ℕ → Type 0
-AreAddresses =
-    Then SpellsFamily (λ family. Then (SpellsAddressOf family) (λ address. AreOctets (octet_count family)))
+-- the octets of Address Family, Peer IP Address and Local IP Address. The value is the family, the peer's address,
+-- and the octets of the local address, which may be any.
+abbrev pub AreAddressFields : Family × (Address × List ℕ) → List ℕ → Type 0
+AreAddressFields =
+    SpellsPair SpellsFamily (λ family. SpellsPair (SpellsAddressOf family) (λ address. AreOctets (octet_count family)))
 
--- the octets of a session with this peer, with AS numbers of this width; the local AS number, the interface and the local address may be any octets
+-- the octets of the session fields in front of a state change or a message, with this peer, and AS numbers of this
+-- width. The local AS number, the interface index and the local address may be any.
 abbrev pub SpellsSessionPeer : AsWidth → Peer → List ℕ → Type 0
 SpellsSessionPeer width peer octets =
     (local_asn interface : List ℕ) × (family : Family) × (local_address : List ℕ)
-    × Then (AreSystems width) (λ systems. AreAddresses)
+    × SpellsPair (AreAsnFields width) (λ systems. AreAddressFields)
     ((peer.asn, (local_asn, interface)), (family, (peer.addr, local_address))) octets
 
--- the octets of STATE_CHANGE or STATE_CHANGE_AS4: the session, Old State and New State, and any octets
+-- the octets of STATE_CHANGE or STATE_CHANGE_AS4: the session fields, Old State, New State, and then any octets
 abbrev pub SpellsStateChange : AsWidth → StateChange → List ℕ → Type 0
 SpellsStateChange width change octets =
-    Then (SpellsSessionPeer width) (λ peer. Then SpellsShort (λ old. WithMore SpellsShort)) (change.peer, (change.old, change.new)) octets
+    SpellsPair (SpellsSessionPeer width) (λ peer. SpellsPair SpellsShort (λ old. SpellsFront SpellsShort)) (change.peer, (change.old, change.new)) octets
 
--- the octets of MESSAGE or MESSAGE_AS4: the session, and a message to the end
+-- the octets of MESSAGE or MESSAGE_AS4: the session fields, and then a message, which takes all octets that are left
 abbrev pub SpellsPeerMessage : AsWidth → PeerMessage → List ℕ → Type 0
 SpellsPeerMessage width m octets =
-    Then (SpellsSessionPeer width) (λ peer. SpellsMessage width) (m.peer, m.message) octets
+    SpellsPair (SpellsSessionPeer width) (λ peer. SpellsMessage width) (m.peer, m.message) octets
 
--- the octets of what happened in a session
-abbrev pub SpellsHappening : SessionKind → AsWidth → SessionContent → List ℕ → Type 0
-SpellsHappening kind.StateChange width said octets =
+-- the octets of a BGP4MP body without microseconds: those of a state change or of a message, as `kind` says, with AS
+-- numbers of this width
+abbrev pub SpellsSessionContent : SessionKind → AsWidth → SessionContent → List ℕ → Type 0
+SpellsSessionContent kind.StateChange width said octets =
     (change : StateChange) × (said ≡ Change change) × SpellsStateChange width change octets
-SpellsHappening kind.Message width said octets =
+SpellsSessionContent kind.Message width said octets =
     (message : PeerMessage) × (said ≡ Receipt message) × SpellsPeerMessage width message octets
 
--- the octets of microseconds, which don't make a second, where a body has them
+-- the octets of the microseconds where a body begins with them: a number of four octets below 1,000,000. Where it
+-- doesn't there are no octets, and `micros` is `None`.
 abbrev pub SpellsMicros : Bool → Option ℕ → List ℕ → Type 0
 SpellsMicros false micros octets = (micros ≡ None) × (octets ≡ [])
-SpellsMicros true micros octets = (n : ℕ) × (micros ≡ Some n) × (n < MICROS_PER_SECOND) × SpellsWord n octets
+SpellsMicros true micros octets = (n : ℕ) × (micros ≡ Some n) × (n < MICROS_PER_SECOND) × SpellsU32 n octets
 
--- the octets of a body, with microseconds in front or not
-abbrev pub SpellsSessionBody : SessionForm → SessionBody → List ℕ → Type 0
+-- the octets of a body of this format: the microseconds, where it begins with them, and then a state change or a
+-- message
+abbrev pub SpellsSessionBody : SessionFormat → SessionBody → List ℕ → Type 0
 SpellsSessionBody form body octets =
-    Then (SpellsMicros form.timed) (λ micros. SpellsHappening form.kind form.width) (body.micros, body.content) octets
+    SpellsPair (SpellsMicros form.timed) (λ micros. SpellsSessionContent form.kind form.width) (body.micros, body.content) octets

@@ -1,12 +1,12 @@
-//! Parsers of the fields that MRT record bodies are made of (RFC 6396, section 4). The parsers of
-//! each record type call them, one field after the other. All numbers are big-endian. Read
-//! [`Field`] first.
+//! Parsers of the fields that the bodies of MRT records are made of (RFC 6396, section 4). The
+//! parsers of each record type call them, one field after the other. All numbers are big-endian.
+//! Read [`ValueAndRest`] first.
 
 ghost use Rattle.std.specs.Prelude.{◌≡◌, ℕ, List, length, IfSome, IfNone};
 ghost use Rattle.ip_prefix.specs.Sequences.{Begins};
 ghost use Rattle.ip_prefix.specs.Fronts.{BeginsWithNone};
-ghost use Rattle.bgp_wire.specs.Path.{SpellsAsn, SpellsWord};
-ghost use Rattle.mrt_wire.specs.Judging.{FindsField};
+ghost use Rattle.bgp_wire.specs.Path.{SpellsAsn, SpellsU32};
+ghost use Rattle.mrt_wire.specs.Decoding.{FindsValue};
 ghost use Rattle.mrt_wire.specs.Fields.{AreOctets, AreSized, SpellsAddressOf, SpellsOctet, SpellsPeerOf, SpellsShort};
 
 use crate::peers::blank_peer;
@@ -17,19 +17,19 @@ use mrt_events::Peer;
 
 /// A value parsed from the start of a slice, and the octets after it.
 #[derive(Clone, Copy)]
-pub(crate) struct Field<'a, T> {
+pub(crate) struct ValueAndRest<'a, T> {
     pub(crate) value: T,
     pub(crate) rest: &'a [u8],
 }
 
 /// Parses the octet at the start of `octets`, or returns `None` if `octets` is empty.
 #[inline]
-pub(crate) fn split_octet(octets: &[u8]) -> Option<Field<'_, u8>>
-    ensures { FindsField SpellsOctet octets.now result }
+pub(crate) fn split_octet(octets: &[u8]) -> Option<ValueAndRest<'_, u8>>
+    ensures { FindsValue SpellsOctet octets.now result }
 {
     let (octet, rest) = octets.split_first()?;
     let value = *octet;
-    Some(Field { value, rest })
+    Some(ValueAndRest { value, rest })
 }
 
 /// Returns the octets after the first `size` octets, or `None` if `octets` is shorter than `size`.
@@ -46,62 +46,62 @@ pub(crate) fn skip(size: usize, octets: &[u8]) -> Option<&[u8]>
 /// Parses the big-endian 16-bit number at the start of `octets`, or returns `None` if `octets` has
 /// fewer than two octets.
 #[inline]
-pub(crate) fn split_short(octets: &[u8]) -> Option<Field<'_, u16>>
-    ensures { FindsField SpellsShort octets.now result }
+pub(crate) fn split_u16(octets: &[u8]) -> Option<ValueAndRest<'_, u16>>
+    ensures { FindsValue SpellsShort octets.now result }
 {
     if octets.len() < 2 {
         return None;
     }
     let (front, rest) = octets.split_at(2);
     let value = BigEndian::read_u16(front);
-    Some(Field { value, rest })
+    Some(ValueAndRest { value, rest })
 }
 
 /// Parses the big-endian 32-bit number at the start of `octets`, or returns `None` if `octets` has
 /// fewer than four octets.
 #[inline]
-pub(crate) fn split_word(octets: &[u8]) -> Option<Field<'_, u32>>
-    ensures { FindsField SpellsWord octets.now result }
+pub(crate) fn split_u32(octets: &[u8]) -> Option<ValueAndRest<'_, u32>>
+    ensures { FindsValue SpellsU32 octets.now result }
 {
     if octets.len() < 4 {
         return None;
     }
     let (front, rest) = octets.split_at(4);
     let value = BigEndian::read_u32(front);
-    Some(Field { value, rest })
+    Some(ValueAndRest { value, rest })
 }
 
-/// Parses the big-endian AS number at the start of `octets`, which takes two or four octets as
-/// `width` says. Returns `None` if `octets` has fewer.
+/// Parses the big-endian AS number at the start of `octets`, which takes two or four octets, by
+/// `width`. Returns `None` if `octets` has fewer.
 #[inline]
-pub(crate) fn split_asn(width: AsWidth, octets: &[u8]) -> Option<Field<'_, u32>>
-    ensures { FindsField (SpellsAsn width) octets.now result }
+pub(crate) fn split_asn(width: AsWidth, octets: &[u8]) -> Option<ValueAndRest<'_, u32>>
+    ensures { FindsValue (SpellsAsn width) octets.now result }
 {
     match width {
         AsWidth::Two => {
-            let number = split_short(octets)?;
+            let number = split_u16(octets)?;
             let (value, rest) = (u32::from(number.value), number.rest);
-            Some(Field { value, rest })
+            Some(ValueAndRest { value, rest })
         }
-        AsWidth::Four => split_word(octets),
+        AsWidth::Four => split_u32(octets),
     }
 }
 
-/// Splits a field off that begins with its length, a big-endian 16-bit number of octets. Returns
-/// the field's octets without the length, and the octets after the field. Returns `None` if
-/// `octets` is shorter than the field.
+/// Splits off a field that begins with its length, a big-endian 16-bit number of octets. Returns
+/// the octets of the field without the length, and the octets after the field. Returns `None` if
+/// `octets` is shorter than the length and the field.
 #[inline]
-pub(crate) fn split_sized(octets: &[u8]) -> Option<(&[u8], &[u8])>
+pub(crate) fn split_length_prefixed(octets: &[u8]) -> Option<(&[u8], &[u8])>
     ensures some { IfSome result (λ found. Begins AreSized found.0.now found.1.now octets.now) }
     ensures none { IfNone result (BeginsWithNone AreSized octets.now) }
 {
-    let number = split_short(octets)?;
+    let number = split_u16(octets)?;
     number.rest.split_at_checked(usize::from(number.value))
 }
 
 /// Parses the address of `family` at the start of `octets` into `addr`, and returns the octets
 /// after it. An IPv4 address takes 4 octets, an IPv6 address 16. If `octets` has fewer, returns
-/// `None` and leaves `addr` as it was.
+/// `None` and leaves `addr` unchanged.
 #[inline]
 pub(crate) fn fill_address<'a>(
     addr: &mut Addr,
@@ -127,20 +127,20 @@ pub(crate) fn fill_address<'a>(
 }
 
 /// Parses the peer at the start of `octets`: its address, of `family`, and then its AS number, of
-/// `width`. Returns `None` if `octets` has too few octets for them.
+/// `width`. Returns `None` if `octets` is too short for them.
 #[inline(always)]
-pub(crate) fn split_peer_of(
+pub(crate) fn split_address_and_asn(
     family: Family,
     width: AsWidth,
     octets: &[u8],
-) -> Option<Field<'_, Peer>>
-    ensures { FindsField (SpellsPeerOf family width) octets.now result }
+) -> Option<ValueAndRest<'_, Peer>>
+    ensures { FindsValue (SpellsPeerOf family width) octets.now result }
 {
     let mut peer = blank_peer();
     let after_addr = fill_address(&mut peer.addr, family, octets)?;
     let asn = split_asn(width, after_addr)?;
     peer.asn = asn.value;
-    Some(Field {
+    Some(ValueAndRest {
         value: peer,
         rest: asn.rest,
     })

@@ -1,42 +1,43 @@
 //! Theorems about the definitions that the contracts of this crate cite. The functions have no code
 //! and nothing calls them: what they state is proved as the crate is checked. `docs/proved.md`
-//! names them.
+//! names them. Read [`law_one_split`] first.
 
 ghost use Rattle.std.specs.Prelude.{◌≡◌, ℕ, List};
 ghost use Rattle.mrt_events.specs.declared.stamp.Stamp.{Stamp};
 ghost use Rattle.mrt_frames.specs.declared.header.TheConstants.{HEADER_SIZE, LONGEST_BODY};
 ghost use Rattle.mrt_wire.specs.declared.peer_index.TheConstants.{ID_SIZE, IPV6_PEER, AS4_PEER};
-ghost use Rattle.mrt_wire.specs.declared.profile.TheConstants.{TABLE_DUMP, AFI_IPV4, AFI_IPV6, TABLE_DUMP_V2, BGP4MP, BGP4MP_ET, PEER_INDEX_TABLE, RIB_IPV4_UNICAST, RIB_IPV6_UNICAST, BGP4MP_STATE_CHANGE, BGP4MP_MESSAGE, BGP4MP_MESSAGE_AS4, BGP4MP_STATE_CHANGE_AS4};
+ghost use Rattle.mrt_wire.specs.declared.record_types.TheConstants.{TABLE_DUMP, AFI_IPV4, AFI_IPV6, TABLE_DUMP_V2, BGP4MP, BGP4MP_ET, PEER_INDEX_TABLE, RIB_IPV4_UNICAST, RIB_IPV6_UNICAST, BGP4MP_STATE_CHANGE, BGP4MP_MESSAGE, BGP4MP_MESSAGE_AS4, BGP4MP_STATE_CHANGE_AS4};
 ghost use Rattle.mrt_wire.specs.declared.rib.TheConstants.{SEQUENCE_SIZE};
 ghost use Rattle.mrt_wire.specs.declared.session.TheConstants.{INTERFACE_SIZE, MICROS_PER_SECOND};
 ghost use Rattle.mrt_wire.specs.declared.table_dump.TheConstants.{NUMBERS_SIZE, STATUS_SIZE};
 ghost use Rattle.mrt_wire.specs.Content.{Content, IsBody};
-ghost use Rattle.mrt_wire.specs.Results.{Frame, Index, Splits};
+ghost use Rattle.mrt_wire.specs.Results.{Frame, PeerTable, Splits};
 ghost use Rattle.mrt_frames.specs.Taken.{IsOctets};
 ghost use Rattle.mrt_wire.specs.Answered.{SplitsOneWay};
 
 /// Proves that a record body of one type and subtype has at most one content.
-pub fn one_content()
+pub fn law_one_content()
     ensures { (kind subtype : ℕ) (body : List ℕ) (a b : Content) →
         IsBody kind subtype a body → IsBody kind subtype b body → a ≡ b }
 {}
 
-/// Proves that no list of octets is without a split into frames and a rest that begins with no
-/// record. The statement is a double negation: it names no split.
-pub fn no_octets_without_a_split()
-    ensures { (stamp : Stamp) (index : Index) (octets : List ℕ) → IsOctets octets →
+/// Proves that every list of octets has a split into frames and a rest that begins with no record.
+/// The statement is a double negation, since it names no split.
+pub fn law_no_octets_without_a_split()
+    ensures { (stamp : Stamp) (index : PeerTable) (octets : List ℕ) → IsOctets octets →
         ((frames : List Frame) (rest : List ℕ) → Splits stamp index octets frames rest → ⊥) → ⊥ }
 {}
 
 /// Proves that a list of octets splits in at most one way into frames and a rest that begins with
 /// no record.
-pub fn one_split()
-    ensures { (stamp : Stamp) (index : Index) (octets : List ℕ) → SplitsOneWay stamp index octets }
+pub fn law_one_split()
+    ensures { (stamp : Stamp) (index : PeerTable) (octets : List ℕ) → SplitsOneWay stamp index octets }
 {}
 
-/// Proves the values of the numbers that the definitions name: MRT types and subtypes, the sizes of
-/// fields in octets (RFC 6396, sections 2 to 4), and the greatest length of a body that is read.
-pub fn record_numbers()
+/// Proves the values of the constants that the definitions name: MRT types and subtypes, the sizes
+/// of fields in octets (RFC 6396, sections 2 to 4), the greatest length of a body that is read, and
+/// the microseconds of a second.
+pub fn law_record_numbers()
     ensures sizes { (HEADER_SIZE ≡ 12) × (LONGEST_BODY ≡ 16777216) }
     ensures types { (TABLE_DUMP ≡ 12) × (TABLE_DUMP_V2 ≡ 13) × (BGP4MP ≡ 16)
         × (BGP4MP_ET ≡ 17) }

@@ -1,30 +1,30 @@
 //! A parser of MRT files (RFC 6396): it reads one record after the other from an input, and returns
-//! an event or a fault for each. Other crates call [`Source::next`]. Read `source.rt` first, then
-//! `judging.rt`, which parses one record, and then the parser of each record type: `peer_index.rt`,
-//! `rib.rt`, `table_dump.rt` and `session.rt`.
+//! an event or a fault for each. `bgpdump_lines` and `bgpdump_tool` call [`Source::next`]. Read
+//! `source.rt` first, then `decoding.rt`, which parses one record, and then the parser of each
+//! record type: `peer_index.rt`, `rib.rt`, `table_dump.rt` and `session.rt`.
 #![tactic(auto)]
 
+mod decoding;
 mod fields;
-mod judging;
 mod laws;
 mod next;
 mod peer_index;
 mod peers;
 mod pool;
-mod profile;
-mod read_routes;
+mod record_types;
 mod replacing;
 mod rib;
 mod rib_route;
+mod route_cache;
 mod route_pool;
 mod session;
 mod source;
 mod table_dump;
 mod update;
 
-pub use laws::{no_octets_without_a_split, one_content, one_split, record_numbers};
+pub use laws::{law_no_octets_without_a_split, law_one_content, law_one_split, law_record_numbers};
 pub use mrt_events::{
-    ESTABLISHED, Event, Item, Items, Peer, Route, Shared, SharedRanges, Stamp, Tag, Time,
+    ESTABLISHED, Event, Item, Items, Peer, Route, SharedRange, SharedRanges, Stamp, Tag, Time,
     route_size, same_peer, same_prefix, same_route,
 };
 pub use mrt_frames::{

@@ -1,17 +1,19 @@
-//! Parsing PEER_INDEX_TABLE records (RFC 6396, section 4.3.1). The entries of RIB records refer to
-//! the peers of this table by their position in it, the peer index. `judge` calls
-//! [`read_peer_index`]; read that first.
+//! Parsing PEER_INDEX_TABLE records (RFC 6396, section 4.3.1). Entries of RIB records refer to the
+//! peers of this table by their position in it, counted from 0: the peer index. `decode_record`
+//! calls [`read_peer_index`]; read that first.
 
 ghost use Rattle.std.specs.Prelude.{◌≡◌, ℕ, List, IfSome, IfNone};
 ghost use Rattle.ip_prefix.specs.Sequences.{Begins};
 ghost use Rattle.ip_prefix.specs.Fronts.{BeginsWithNone};
-ghost use Rattle.ip_prefix.specs.Fields.{WithMore};
+ghost use Rattle.ip_prefix.specs.Fields.{SpellsFront};
 ghost use Rattle.ip_prefix.specs.Counted.{SpellsCounted};
-ghost use Rattle.bgp_wire.specs.Readers.{Reads};
-ghost use Rattle.mrt_wire.specs.Judging.{FindsField};
+ghost use Rattle.bgp_wire.specs.Readers.{ParsesOrFails};
+ghost use Rattle.mrt_wire.specs.Decoding.{FindsValue};
 ghost use Rattle.mrt_wire.specs.Rib.{peer_family, peer_width, SpellsPeer, SpellsView, SpellsPeerIndex};
 
-use crate::fields::{Field, skip, split_octet, split_peer_of, split_short, split_sized};
+use crate::fields::{
+    ValueAndRest, skip, split_address_and_asn, split_length_prefixed, split_octet, split_u16,
+};
 use crate::peers::Peers;
 use bgp_wire::{AsWidth, WireFault};
 use ip_prefix::Family;
@@ -31,7 +33,7 @@ const ID_SIZE: usize = 4;
 /// number of two octets.
 const SMALLEST_PEER: usize = 11;
 
-/// Returns the family of the address of a peer, by its Peer Type.
+/// Returns the family of a peer's address, by its Peer Type (RFC 6396, section 4.3.1).
 fn peer_family(kind: u8) -> Family
     ensures { result ≡ peer_family kind }
 {
@@ -42,7 +44,7 @@ fn peer_family(kind: u8) -> Family
     }
 }
 
-/// Returns the width of the AS number of a peer, by its Peer Type.
+/// Returns the width of a peer's AS number, by its Peer Type (RFC 6396, section 4.3.1).
 fn peer_width(kind: u8) -> AsWidth
     ensures { result ≡ peer_width kind }
 {
@@ -53,25 +55,25 @@ fn peer_width(kind: u8) -> AsWidth
     }
 }
 
-/// Parses the peer entry at the start of `octets`, whose BGP ID is ignored. Returns `None` if
-/// `octets` is shorter than the entry.
-fn split_peer(octets: &[u8]) -> Option<Field<'_, Peer>>
-    ensures { FindsField SpellsPeer octets.now result }
+/// Parses the peer entry at the start of `octets`, ignoring its BGP ID (RFC 6396, section 4.3.1).
+/// Returns `None` if `octets` is shorter than the entry.
+fn split_peer(octets: &[u8]) -> Option<ValueAndRest<'_, Peer>>
+    ensures { FindsValue SpellsPeer octets.now result }
 {
     let kind = split_octet(octets)?;
     let after_id = skip(ID_SIZE, kind.rest)?;
     let (family, width) = (peer_family(kind.value), peer_width(kind.value));
-    split_peer_of(family, width, after_id)
+    split_address_and_asn(family, width, after_id)
 }
 
-/// Parses the peer entries at the start of `octets`, after their 16-bit count, and ignores the
-/// octets after them. Fails with `Malformed` if there are fewer entries than the count states, or
-/// with `Memory` if memory allocation fails.
+/// Parses a 16-bit count and as many peer entries at the start of `octets`, and ignores the octets
+/// after them. Fails with `Malformed` if there are fewer entries than the count states, or with
+/// `Memory` if memory allocation fails.
 fn read_peers(alloc: Global, octets: &[u8]) -> Result<Peers, WireFault>
-    ensures { Reads (WithMore (SpellsCounted SpellsPeer)) octets.now result }
+    ensures { ParsesOrFails (SpellsFront (SpellsCounted SpellsPeer)) octets.now result }
 {
     // Room is reserved for no more peers than the octets can hold, whatever the count.
-    let count = split_short(octets).ok_or(WireFault::Malformed)?;
+    let count = split_u16(octets).ok_or(WireFault::Malformed)?;
     let most = count.rest.len() / SMALLEST_PEER;
     let mut peers = Vec::with_capacity(alloc, most.min(usize::from(count.value)))?;
     let mut rest = count.rest;
@@ -86,12 +88,12 @@ fn read_peers(alloc: Global, octets: &[u8]) -> Result<Peers, WireFault>
 }
 
 /// Parses the body of a PEER_INDEX_TABLE record into its peers (RFC 6396, section 4.3.1), and
-/// ignores the collector's BGP ID and the view name. Fails with `Malformed` if it isn't such a
-/// body, or with `Memory` if memory allocation fails.
+/// ignores the collector's BGP ID and the view name. Fails with `Malformed` if the body has another
+/// form, or with `Memory` if memory allocation fails.
 pub(crate) fn read_peer_index(alloc: Global, octets: &[u8]) -> Result<Peers, WireFault>
-    ensures { Reads SpellsPeerIndex octets.now result }
+    ensures { ParsesOrFails SpellsPeerIndex octets.now result }
 {
     let after_id = skip(ID_SIZE, octets).ok_or(WireFault::Malformed)?;
-    let (_, peers) = split_sized(after_id).ok_or(WireFault::Malformed)?;
+    let (_, peers) = split_length_prefixed(after_id).ok_or(WireFault::Malformed)?;
     read_peers(alloc, peers)
 }

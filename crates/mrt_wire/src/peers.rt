@@ -1,26 +1,26 @@
-//! The peers of a peer index table, and the hash by which peers share the slots of
-//! `read_routes.rt`, which keep routes of table entries. `table_dump.rt` calls [`place_of`]; a RIB
-//! entry is assigned a slot by its peer index instead.
+//! The peers of a peer index table, and the hash that selects the slot of `route_cache.rt` in which
+//! the routes of a peer are cached. `table_dump.rt` calls [`peer_hash`]; an entry of a RIB record
+//! gets its slot by its peer index instead. Read [`Peers`] first.
 
 ghost use Rattle.std.specs.Prelude.{◌<◌};
-ghost use Rattle.mrt_wire.specs.declared.peers.TheConstants.{PEER_PLACES};
+ghost use Rattle.mrt_wire.specs.declared.peers.TheConstants.{PEER_SLOTS};
 
 use bgp_paths::ListOf;
 use ip_prefix::{Addr, Family, V4_OCTETS};
 use mrt_events::Peer;
 
-/// The number of slots that peers are spread over. With one more peer, two peers share a slot,
-/// where each overwrites the other's route.
-pub(crate) const PEER_PLACES: usize = 256;
+/// The number of slots that peers are spread over. With one more peer, two peers share a slot, and
+/// the route of each overwrites the other's.
+pub(crate) const PEER_SLOTS: usize = 256;
 
 /// The multiplier of the hash of a peer: the odd number nearest to 2^32 divided by the golden
 /// ratio.
 const MULTIPLIER: u32 = 0x9E37_79B9;
 
-/// The number of low bits of the product that the hash of a peer leaves out.
+/// The number of low bits of the product that are no part of the hash of a peer.
 const LOWEST_BITS: u32 = 24;
 
-/// Returns a peer with address 0.0.0.0 and AS number 0, to be overwritten by a parser.
+/// Returns a peer with address 0.0.0.0 and AS number 0, which a parser overwrites.
 #[inline]
 pub(crate) fn blank_peer() -> Peer {
     Peer {
@@ -48,11 +48,11 @@ fn last_octets(addr: &Addr) -> u32 {
     }
 }
 
-/// Returns the index of the slot of `peer`, by a hash of the last four octets of its address and
-/// its AS number. Several peers may share a slot.
+/// Returns a hash of the last four octets of the peer's address and of its AS number: the index of
+/// its slot. Several peers may have one.
 #[inline]
-pub(crate) fn place_of(peer: &Peer) -> usize
-    ensures { result < PEER_PLACES }
+pub(crate) fn peer_hash(peer: &Peer) -> usize
+    ensures { result < PEER_SLOTS }
 {
     // Which slot a peer has changes time and memory alone, so the contract bounds the index only.
     let first = last_octets(&peer.addr).wrapping_add(peer.asn);

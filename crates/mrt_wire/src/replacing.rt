@@ -1,16 +1,16 @@
-//! Moving or copying the attributes of a message into a route, whose memory is reused.
-//! `route_pool.rt` calls [`put_attrs`].
+//! Moving or copying the attributes of a message into a route whose memory is reused.
+//! `route_pool.rt` calls [`move_or_copy_attrs`]; read that first.
 
 ghost use Rattle.std.specs.Prelude.{◌≡◌, true, OnOk};
 
-use bgp_wire::{Attrs, replace_attrs};
+use bgp_wire::{Attrs, clone_attrs_from};
 use std::alloc::{AllocError, Global};
 use std::mem;
 
-/// Sets `attrs` to the value of `others`, and gives `others` the path and the communities that
-/// `attrs` had, so that their memory is reused.
+/// Sets `attrs` to the value of `others`. `others` gets the path and the communities that `attrs`
+/// had, so that their memory is reused; its other fields are unchanged.
 #[inline(always)]
-fn exchange_attrs(attrs: &mut Attrs, others: &mut Attrs)
+fn move_attrs(attrs: &mut Attrs, others: &mut Attrs)
     ensures { attrs.new ≡ others.old }
 {
     // Only paths and communities own memory. To exchange all fields takes a hundred instructions
@@ -25,22 +25,22 @@ fn exchange_attrs(attrs: &mut Attrs, others: &mut Attrs)
     attrs.atomic = others.atomic;
 }
 
-/// Sets `attrs` to the value of `others`, which is copied and left as it is if `is_kept`. If not,
-/// `others` is unspecified afterwards. On error, which means that memory allocation fails, `attrs`
-/// is unspecified.
+/// Sets `attrs` to the value of `others`, which is copied and left as it is if `keep_attrs`, and is
+/// unspecified afterwards if not. On error, which means that memory allocation fails, `attrs` is
+/// unspecified.
 #[inline(always)]
-pub(crate) fn put_attrs(
+pub(crate) fn move_or_copy_attrs(
     alloc: Global,
     attrs: &mut Attrs,
     others: &mut Attrs,
-    is_kept: bool,
+    keep_attrs: bool,
 ) -> Result<(), AllocError>
     ensures put { OnOk result (attrs.new ≡ others.old) }
-    ensures kept { is_kept ≡ true → others.new ≡ others.old }
+    ensures kept { keep_attrs ≡ true → others.new ≡ others.old }
 {
-    if is_kept {
-        return replace_attrs(alloc, attrs, others);
+    if keep_attrs {
+        return clone_attrs_from(alloc, attrs, others);
     }
-    exchange_attrs(attrs, others);
+    move_attrs(attrs, others);
     Ok(())
 }

@@ -1,6 +1,6 @@
-//! Parsing RIB_IPV4_UNICAST and RIB_IPV6_UNICAST records: the entries of a table for one prefix
-//! (RFC 6396, sections 4.3.2 and 4.3.4). `judge` calls [`read_rib`]; read that first, then
-//! `read_entry`.
+//! Parsing RIB_IPV4_UNICAST and RIB_IPV6_UNICAST records: the entries of a routing table for one
+//! prefix (RFC 6396, sections 4.3.2 and 4.3.4). `decode_record` calls [`read_rib`]; read that
+//! first, then `read_entry`.
 
 ghost use Rattle.std.specs.Prelude.{◌≡◌, ◌∷◌, [], slice_get, OnOk, IfSome, IfNone, IfOk, IfErr};
 ghost use Rattle.std.specs.Option.{option_or};
@@ -9,11 +9,11 @@ ghost use Rattle.ip_prefix.specs.Fronts.{BeginsWithNone};
 ghost use Rattle.bgp_wire.specs.Readers.{Refuses, RefusesFront};
 ghost use Rattle.mrt_wire.specs.Rib.{PrefixEntries, AreEntryFields, SpellsEntry, SpellsEntries, SpellsRib};
 ghost use Rattle.mrt_wire.specs.Items.{entry_time, first_unknown};
-ghost use Rattle.mrt_wire.specs.Judging.{Adds, AreItemsOf, EntriesTold, IsTimed, entry_read, snapshot_items};
+ghost use Rattle.mrt_wire.specs.Decoding.{AddsItems, AreItemsOf, SpellsEntryItems, HasEntryTime, entry_value, context_items};
 
-use crate::fields::{skip, split_short, split_sized, split_word};
+use crate::fields::{skip, split_length_prefixed, split_u16, split_u32};
 use crate::pool::Pool;
-use crate::rib_route::SentAttrs;
+use crate::rib_route::RawAttrs;
 use bgp_wire::{AsWidth, WireFault};
 use ip_prefix::{Family, Prefix};
 use mrt_events::{Item, Peer, Route, Stamp};
@@ -29,8 +29,8 @@ const SMALLEST_ENTRY: usize = 8;
 
 /// A parsed RIB entry (RFC 6396, section 4.3.4).
 #[derive(Drop)]
-pub(crate) struct ReadEntry {
-    /// The route, whose time is the one that the stamp of the [`Snapshot`] selects.
+pub(crate) struct ParsedEntry {
+    /// The route, whose time is the one that the stamp of the [`TableContext`] selects.
     pub(crate) route: Rc<Route>,
     /// The Originated Time, in seconds since 1970.
     pub(crate) originated: u32,
@@ -38,9 +38,9 @@ pub(crate) struct ReadEntry {
     pub(crate) index: u16,
 }
 
-/// The context in which the entries of a RIB record are parsed.
+/// The context of the entries of a RIB record: what their items depend on besides their octets.
 #[derive(Clone, Copy)]
-pub(crate) struct Snapshot<'a> {
+pub(crate) struct TableContext<'a> {
     /// The peers of the peer index table, in the order of their peer indexes.
     pub(crate) peers: &'a [Peer],
     /// The family of the prefix of the record.
@@ -60,10 +60,10 @@ pub(crate) struct EntryItems {
     pub(crate) unknown: Option<u16>,
 }
 
-/// Returns the time of the route of a table entry, in seconds since 1970. As `stamp` says, it is
-/// `seconds`, the timestamp of the record, or `originated`, the Originated Time of the entry.
+/// Returns the time of the route of a table entry, in seconds since 1970: `seconds`, the timestamp
+/// of the record, or `originated`, the Originated Time of the entry, as `stamp` chooses.
 #[inline]
-pub(crate) fn time_of(stamp: Stamp, seconds: u32, originated: u32) -> u32
+pub(crate) fn route_time(stamp: Stamp, seconds: u32, originated: u32) -> u32
     ensures { result ≡ entry_time stamp seconds originated }
 {
     match stamp {
@@ -74,7 +74,7 @@ pub(crate) fn time_of(stamp: Stamp, seconds: u32, originated: u32) -> u32
 
 /// The fields of a RIB entry, and the octets after the entry.
 #[derive(Clone, Copy)]
-struct FramedEntry<'a> {
+struct EntryFields<'a> {
     /// The path attributes, unparsed.
     attributes: &'a [u8],
     rest: &'a [u8],
@@ -87,15 +87,15 @@ struct FramedEntry<'a> {
 /// Splits the RIB entry at the start of `octets` into its fields, without parsing the attributes
 /// (RFC 6396, section 4.3.4). Returns `None` if `octets` is shorter than the entry.
 #[inline]
-fn frame_entry(octets: &[u8]) -> Option<FramedEntry<'_>>
+fn split_entry_fields(octets: &[u8]) -> Option<EntryFields<'_>>
     ensures some { IfSome result (λ f.
         Begins AreEntryFields (f.index, (f.time, f.attributes.now)) f.rest.now octets.now) }
     ensures none { IfNone result (BeginsWithNone AreEntryFields octets.now) }
 {
-    let index = split_short(octets)?;
-    let time = split_word(index.rest)?;
-    let (attributes, rest) = split_sized(time.rest)?;
-    Some(FramedEntry {
+    let index = split_u16(octets)?;
+    let time = split_u32(index.rest)?;
+    let (attributes, rest) = split_length_prefixed(time.rest)?;
+    Some(EntryFields {
         attributes,
         rest,
         time: time.value,
@@ -103,31 +103,32 @@ fn frame_entry(octets: &[u8]) -> Option<FramedEntry<'_>>
     })
 }
 
-/// Parses the RIB entry at the start of `octets`, and returns it with the octets after it. Fails
-/// with `Malformed` if no well-formed entry is there, or with `Memory` if memory allocation fails.
+/// Parses the RIB entry at the start of `octets`, and returns it with the octets after it (RFC
+/// 6396, section 4.3.4). Fails with `Malformed` if no well-formed entry is there, or with `Memory`
+/// if memory allocation fails.
 #[inline]
 fn read_entry<'a>(
     alloc: Global,
     pool: &mut Pool,
-    snapshot: Snapshot<'_>,
+    context: TableContext<'_>,
     octets: &'a [u8],
-) -> Result<(ReadEntry, &'a [u8]), WireFault>
+) -> Result<(ParsedEntry, &'a [u8]), WireFault>
     ensures found { IfOk result (λ found.
-        Begins (SpellsEntry snapshot.entry.family) (entry_read found.0) found.1.now octets.now) }
-    ensures timed { IfOk result (λ found. IsTimed snapshot.entry found.0) }
-    ensures refused { IfErr result (RefusesFront (SpellsEntry snapshot.entry.family) octets.now) }
+        Begins (SpellsEntry context.entry.family) (entry_value found.0) found.1.now octets.now) }
+    ensures timed { IfOk result (λ found. HasEntryTime context.entry found.0) }
+    ensures refused { IfErr result (RefusesFront (SpellsEntry context.entry.family) octets.now) }
 {
-    let framed = frame_entry(octets).ok_or(WireFault::Malformed)?;
-    let time = time_of(snapshot.stamp, snapshot.seconds, framed.time);
-    let sent = SentAttrs {
+    let framed = split_entry_fields(octets).ok_or(WireFault::Malformed)?;
+    let time = route_time(context.stamp, context.seconds, framed.time);
+    let raw = RawAttrs {
         octets: framed.attributes,
-        family: snapshot.family,
+        family: context.family,
         width: AsWidth::Four,
     };
     let route = pool
         .read
-        .route_of(alloc, usize::from(framed.index), sent, time)?;
-    let entry = ReadEntry {
+        .get_or_read(alloc, usize::from(framed.index), raw, time)?;
+    let entry = ParsedEntry {
         route,
         originated: framed.time,
         index: framed.index,
@@ -137,30 +138,30 @@ fn read_entry<'a>(
 
 /// Returns the peer whose peer index is `number`, or `None` if there is no such peer.
 #[inline]
-fn peer_at(peers: &[Peer], number: u16) -> Option<Peer>
+fn peer_by_index(peers: &[Peer], number: u16) -> Option<Peer>
     ensures { result ≡ slice_get peers.now number }
 {
     peers.get(usize::from(number)).copied()
 }
 
 impl EntryItems {
-    /// Appends the announcement of `prefix` with the route of `entry`. If its peer index is
-    /// unknown, sets `unknown` to it instead, unless `unknown` is set. On error, which means that
-    /// memory allocation fails, `self` is unspecified.
+    /// Appends the announcement of `prefix` with the route of `entry`. If the peer index of `entry`
+    /// is unknown, appends nothing and sets `unknown` to it, unless `unknown` is set. On error,
+    /// which means that memory allocation fails, `self` is unspecified.
     fn add(
         &mut self,
-        snapshot: Snapshot<'_>,
+        context: TableContext<'_>,
         prefix: Prefix,
-        entry: ReadEntry,
+        entry: ParsedEntry,
     ) -> Result<(), AllocError>
-        requires { IsTimed snapshot entry }
-        ensures items { OnOk result (Adds self.old.items.items self.new.items.items
-            (snapshot_items snapshot.entry prefix (entry_read entry))) }
+        requires { HasEntryTime context entry }
+        ensures items { OnOk result (AddsItems self.old.items.items self.new.items.items
+            (context_items context.entry prefix (entry_value entry))) }
         ensures unknown { OnOk result (self.new.unknown ≡
             option_or self.old.unknown
-            (first_unknown snapshot.entry.peers.now (entry_read entry ∷ []))) }
+            (first_unknown context.entry.peers.now (entry_value entry ∷ []))) }
     {
-        let Some(peer) = peer_at(snapshot.peers, entry.index) else {
+        let Some(peer) = peer_by_index(context.peers, entry.index) else {
             self.unknown = self.unknown.or(Some(entry.index));
             return Ok(());
         };
@@ -169,52 +170,52 @@ impl EntryItems {
     }
 }
 
-/// Parses the RIB entries at the start of `octets`, after their 16-bit count, into announcements of
-/// `prefix`. The octets after the entries are ignored. Fails with `Malformed` if an entry is
-/// missing or malformed, or with `Memory` if memory allocation fails.
+/// Parses a 16-bit count and as many RIB entries at the start of `octets` into announcements of
+/// `prefix`, and ignores the octets after them. Fails with `Malformed` if an entry is missing or
+/// malformed, or with `Memory` if memory allocation fails.
 fn read_entries(
     alloc: Global,
     pool: &mut Pool,
-    snapshot: Snapshot<'_>,
+    context: TableContext<'_>,
     prefix: Prefix,
     octets: &[u8],
 ) -> Result<EntryItems, WireFault>
-    ensures told { IfOk result (λ told. EntriesTold snapshot.entry prefix told octets.now) }
-    ensures refused { IfErr result (Refuses (SpellsEntries snapshot.entry.family) octets.now) }
+    ensures parsed { IfOk result (λ parsed. SpellsEntryItems context.entry prefix parsed octets.now) }
+    ensures refused { IfErr result (Refuses (SpellsEntries context.entry.family) octets.now) }
 {
     // Room is reserved for no more items than the octets can hold entries, whatever the count.
-    let count = split_short(octets).ok_or(WireFault::Malformed)?;
+    let count = split_u16(octets).ok_or(WireFault::Malformed)?;
     let most = count.rest.len() / SMALLEST_ENTRY;
     let mut items = pool.take_items(alloc);
     items.reserve(most.min(usize::from(count.value)))?;
-    let mut told = EntryItems {
+    let mut parsed = EntryItems {
         items,
         unknown: None,
     };
     let mut rest = count.rest;
     for _ in 0..count.value {
-        let (entry, more) = read_entry(alloc, pool, snapshot, rest)?;
-        told.add(snapshot, prefix, entry)?;
+        let (entry, more) = read_entry(alloc, pool, context, rest)?;
+        parsed.add(context, prefix, entry)?;
         rest = more;
     }
-    Ok(told)
+    Ok(parsed)
 }
 
 /// Parses the body of a RIB_IPV4_UNICAST or RIB_IPV6_UNICAST record into announcements (RFC 6396,
-/// section 4.3.2). Unknown peer indexes are no error here. Fails with `Malformed` if it isn't such
-/// a body, or with `Memory` if memory allocation fails.
+/// section 4.3.2). An unknown peer index is no error here. Fails with `Malformed` if the body has
+/// another form, or with `Memory` if memory allocation fails.
 pub(crate) fn read_rib(
     alloc: Global,
     pool: &mut Pool,
-    snapshot: Snapshot<'_>,
+    context: TableContext<'_>,
     octets: &[u8],
 ) -> Result<EntryItems, WireFault>
-    ensures told { IfOk result (λ told. (rib : PrefixEntries)
-        × SpellsRib snapshot.entry.family rib octets.now × AreItemsOf snapshot.entry rib told) }
-    ensures refused { IfErr result (Refuses (SpellsRib snapshot.entry.family) octets.now) }
+    ensures parsed { IfOk result (λ parsed. (rib : PrefixEntries)
+        × SpellsRib context.entry.family rib octets.now × AreItemsOf context.entry rib parsed) }
+    ensures refused { IfErr result (Refuses (SpellsRib context.entry.family) octets.now) }
 {
     let rest = skip(SEQUENCE_SIZE, octets).ok_or(WireFault::Malformed)?;
-    let (prefix, size) = Prefix::read(snapshot.family, rest).ok_or(WireFault::Malformed)?;
+    let (prefix, size) = Prefix::read(context.family, rest).ok_or(WireFault::Malformed)?;
     let (_, entries) = rest.split_at(size);
-    read_entries(alloc, pool, snapshot, prefix, entries)
+    read_entries(alloc, pool, context, prefix, entries)
 }

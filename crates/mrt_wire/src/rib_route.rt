@@ -1,10 +1,11 @@
 //! Parsing the path attributes of a table entry into a route, whose memory is reused if nobody else
-//! holds it. `route_pool.rt` and `read_routes.rt` call these functions. Read [`SentAttrs`] first.
+//! holds it. `route_pool.rt` and `route_cache.rt` call [`fill_or_replace`]. Read [`RawAttrs`]
+//! first.
 
 ghost use Rattle.std.specs.Prelude.{IfOk, IfErr, OnOk};
-ghost use Rattle.mrt_wire.specs.Judging.{IsSentAs, RefusesSent};
+ghost use Rattle.mrt_wire.specs.Decoding.{IsRouteFrom, RefusesRaw};
 
-use bgp_wire::{AsWidth, Attrs, WireFault, replace_rib_attrs};
+use bgp_wire::{AsWidth, Attrs, WireFault, read_rib_attrs_into};
 use ip_prefix::Family;
 use mrt_events::Route;
 use std::alloc::{AllocError, Global};
@@ -12,7 +13,7 @@ use std::rc::Rc;
 
 /// The path attributes of a table entry, unparsed.
 #[derive(Clone, Copy)]
-pub(crate) struct SentAttrs<'a> {
+pub(crate) struct RawAttrs<'a> {
     /// The octets of the attributes (RFC 4271, section 4.3).
     pub(crate) octets: &'a [u8],
     /// The family of the prefix of the entry.
@@ -24,12 +25,11 @@ pub(crate) struct SentAttrs<'a> {
 /// Returns a route without attributes and with time 0.
 #[inline(always)]
 pub(crate) fn blank_route(alloc: Global) -> Route {
-    let attrs = Attrs::none(alloc);
+    let attrs = Attrs::empty(alloc);
     Route { attrs, time: 0 }
 }
 
-/// Returns a new shared route without attributes and with time 0, or an error if memory allocation
-/// fails.
+/// Allocates a shared route without attributes and with time 0. Fails if memory allocation fails.
 pub(crate) fn new_route(alloc: Global) -> Result<Rc<Route>, AllocError> {
     Ok(Rc::new(alloc, blank_route(alloc))?)
 }
@@ -41,18 +41,18 @@ pub(crate) fn new_route(alloc: Global) -> Result<Rc<Route>, AllocError> {
 pub(crate) fn fill_rib_route(
     route: &mut Route,
     alloc: Global,
-    sent: SentAttrs<'_>,
+    raw: RawAttrs<'_>,
     time: u32,
 ) -> Result<(), WireFault>
-    ensures read { OnOk result (IsSentAs sent.entry time route.new) }
-    ensures refused { IfErr result (RefusesSent sent.entry) }
+    ensures read { OnOk result (IsRouteFrom raw.entry time route.new) }
+    ensures refused { IfErr result (RefusesRaw raw.entry) }
 {
-    let SentAttrs {
+    let RawAttrs {
         octets,
         family,
         width,
-    } = sent;
-    replace_rib_attrs(alloc, &mut route.attrs, family, width, octets)?;
+    } = raw;
+    read_rib_attrs_into(alloc, &mut route.attrs, family, width, octets)?;
     route.time = time;
     Ok(())
 }
@@ -61,31 +61,32 @@ pub(crate) fn fill_rib_route(
 /// 1970. Fails with `Malformed` if the attributes are malformed, or with `Memory` if memory
 /// allocation fails.
 #[inline(always)]
-fn read_rib_route(alloc: Global, sent: SentAttrs<'_>, time: u32) -> Result<Rc<Route>, WireFault>
-    ensures read { IfOk result (λ route. IsSentAs sent.entry time route.value) }
-    ensures refused { IfErr result (RefusesSent sent.entry) }
+fn read_rib_route(alloc: Global, raw: RawAttrs<'_>, time: u32) -> Result<Rc<Route>, WireFault>
+    ensures read { IfOk result (λ route. IsRouteFrom raw.entry time route.value) }
+    ensures refused { IfErr result (RefusesRaw raw.entry) }
 {
     let mut shared = new_route(alloc)?;
-    fill_rib_route(Rc::make_mut(&mut shared)?, alloc, sent, time)?;
+    fill_rib_route(Rc::make_mut(&mut shared)?, alloc, raw, time)?;
     Ok(shared)
 }
 
 /// Parses the path attributes of a table entry into `shared`, and sets its time, in seconds since
-/// 1970. If the route has another owner, `shared` becomes a new route. Fails as [`fill_rib_route`]
-/// does; a route without another owner is unspecified then, and one with another is left as it was.
+/// 1970. If the route has another owner, `shared` becomes a new route instead. Fails as
+/// [`fill_rib_route`] does; a route without another owner is unspecified then, and `shared` is
+/// unchanged if its route has one.
 #[inline(always)]
-pub(crate) fn fill_shared(
+pub(crate) fn fill_or_replace(
     shared: &mut Rc<Route>,
     alloc: Global,
-    sent: SentAttrs<'_>,
+    raw: RawAttrs<'_>,
     time: u32,
 ) -> Result<(), WireFault>
-    ensures read { OnOk result (IsSentAs sent.entry time shared.new.value) }
-    ensures refused { IfErr result (RefusesSent sent.entry) }
+    ensures read { OnOk result (IsRouteFrom raw.entry time shared.new.value) }
+    ensures refused { IfErr result (RefusesRaw raw.entry) }
 {
     match Rc::get_mut(shared) {
-        Some(route) => fill_rib_route(route, alloc, sent, time)?,
-        None => *shared = read_rib_route(alloc, sent, time)?,
+        Some(route) => fill_rib_route(route, alloc, raw, time)?,
+        None => *shared = read_rib_route(alloc, raw, time)?,
     }
     Ok(())
 }

@@ -1,70 +1,78 @@
-//! A pool of routes: the next record is read into those of earlier records that have no other owner any
-//! more, so that reading mostly allocates nothing.
+//! A pool of routes that records are read into. A route that nobody else holds any more is
+//! overwritten with one of a later record, so that reading mostly allocates nothing. `update.rt`
+//! calls [`RoutePool::make_route`] for each message, and `route_cache.rt` calls
+//! [`RoutePool::rib_route`] for each table entry that it doesn't cache. Read [`RoutePool`] first.
 
 ghost use Rattle.std.specs.Prelude.{◌≡◌, ◌≤◌, ◌<◌, ◌+◌, ◌-◌, ◌*◌, min, max, true, IfOk, IfErr, vec_len};
-ghost use Rattle.mrt_wire.specs.declared.route_pool.TheConstants.{LET_GO, MOST_ROOM, MOST_ROUTES};
+ghost use Rattle.mrt_wire.specs.declared.route_pool.TheConstants.{LOWERING_RATE, MOST_ROOM, MOST_ROUTES};
 ghost use Rattle.mrt_wire.specs.Items.{route_of};
-ghost use Rattle.mrt_wire.specs.Judging.{IsSentAs, RefusesSent};
+ghost use Rattle.mrt_wire.specs.Decoding.{IsRouteFrom, RefusesRaw};
 
-use crate::replacing::put_attrs;
-use crate::rib_route::{SentAttrs, blank_route, fill_shared, new_route};
+use crate::replacing::move_or_copy_attrs;
+use crate::rib_route::{RawAttrs, blank_route, fill_or_replace, new_route};
 use bgp_wire::{Attrs, WireFault};
-use mrt_events::{Route, route_room};
+use mrt_events::{Route, max_route_size};
 use std::alloc::{AllocError, Global};
 use std::mem;
 use std::rc::Rc;
 
-/// The number of routes of a record that are kept without being counted, if they are short. Each further
-/// one is counted.
+/// The number of routes of a record, the first ones, that are kept without being counted if their
+/// attributes are short. Each further one is counted.
 pub(crate) const FIRST_ROUTES: usize = 4;
 
-/// The largest number of octets of the attributes of such a route. One with longer attributes is counted.
+/// The largest size, in octets, of the attributes of a route that is kept without being counted. A
+/// route with longer attributes is counted.
 const LONGEST_FIRST: usize = 1024;
 
-/// The largest number of octets that such a route takes in memory, with all its capacity: most where each
-/// segment of its path has one number of two octets. Nothing compares it at run time; `MOST_OCTETS` is
-/// checked with it.
+/// The largest number of octets of memory that a route takes that is kept without being counted,
+/// with all its capacity. It was computed for the path that takes most, whose segments have one AS
+/// number of two octets each. Nothing compares it at run time; the bound `MOST_OCTETS` of `pool.rt`
+/// is proved with it.
 pub(crate) const LARGEST_FIRST: usize = 26 * 1024;
 
-/// The largest number of routes that are kept. A record has at most 65,535 entries, so none needs more;
-/// further ones would be read into the last route in turn.
+/// The largest number of routes in a pool. A record has at most 65,535 entries, so none needs more;
+/// further entries would all be read into the last route.
 pub(crate) const MOST_ROUTES: usize = 1 << 16;
 
-/// The number of octets that the counted routes may take in memory together, with all their capacity. A
-/// record that needs more may keep what it needs until enough octets were read after it (`LET_GO`). Above
-/// what may be kept, the last routes are dropped.
+/// The number of octets of memory that the counted routes may take together, with all their
+/// capacity. A record that needs more keeps what it needs, until enough octets of other records are
+/// read ([`LOWERING_RATE`]). Where the routes would take more than they may, the last ones are
+/// dropped.
 pub(crate) const MOST_ROOM: u64 = 560 * 1024;
 
-/// The largest number of octets that a route takes in the list of routes: a pointer and a number, and as
-/// much again of the list's spare capacity.
-pub(crate) const PLACE_OCTETS: u64 = 32;
+/// The largest number of octets that an element of the list of routes takes: a pointer and a
+/// number, and as many octets again of the list's spare capacity.
+pub(crate) const ELEMENT_OCTETS: u64 = 32;
 
-/// How many octets less may be kept for each octet of a record, down to what that record needed. So what
-/// is dropped wasn't needed while a quarter as many octets were read, and allocating it again takes about
-/// as long as reading these.
-const LET_GO: u64 = 4;
+// What is dropped so wasn't needed while a quarter as many octets were read. To allocate it again
+// takes about as long as to read these.
+/// The number of octets by which the bound of a pool falls for each octet of a record, down to what
+/// that record needed and to [`MOST_ROOM`].
+const LOWERING_RATE: u64 = 4;
 
-/// Returns the largest number of octets that a counted route takes, with its entry in the list.
+/// Returns the largest number of octets of memory that a counted route takes, with its element in
+/// the list.
 #[inline]
 fn counted_room(route: &Route) -> u64 {
-    route_room(route).saturating_add(PLACE_OCTETS)
+    max_route_size(route).saturating_add(ELEMENT_OCTETS)
 }
 
-/// A route of the pool, and the number of octets that are counted for it.
+/// A route of a pool, which the items of events may hold too.
 #[derive(Drop)]
-struct GivenRoute {
+struct PooledRoute {
     route: Rc<Route>,
+    /// The number of octets that are counted for the route, or 0 if it isn't counted.
     room: u64,
 }
 
-impl GivenRoute {
-    /// Returns a route without attributes, for which no octets are counted.
-    fn blank(alloc: Global) -> Result<GivenRoute, AllocError> {
+impl PooledRoute {
+    /// Returns a route without attributes, which isn't counted. Fails if memory allocation fails.
+    fn blank(alloc: Global) -> Result<PooledRoute, AllocError> {
         let route = new_route(alloc)?;
-        Ok(GivenRoute { route, room: 0 })
+        Ok(PooledRoute { route, room: 0 })
     }
 
-    /// Returns whether the route has another owner besides the pool.
+    /// Returns `true` if the route has an owner besides the pool.
     fn has_other_owner(&self) -> bool {
         Rc::strong_count(&self.route) > 1
     }
@@ -73,48 +81,49 @@ impl GivenRoute {
 /// A pool of routes, in the order in which a record uses them.
 #[derive(Drop)]
 pub(crate) struct RoutePool {
-    routes: Vec<GivenRoute>,
-    /// The number of routes that the current record has used, without the last of [`MOST_ROUTES`], which
-    /// is used again and again.
-    given: usize,
-    /// The number of octets counted for all routes.
+    routes: Vec<PooledRoute>,
+    /// The number of routes that the current record has used, at most [`MOST_ROUTES`] - 1: the last
+    /// route is used for all further entries.
+    used: usize,
+    /// The number of octets counted for all routes together.
     room: u64,
-    /// The number of octets counted for the routes of the current record.
+    /// The number of octets counted for the routes that the current record has used.
     needed: u64,
-    /// The upper bound of `room`.
+    /// The largest value that `room` may have.
     most: u64,
-    /// The number of octets of the current record.
+    /// The size of the current record, in octets.
     octets: u64,
-    ghost counted: { given ≤ vec_len routes },
+    ghost counted: { used ≤ vec_len routes },
     ghost bounded: { vec_len routes ≤ MOST_ROUTES },
-    ghost below: { given < MOST_ROUTES },
+    ghost below: { used < MOST_ROUTES },
     ghost fits: { room ≤ most },
 }
 
-/// Returns a new route of these attributes and this time. If `is_kept` is false, `attrs` is left without
-/// them.
+/// Allocates a route with these attributes and this time, in seconds since 1970. `attrs` is copied
+/// and left as it is if `keep_attrs`; otherwise it is unspecified afterwards. Fails if memory
+/// allocation fails.
 #[inline(never)]
-fn made_route(
+fn allocate_route(
     alloc: Global,
     attrs: &mut Attrs,
     time: u32,
-    is_kept: bool,
+    keep_attrs: bool,
 ) -> Result<Rc<Route>, AllocError>
     ensures made { IfOk result (λ route. route.value ≡ route_of attrs.old time) }
-    ensures kept { is_kept ≡ true → attrs.new ≡ attrs.old }
+    ensures kept { keep_attrs ≡ true → attrs.new ≡ attrs.old }
 {
     let mut route = blank_route(alloc);
-    put_attrs(alloc, &mut route.attrs, attrs, is_kept)?;
+    move_or_copy_attrs(alloc, &mut route.attrs, attrs, keep_attrs)?;
     route.time = time;
     Ok(Rc::new(alloc, route)?)
 }
 
 impl RoutePool {
     /// Returns an empty pool, without allocating memory.
-    pub(crate) fn none(alloc: Global) -> RoutePool {
+    pub(crate) fn new(alloc: Global) -> RoutePool {
         RoutePool {
             routes: Vec::new(alloc),
-            given: 0,
+            used: 0,
             room: 0,
             needed: 0,
             most: MOST_ROOM,
@@ -122,16 +131,17 @@ impl RoutePool {
         }
     }
 
-    /// Begins a record of so many octets, which may use all routes again.
+    /// Begins a record of `octets` octets, which may use all routes of the pool. Lowers the bound
+    /// of the pool if an earlier record raised it above [`MOST_ROOM`].
     #[inline(always)]
-    pub(crate) fn restart(&mut self, octets: usize)
-        ensures given { self.new.given ≡ 0 }
+    pub(crate) fn begin_record(&mut self, octets: usize)
+        ensures used { self.new.used ≡ 0 }
         ensures needed { self.new.needed ≡ 0 }
         ensures octets { self.new.octets ≡ octets }
         ensures most { self.new.most ≤ max MOST_ROOM
-            (max self.old.needed (self.old.most - LET_GO * self.old.octets)) }
+            (max self.old.needed (self.old.most - LOWERING_RATE * self.old.octets)) }
     {
-        self.given = 0;
+        self.used = 0;
         if self.most > MOST_ROOM {
             self.lower();
         }
@@ -139,31 +149,35 @@ impl RoutePool {
         self.octets = octets as u64;
     }
 
-    /// Lowers the bound of the pool by what the last record allows, and drops routes above it.
+    /// Lowers the bound of the pool by [`LOWERING_RATE`] octets for each octet of the last record,
+    /// but not below what that record needed, nor below [`MOST_ROOM`]. Drops routes that don't fit
+    /// any more.
     #[inline(never)]
     fn lower(&mut self)
-        ensures given { self.new.given ≡ self.old.given }
+        ensures used { self.new.used ≡ self.old.used }
         ensures most { self.new.most ≡ max MOST_ROOM
-            (max self.old.needed (self.old.most - LET_GO * self.old.octets)) }
+            (max self.old.needed (self.old.most - LOWERING_RATE * self.old.octets)) }
     {
-        let lowered = self.most.saturating_sub(self.octets.saturating_mul(LET_GO));
+        let lowered = self
+            .most
+            .saturating_sub(self.octets.saturating_mul(LOWERING_RATE));
         let most = lowered.max(self.needed).max(MOST_ROOM);
         if self.room > most {
-            self.let_go(most);
+            self.drop_unused(most);
         }
         self.most = most;
     }
 
-    /// Drops routes that the current record hasn't used, from the last on, until the others take at most
-    /// so many octets.
+    /// Drops routes that the current record hasn't used, from the last on, until the others take at
+    /// most `most` octets or none is left to drop. Sets `room` to at most `most` in any case.
     #[inline(never)]
-    fn let_go(&mut self, most: u64)
-        ensures given { self.new.given ≡ self.old.given }
+    fn drop_unused(&mut self, most: u64)
+        ensures used { self.new.used ≡ self.old.used }
         ensures needed { self.new.needed ≡ self.old.needed }
         ensures room { self.new.room ≤ most }
         ensures most { self.new.most ≡ self.old.most }
     {
-        'routes: while self.room > most && self.routes.len() > self.given {
+        'routes: while self.room > most && self.routes.len() > self.used {
             if let Some(route) = self.routes.pop() {
                 self.room = self.room.saturating_sub(route.room);
             }
@@ -173,122 +187,132 @@ impl RoutePool {
         self.routes.shrink_to_fit();
     }
 
-    /// Removes the routes that have other owners, if the last record needed more than [`MOST_ROOM`]. So
-    /// their memory is freed as soon as their other owners drop them; the next record couldn't use them
-    /// anyway.
+    /// Drops the pool's handles to routes that have other owners, if the last record needed more
+    /// than [`MOST_ROOM`]. So their memory is freed as soon as their other owners drop them.
     #[inline(always)]
-    pub(crate) fn let_go_of_held(&mut self)
+    pub(crate) fn release_held(&mut self)
         ensures most { self.new.most ≡ self.old.most }
     {
+        // The next record couldn't be read into these routes anyway, as long as they have other owners.
         if self.needed > MOST_ROOM {
             self.remove_held();
         }
     }
 
-    /// Removes the routes that have other owners. The others may be used again.
+    /// Drops the pool's handles to routes that have other owners. All routes that are left may be
+    /// used again.
     #[inline(never)]
     fn remove_held(&mut self)
-        ensures given { self.new.given ≡ 0 }
+        ensures used { self.new.used ≡ 0 }
         ensures most { self.new.most ≡ self.old.most }
     {
-        self.given = 0;
-        let mut place = 0;
-        'routes: while place < self.routes.len() {
-            if self.routes[place].has_other_owner() {
-                let held = self.routes.swap_remove(place);
+        self.used = 0;
+        let mut index = 0;
+        'routes: while index < self.routes.len() {
+            if self.routes[index].has_other_owner() {
+                let held = self.routes.swap_remove(index);
                 self.room = self.room.saturating_sub(held.room);
             } else {
-                place += 1;
+                index += 1;
             }
         }
         self.routes.shrink_to_fit();
     }
 
-    /// Returns the index of the next route of the record. The route may have other owners.
+    /// Returns the index of the route that the record uses next, and adds a blank route if the pool
+    /// has no more. The route may have other owners. Fails if memory allocation fails.
     #[inline(always)]
-    fn next_place(&mut self, alloc: Global) -> Result<usize, AllocError>
-        ensures next { IfOk result (λ place. place ≡ self.old.given) }
-        ensures within { IfOk result (λ place. place < vec_len self.new.routes) }
+    fn next_index(&mut self, alloc: Global) -> Result<usize, AllocError>
+        ensures next { IfOk result (λ index. index ≡ self.old.used) }
+        ensures within { IfOk result (λ index. index < vec_len self.new.routes) }
     {
-        let place = self.given;
-        let given = (place + 1).min(MOST_ROUTES - 1);
-        if place >= self.routes.len() {
-            self.routes.push(GivenRoute::blank(alloc)?)?;
+        let index = self.used;
+        let used = (index + 1).min(MOST_ROUTES - 1);
+        if index >= self.routes.len() {
+            self.routes.push(PooledRoute::blank(alloc)?)?;
         }
-        self.given = given;
-        Ok(place)
+        self.used = used;
+        Ok(index)
     }
 
-    /// Counts the octets of the route at this index, and drops others if all would take too much.
+    /// Counts the octets of the route at `index`, instead of those counted for it before, as needed
+    /// by the current record. Raises the bound of the pool to what the record needs, if that is
+    /// more. If all routes exceed the bound, drops routes that the record hasn't used.
     #[inline(never)]
-    fn count(&mut self, place: usize)
-        requires { place < vec_len self.old.routes }
+    fn count(&mut self, index: usize)
+        requires { index < vec_len self.old.routes }
         ensures most { self.new.most ≡ max self.old.most self.new.needed }
     {
-        let room = counted_room(&self.routes[place].route);
-        let before = mem::replace(&mut self.routes[place].room, room);
+        let room = counted_room(&self.routes[index].route);
+        let before = mem::replace(&mut self.routes[index].room, room);
         let needed = self.needed.saturating_add(room);
         let most = self.most.max(needed);
         self.room = self.room.saturating_sub(before);
         if self.room.saturating_add(room) > most {
-            self.let_go(most.saturating_sub(room));
+            self.drop_unused(most.saturating_sub(room));
         }
         self.room = self.room.saturating_add(room);
         self.needed = needed;
         self.most = most;
     }
 
-    /// Counts the octets of the route at this index, unless it is one of the first and short. `octets` is
-    /// the length of the attributes that it was read from.
+    /// Counts the octets of the route at `index`, unless it is one of the first [`FIRST_ROUTES`],
+    /// was read from at most [`LONGEST_FIRST`] octets, and isn't counted yet. `octets` is the size
+    /// of the attributes that it was read from.
     #[inline(always)]
-    fn keep(&mut self, place: usize, octets: usize)
-        requires { place < vec_len self.old.routes }
+    fn keep(&mut self, index: usize, octets: usize)
+        requires { index < vec_len self.old.routes }
     {
-        if place >= FIRST_ROUTES || octets > LONGEST_FIRST || self.routes[place].room > 0 {
-            self.count(place);
+        if index >= FIRST_ROUTES || octets > LONGEST_FIRST || self.routes[index].room > 0 {
+            self.count(index);
         }
     }
 
-    /// Reads the attributes of a table's entry into the next route, and returns it, with this time.
+    /// Parses the attributes of a table entry into the next route of the pool, sets its time, in
+    /// seconds since 1970, and returns it. If that route has other owners, a new one replaces it in
+    /// the pool. Fails with `Malformed` if the attributes are malformed, or with `Memory` if memory
+    /// allocation fails.
     #[inline(never)]
     pub(crate) fn rib_route(
         &mut self,
         alloc: Global,
-        sent: SentAttrs<'_>,
+        raw: RawAttrs<'_>,
         time: u32,
     ) -> Result<Rc<Route>, WireFault>
-        ensures read { IfOk result (λ route. IsSentAs sent.entry time route.value) }
-        ensures refused { IfErr result (RefusesSent sent.entry) }
+        ensures read { IfOk result (λ route. IsRouteFrom raw.entry time route.value) }
+        ensures refused { IfErr result (RefusesRaw raw.entry) }
     {
-        let place = self.next_place(alloc)?;
-        let read = fill_shared(&mut self.routes[place].route, alloc, sent, time);
-        let route: Result<_, _> = self.routes[place].route.clone();
-        self.keep(place, sent.octets.len());
+        let index = self.next_index(alloc)?;
+        let read = fill_or_replace(&mut self.routes[index].route, alloc, raw, time);
+        let route: Result<_, _> = self.routes[index].route.clone();
+        self.keep(index, raw.octets.len());
         read?;
         Ok(route?)
     }
 
-    /// Returns a route of these attributes and this time, which takes the place of the next one. If
-    /// `is_kept` is false, `attrs` is left without them.
+    /// Returns a route with these attributes and this time, in seconds since 1970: the next one of
+    /// the pool, or, if that has other owners, a new one that replaces it. `attrs` is copied and
+    /// left as it is if `keep_attrs`; otherwise, or on error, it is unspecified afterwards. Fails
+    /// if memory allocation fails.
     #[inline(always)]
-    pub(crate) fn route(
+    pub(crate) fn make_route(
         &mut self,
         alloc: Global,
         attrs: &mut Attrs,
         time: u32,
-        is_kept: bool,
+        keep_attrs: bool,
     ) -> Result<Rc<Route>, AllocError>
         ensures made { IfOk result (λ route. route.value ≡ route_of attrs.old time) }
-        ensures kept { is_kept ≡ true → attrs.new ≡ attrs.old }
+        ensures kept { keep_attrs ≡ true → attrs.new ≡ attrs.old }
     {
-        let place = self.next_place(alloc)?;
-        match Rc::get_mut(&mut self.routes[place].route) {
+        let index = self.next_index(alloc)?;
+        match Rc::get_mut(&mut self.routes[index].route) {
             Some(route) => {
-                put_attrs(alloc, &mut route.attrs, attrs, is_kept)?;
+                move_or_copy_attrs(alloc, &mut route.attrs, attrs, keep_attrs)?;
                 route.time = time;
             }
-            None => self.routes[place].route = made_route(alloc, attrs, time, is_kept)?,
+            None => self.routes[index].route = allocate_route(alloc, attrs, time, keep_attrs)?,
         }
-        self.routes[place].route.clone()
+        self.routes[index].route.clone()
     }
 }

@@ -1,24 +1,24 @@
 //! Parsing BGP4MP and BGP4MP_ET records: the state changes and messages of a session (RFC 6396,
-//! sections 3 and 4.4). `judge` calls [`read_session`]; read that first. `update.rt` turns an
-//! UPDATE into items.
+//! sections 3 and 4.4). `decode_record` calls [`read_session`]; read that first. `update.rt` turns
+//! an UPDATE into items.
 
 ghost use Rattle.std.specs.Prelude.{◌≡◌, ◌∷◌, [], ℕ, List, IfOk, IfSome, IfNone};
 ghost use Rattle.ip_prefix.specs.Network.{octet_count};
 ghost use Rattle.ip_prefix.specs.Sequences.{Begins};
 ghost use Rattle.ip_prefix.specs.Fronts.{BeginsWithNone};
-ghost use Rattle.bgp_wire.specs.Path.{octets_at};
-ghost use Rattle.bgp_wire.specs.Readers.{Finds, Reads};
+ghost use Rattle.bgp_wire.specs.Path.{asn_size};
+ghost use Rattle.bgp_wire.specs.Readers.{ParsesTo, ParsesOrFails};
 ghost use Rattle.mrt_events.specs.Event.{Changed};
 ghost use Rattle.mrt_wire.specs.Items.{session_items};
-ghost use Rattle.mrt_wire.specs.Judging.{FindsField, Told, session_told};
-ghost use Rattle.mrt_wire.specs.Session.{SpellsFamily, AreSystems, AreAddresses, SpellsSessionPeer, SpellsPeerMessage, SpellsMicros, SpellsHappening, SpellsSessionBody};
+ghost use Rattle.mrt_wire.specs.Decoding.{FindsValue, SpellsMapped, parsed_session};
+ghost use Rattle.mrt_wire.specs.Session.{SpellsFamily, AreAsnFields, AreAddressFields, SpellsSessionPeer, SpellsPeerMessage, SpellsMicros, SpellsSessionContent, SpellsSessionBody};
 
-use crate::fields::{Field, fill_address, skip, split_asn, split_short, split_word};
+use crate::fields::{ValueAndRest, fill_address, skip, split_asn, split_u16, split_u32};
 use crate::peers::blank_peer;
 use crate::pool::Pool;
-use crate::profile::{SessionForm, SessionKind};
+use crate::record_types::{SessionFormat, SessionKind};
 use crate::update::items_of_update;
-use bgp_wire::{AsWidth, MessageKind, WireFault, replace_message};
+use bgp_wire::{AsWidth, MessageKind, WireFault, read_message_into};
 use ip_prefix::{Addr, Family};
 use mrt_events::{Item, Items, Peer};
 use std::alloc::{AllocError, Global};
@@ -29,12 +29,12 @@ const INTERFACE_SIZE: usize = 2;
 /// The number of microseconds in a second.
 const MICROS_PER_SECOND: u32 = 1_000_000;
 
-/// The greatest size of a message, with the session fields in front of it, in octets, after which
-/// the memory that it was parsed into is kept. After one octet more it is freed, and the next
+/// The largest size of a message with the session fields in front of it, in octets, after which the
+/// memory that it was parsed into is kept. After one octet more that memory is freed, and the next
 /// message allocates its own.
 const LONGEST_KEPT: usize = 4096;
 
-/// The parsed body of a BGP4MP record.
+/// What the body of a BGP4MP record was parsed into.
 #[derive(Debug, Drop)]
 pub(crate) struct SessionItems {
     /// The state change, or the withdrawals and announcements of the UPDATE.
@@ -55,8 +55,8 @@ fn address_octets(family: Family) -> usize
 
 /// Parses the 16-bit address family at the start of `octets`, 1 for IPv4 or 2 for IPv6 (RFC 6396,
 /// section 4.4.1). Returns `None` for another number, or if `octets` has fewer than two octets.
-fn split_family(octets: &[u8]) -> Option<Field<'_, Family>>
-    ensures { FindsField SpellsFamily octets.now result }
+fn split_family(octets: &[u8]) -> Option<ValueAndRest<'_, Family>>
+    ensures { FindsValue SpellsFamily octets.now result }
 {
     let (front, rest) = octets.split_at_checked(2)?;
     let value = match front {
@@ -64,11 +64,11 @@ fn split_family(octets: &[u8]) -> Option<Field<'_, Family>>
         [0, 2] => Family::V6,
         _ => return None,
     };
-    Some(Field { value, rest })
+    Some(ValueAndRest { value, rest })
 }
 
 /// Parses the session fields at the start of `octets`, from the Peer AS Number to the Local IP
-/// Address, and sets `peer` (RFC 6396, section 4.4.1). Returns the octets after them. Returns
+/// Address, sets `peer`, and returns the octets after them (RFC 6396, section 4.4.1). Returns
 /// `None` if a field is missing or the address family is unknown; `peer` is unspecified then.
 fn fill_session_peer<'a>(peer: &mut Peer, width: AsWidth, octets: &'a [u8]) -> Option<&'a [u8]>
     ensures some { IfSome result (λ rest.
@@ -85,9 +85,10 @@ fn fill_session_peer<'a>(peer: &mut Peer, width: AsWidth, octets: &'a [u8]) -> O
     Some(rest)
 }
 
-/// Parses the session fields and the BGP message of a BGP4MP record into items, none unless the
-/// message is an UPDATE (RFC 6396, sections 4.4.2 and 4.4.3). Routes get the time `seconds`. Fails
-/// with `Malformed` if the octets have another form, or with `Memory` if memory allocation fails.
+/// Parses the session fields and the BGP message of a BGP4MP record into the items of the message,
+/// none unless it is an UPDATE (RFC 6396, sections 4.4.2 and 4.4.3). Routes get the time `seconds`.
+/// Fails with `Malformed` if the octets have another form, or with `Memory` if memory allocation
+/// fails.
 #[inline(never)]
 fn read_peer_message(
     alloc: Global,
@@ -96,35 +97,35 @@ fn read_peer_message(
     width: AsWidth,
     octets: &[u8],
 ) -> Result<Items, WireFault>
-    ensures { Reads (Told (SpellsHappening SessionKind.Message width) (session_items seconds))
+    ensures { ParsesOrFails (SpellsMapped (SpellsSessionContent SessionKind.Message width) (session_items seconds))
         octets.now result }
 {
     let mut peer = blank_peer();
     let rest = fill_session_peer(&mut peer, width, octets).ok_or(WireFault::Malformed)?;
-    let kind = replace_message(alloc, &mut pool.parts, width, rest)?;
+    let kind = read_message_into(alloc, &mut pool.parts, width, rest)?;
     match kind {
         MessageKind::Update => Ok(items_of_update(alloc, pool, &peer, seconds)?),
         MessageKind::Other(_) => Ok(Items::from_vec(Vec::new(alloc))),
     }
 }
 
-/// Parses the microseconds at the start of the body of a BGP4MP_ET record, a 32-bit number
-/// (RFC 6396, section 3). If the body isn't `timed`, the value is `None` and the rest is all of
+/// Parses the microseconds at the start of the body of a BGP4MP_ET record, a 32-bit number (RFC
+/// 6396, section 3). If the body isn't `timed`, the value is `None` and the rest is all of
 /// `octets`. Returns `None` if the number is missing, or if it is 1,000,000 or more.
-fn split_micros(timed: bool, octets: &[u8]) -> Option<Field<'_, Option<u32>>>
-    ensures { FindsField (SpellsMicros timed) octets.now result }
+fn split_micros(timed: bool, octets: &[u8]) -> Option<ValueAndRest<'_, Option<u32>>>
+    ensures { FindsValue (SpellsMicros timed) octets.now result }
 {
     if !timed {
-        return Some(Field {
+        return Some(ValueAndRest {
             value: None,
             rest: octets,
         });
     }
-    let micros = split_word(octets)?;
+    let micros = split_u32(octets)?;
     if micros.value >= MICROS_PER_SECOND {
         return None;
     }
-    Some(Field {
+    Some(ValueAndRest {
         value: Some(micros.value),
         rest: micros.rest,
     })
@@ -133,59 +134,59 @@ fn split_micros(timed: bool, octets: &[u8]) -> Option<Field<'_, Option<u32>>>
 /// Parses the session fields and the two states of a state change into an item, and ignores the
 /// octets after them (RFC 6396, sections 4.4.1 and 4.4.4). Fails with `Malformed` if a field is
 /// missing or the address family is unknown, or with `Memory` if memory allocation fails.
-fn read_change(alloc: Global, width: AsWidth, octets: &[u8]) -> Result<Items, WireFault>
-    ensures { (seconds : ℕ) → Reads (Told (SpellsHappening SessionKind.StateChange width)
+fn read_state_change(alloc: Global, width: AsWidth, octets: &[u8]) -> Result<Items, WireFault>
+    ensures { (seconds : ℕ) → ParsesOrFails (SpellsMapped (SpellsSessionContent SessionKind.StateChange width)
         (session_items seconds)) octets.now result }
 {
     let mut peer = blank_peer();
     let rest = fill_session_peer(&mut peer, width, octets).ok_or(WireFault::Malformed)?;
-    let old = split_short(rest).ok_or(WireFault::Malformed)?;
-    let new = split_short(old.rest).ok_or(WireFault::Malformed)?;
+    let old = split_u16(rest).ok_or(WireFault::Malformed)?;
+    let new = split_u16(old.rest).ok_or(WireFault::Malformed)?;
     let items = vec![in alloc; Item::State(peer, old.value, new.value)]?;
     Ok(Items::from_vec(items))
 }
 
-/// Parses the body of a BGP4MP record, without microseconds, into items. Routes get the time
-/// `seconds`. Fails with `Malformed` if the octets have another form, or with `Memory` if memory
-/// allocation fails.
+/// Parses the body of a BGP4MP record, after its microseconds, into items: a state change, or those
+/// of a message. Routes get the time `seconds`. Fails with `Malformed` if the octets have another
+/// form, or with `Memory` if memory allocation fails.
 #[inline(always)]
-fn read_happening(
+fn read_session_content(
     alloc: Global,
     pool: &mut Pool,
     seconds: u32,
-    form: SessionForm,
+    form: SessionFormat,
     octets: &[u8],
 ) -> Result<Items, WireFault>
-    ensures { Reads (Told (SpellsHappening form.kind form.width) (session_items seconds))
+    ensures { ParsesOrFails (SpellsMapped (SpellsSessionContent form.kind form.width) (session_items seconds))
         octets.now result }
 {
     match form.kind {
-        SessionKind::StateChange => read_change(alloc, form.width, octets),
+        SessionKind::StateChange => read_state_change(alloc, form.width, octets),
         SessionKind::Message => {
             let result = read_peer_message(alloc, pool, seconds, form.width, octets);
             if octets.len() > LONGEST_KEPT {
-                pool.let_go(alloc);
+                pool.free_message_memory(alloc);
             }
             result
         }
     }
 }
 
-/// Parses the body of a BGP4MP or BGP4MP_ET record into items and microseconds. `seconds`, the
-/// timestamp of the record, is the time of its routes. Fails with `Malformed` if the body has
-/// another form, or with `Memory` if memory allocation fails.
+/// Parses the body of a BGP4MP or BGP4MP_ET record into items and microseconds. Its routes get the
+/// time `seconds`, the timestamp of the record. Fails with `Malformed` if the body has another
+/// form, or with `Memory` if memory allocation fails.
 #[inline(always)]
 pub(crate) fn read_session(
     alloc: Global,
     pool: &mut Pool,
     seconds: u32,
-    form: SessionForm,
+    form: SessionFormat,
     octets: &[u8],
 ) -> Result<SessionItems, WireFault>
-    ensures { Reads (Told (SpellsSessionBody form) (session_told seconds)) octets.now result }
+    ensures { ParsesOrFails (SpellsMapped (SpellsSessionBody form) (parsed_session seconds)) octets.now result }
 {
     let micros = split_micros(form.timed, octets).ok_or(WireFault::Malformed)?;
-    let items = read_happening(alloc, pool, seconds, form, micros.rest)?;
+    let items = read_session_content(alloc, pool, seconds, form, micros.rest)?;
     let micros = micros.value;
     Ok(SessionItems { items, micros })
 }

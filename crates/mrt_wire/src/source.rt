@@ -1,26 +1,27 @@
 //! The reader of MRT files. `bgpdump_lines` and `bgpdump_tool` make a [`Source`] and call
-//! [`Source::next`] until it returns the end or an error; read that first. `judging.rt` parses each
-//! record.
+//! [`Source::next`] until it returns the end or an error; read that first. `decoding.rt` parses
+//! each record.
 
-ghost use Rattle.std.specs.Prelude.{◌≡◌, ◌≤◌, ◌+◌, ◌||◌, ◌↔◌, Ok, Err, IsTrue};
+ghost use Rattle.std.specs.Prelude.{◌≡◌, ◌≤◌, ◌+◌, ◌||◌, ◌↔◌, false, Ok, Err, IsTrue};
 ghost use Rattle.mrt_wire.specs.declared.next.Next.{Next};
-ghost use Rattle.mrt_frames.specs.Taken.{is_read};
-ghost use Rattle.mrt_wire.specs.Results.{start_place};
-ghost use Rattle.mrt_wire.specs.Judging.{judged_answer, fault_answer};
-ghost use Rattle.mrt_wire.specs.Answered.{IsStep, IsFirstResult, spent_place};
+ghost use Rattle.mrt_frames.specs.Buffered.{HoldsRecord};
+ghost use Rattle.mrt_frames.specs.Taken.{is_err_read};
+ghost use Rattle.mrt_wire.specs.Results.{start_state};
+ghost use Rattle.mrt_wire.specs.Decoding.{decoded_answer, fault_answer};
+ghost use Rattle.mrt_wire.specs.Answered.{IsNextCall, IsFirstResult, spent_state};
 
-use crate::judging::{RawRecord, Refusal, judge};
+use crate::decoding::{DecodeError, RawRecord, decode_record};
 use crate::next::{Next, Phase};
 use crate::peers::Peers;
 use crate::pool::Pool;
-use crate::profile::Forms;
+use crate::record_types::SupportedTypes;
 use mrt_events::{Event, Stamp};
-use mrt_frames::{FrameReader, Front, Input, RecordFault, RecordKind, SourceFault};
+use mrt_frames::{FrameReader, Input, NextRecord, RecordFault, RecordKind, SourceFault};
 use std::alloc::Global;
 use std::marker::Model;
 
 /// A reader of events from an input of MRT records (RFC 6396). The caller holds the input and
-/// passes it to each call of [`Source::next`].
+/// passes it to each call of [`Source::next`]. In contracts a source is its `SourceState`.
 #[derive(Drop)]
 pub struct Source {
     alloc: Global,
@@ -41,9 +42,9 @@ pub struct Source {
 impl Model for Source {
     ghost use Rattle.std.specs.Prelude.{◌*◌, ◌≤◌};
     ghost use Rattle.mrt_frames.specs.declared.header.TheConstants.{HEADER_SIZE};
-    ghost use Rattle.mrt_wire.specs.Results.{Place};
+    ghost use Rattle.mrt_wire.specs.Results.{SourceState};
 
-    ghost Value = { Place };
+    ghost Value = { SourceState };
 
     ghost view = { λ a. record {
       index = a.index;
@@ -58,11 +59,11 @@ impl Model for Source {
 }
 
 impl Source {
-    /// Returns a source at the start of its input, which reads at most `limit` octets. `stamp` says
-    /// which time the routes of tables get. If the source would have to read more, even only to see
-    /// the end, [`Source::next`] fails with `InputTooLong`.
+    /// Returns a source at the start of its input, which reads at most `limit` octets. `stamp`
+    /// chooses the time that the routes of table entries get. If the source would have to read more
+    /// octets, be it only to see the end, [`Source::next`] fails with `InputTooLong`.
     pub fn new(alloc: Global, stamp: Stamp, limit: u64) -> Self
-        ensures { result ≡ start_place stamp limit }
+        ensures { result ≡ start_state stamp limit }
     {
         Source {
             alloc,
@@ -83,8 +84,8 @@ impl Source {
         self.frames.taken()
     }
 
-    /// Returns `true` if [`Source::next`] may still read from the input, that is in phase
-    /// [`Phase::Reading`].
+    /// Returns `true` if [`Source::next`] may still read from the input, which is so in phase
+    /// [`Phase::Reading`] and in no other.
     #[inline]
     pub fn is_reading(&self) -> bool
         ensures { IsTrue result ↔ (self.now.phase ≡ Phase.Reading) }
@@ -92,28 +93,28 @@ impl Source {
         self.phase == Phase::Reading
     }
 
-    /// Takes back a result of [`Source::next`] that the caller no longer needs, to reuse its
-    /// memory.
+    /// Reuses the memory of a result of [`Source::next`] that the caller no longer needs. What
+    /// later calls return doesn't depend on it.
     #[inline(always)]
-    pub fn take_back(&mut self, answer: Next)
+    pub fn recycle(&mut self, answer: Next)
         ensures { self.new ≡ self.old }
     {
         if let Next::Event(event) = answer {
             self.pool.keep_items(event.items.into_vec());
-            self.pool.read.routes.let_go_of_held();
+            self.pool.read.routes.release_held();
         }
     }
 
     /// Reads the next record, and returns its event or its fault, or [`Next::End`] at the end of
-    /// the input. An error means that the input failed, the limit was met, or memory allocation
-    /// failed; each later call returns `Spent`. Except in phase [`Phase::Reading`], nothing is
-    /// read.
+    /// the input. Fails with `Read` if the input fails, with `InputTooLong` if the limit is met, or
+    /// with `Memory` if memory allocation fails; each later call fails with `Spent`. Reads nothing
+    /// in phases [`Phase::Ended`] and [`Phase::Spent`].
     #[inline(always)]
     pub fn next<I: Input>(&mut self, input: &mut I) -> Result<Next, SourceFault>
         // One record is taken, and its event or fault is returned; or octets that begin with no
         // whole record, and their fault or the end; or the call fails.
         ensures next { self.old.phase ≡ Phase.Reading →
-            IsStep self.old self.new (I.left input.old) (I.left input.new) result }
+            IsNextCall self.old self.new (I.left input.old) (I.left input.new) result }
 
         // An answer is the first result of the octets taken, whatever octets follow them. None
         // follow them if the answer is the end or a record that is cut there.
@@ -125,7 +126,11 @@ impl Source {
         ensures spent { self.old.phase ≡ Phase.Spent →
             (result ≡ Err SourceFault.Spent) × (self.new ≡ self.old) × (input.new ≡ input.old) }
 
-        ensures failed { I.failed input.new ≡ (I.failed input.old || is_read result) }
+        ensures failed { I.failed input.new ≡ (I.failed input.old || is_err_read result) }
+
+        // No read fails if the next record is buffered as a whole.
+        ensures buffered { HoldsRecord (I.buffered input.old) → is_err_read result ≡ false }
+
         ensures within { self.new.offset ≤ self.new.limit }
     {
         match self.phase {
@@ -141,36 +146,38 @@ impl Source {
         }
     }
 
-    /// Reads the next record for [`Source::next`], in phase `Reading`. Returns its event or its
-    /// fault, or [`Next::End`] at the end of the input. On error, the phase is still `Reading`.
+    /// Reads the next record in phase `Reading`, and returns its event or its fault, or
+    /// [`Next::End`] at the end of the input. On error, the phase is still `Reading`;
+    /// [`Source::next`], which calls this, changes it.
     #[inline(always)]
     fn read<I: Input>(&mut self, input: &mut I) -> Result<Next, SourceFault>
-        ensures next { IsStep self.old (spent_place self.new result)
+        ensures next { IsNextCall self.old (spent_state self.new result)
             (I.left input.old) (I.left input.new) result }
-        ensures failed { I.failed input.new ≡ (I.failed input.old || is_read result) }
+        ensures failed { I.failed input.new ≡ (I.failed input.old || is_err_read result) }
+        ensures buffered { HoldsRecord (I.buffered input.old) → is_err_read result ≡ false }
     {
         let offset = self.frames.taken();
-        match self.frames.take_record(&Forms, input)? {
-            Front::Record(header, form) => {
+        match self.frames.take_record(&SupportedTypes, input)? {
+            NextRecord::Record(header, form) => {
                 let body = self.frames.body(header.size);
-                let judged = judge(
+                let decoded = decode_record(
                     self.alloc,
                     &mut self.pool,
                     self.stamp,
                     &mut self.index,
                     RawRecord { form, header, body },
                 );
-                let answer = record_answer(self.number + 1, offset, judged)?;
+                let answer = record_answer(self.number + 1, offset, decoded)?;
                 self.number += 1;
                 Ok(answer)
             }
-            Front::Passed(header) => {
+            NextRecord::Skipped(header) => {
                 let kind = RecordKind::Unsupported(header.kind, header.subtype);
                 let number = self.number + 1;
                 self.number = number;
                 Ok(fault_answer(number, offset, kind))
             }
-            Front::Rest(kind) => {
+            NextRecord::Rest(kind) => {
                 self.phase = Phase::Ended;
                 let Some(kind) = kind else {
                     return Ok(Next::End);
@@ -195,19 +202,19 @@ fn fault_answer(number: u64, offset: u64, kind: RecordKind) -> Next
     })
 }
 
-/// Returns the event or the fault of record `number`, counted from 1, whose header begins `offset`
-/// octets into the input. Fails with `SourceFault::Memory` if memory allocation failed as the
-/// record was parsed.
+/// Returns what a source returns of a record that was parsed with this result: its event, or its
+/// fault with `number`, counted from 1, and with the `offset` of its header, in octets. Fails with
+/// `SourceFault::Memory` if memory allocation failed as the record was parsed.
 fn record_answer(
     number: u64,
     offset: u64,
-    judged: Result<Event, Refusal>,
+    decoded: Result<Event, DecodeError>,
 ) -> Result<Next, SourceFault>
-    ensures { result ≡ judged_answer number offset judged }
+    ensures { result ≡ decoded_answer number offset decoded }
 {
-    match judged {
+    match decoded {
         Ok(event) => Ok(Next::Event(event)),
-        Err(Refusal::Fault(kind)) => Ok(fault_answer(number, offset, kind)),
-        Err(Refusal::Memory) => Err(SourceFault::Memory),
+        Err(DecodeError::Fault(kind)) => Ok(fault_answer(number, offset, kind)),
+        Err(DecodeError::Memory) => Err(SourceFault::Memory),
     }
 }

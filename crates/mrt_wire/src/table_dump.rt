@@ -1,21 +1,22 @@
 //! Parsing TABLE_DUMP records, each of one peer and its route to a prefix (RFC 6396, section 4.2).
-//! `judge` calls [`read_peer_entry`]; read `frame_entry` first, which splits the body into its
-//! fields.
+//! `decode_record` calls [`read_table_dump`]. Read `split_entry_fields` first, which splits the
+//! body into its fields.
 
 ghost use Rattle.std.specs.Prelude.{IfSome, IfNone};
 ghost use Rattle.ip_prefix.specs.Fronts.{BeginsWithNone};
-ghost use Rattle.bgp_wire.specs.Readers.{Reads};
-ghost use Rattle.mrt_wire.specs.Items.{peer_entry_items};
-ghost use Rattle.mrt_wire.specs.Judging.{FindsField, IsFramed, Told};
-ghost use Rattle.mrt_wire.specs.Rib.{ArePeerEntryFields, SpellsPeerEntry, SpellsPrefix};
+ghost use Rattle.bgp_wire.specs.Readers.{ParsesOrFails};
+ghost use Rattle.mrt_wire.specs.Items.{table_dump_items};
+ghost use Rattle.mrt_wire.specs.Decoding.{FindsValue, BeginsWithEntryFields, SpellsMapped};
+ghost use Rattle.mrt_wire.specs.Rib.{AreTableDumpFields, SpellsTableDump, SpellsAddressAndLength};
 
 use crate::fields::{
-    Field, fill_address, skip, split_octet, split_peer_of, split_sized, split_word,
+    ValueAndRest, fill_address, skip, split_address_and_asn, split_length_prefixed, split_octet,
+    split_u32,
 };
-use crate::peers::place_of;
+use crate::peers::peer_hash;
 use crate::pool::Pool;
-use crate::rib::time_of;
-use crate::rib_route::SentAttrs;
+use crate::rib::route_time;
+use crate::rib_route::RawAttrs;
 use bgp_wire::{AsWidth, WireFault};
 use ip_prefix::{Addr, Family, Prefix, V4_OCTETS};
 use mrt_events::{Item, Items, Peer, SharedRanges, Stamp};
@@ -29,7 +30,7 @@ const STATUS_SIZE: usize = 1;
 
 /// The fields of a TABLE_DUMP body (RFC 6396, section 4.2).
 #[derive(Clone, Copy)]
-struct FramedEntry<'a> {
+struct EntryFields<'a> {
     /// The path attributes, unparsed.
     attributes: &'a [u8],
     prefix: Prefix,
@@ -39,42 +40,42 @@ struct FramedEntry<'a> {
 }
 
 /// Parses the Prefix and the Prefix Length at the start of `octets`: an address of `family`, and
-/// the number of its leading bits that make the prefix. Returns `None` if `octets` is too short, or
-/// if the length exceeds the bits of an address.
+/// the number of its leading bits that make the prefix (RFC 6396, section 4.2). Returns `None` if
+/// `octets` is too short, or if the length exceeds the bits of an address.
 #[inline(always)]
-fn split_prefix(family: Family, octets: &[u8]) -> Option<Field<'_, Prefix>>
-    ensures { FindsField (SpellsPrefix family) octets.now result }
+fn split_address_and_length(family: Family, octets: &[u8]) -> Option<ValueAndRest<'_, Prefix>>
+    ensures { FindsValue (SpellsAddressAndLength family) octets.now result }
 {
     let mut addr = Addr::v4([0; V4_OCTETS]);
     let after_addr = fill_address(&mut addr, family, octets)?;
     let len = split_octet(after_addr)?;
     let prefix = Prefix::new(addr, len.value)?;
-    Some(Field {
+    Some(ValueAndRest {
         value: prefix,
         rest: len.rest,
     })
 }
 
-/// Splits a TABLE_DUMP body into its fields, without parsing the attributes (RFC 6396,
-/// section 4.2). View Number, Sequence Number, Status and the octets after the entry are ignored.
-/// Returns `None` if a field is missing or the Prefix Length exceeds the bits of an address of
-/// `family`.
+/// Splits a TABLE_DUMP body into its fields, without parsing the attributes (RFC 6396, section
+/// 4.2). Ignores the View Number, the Sequence Number, the Status and the octets after the
+/// attributes. Returns `None` if a field is missing or the Prefix Length exceeds the bits of an
+/// address of `family`.
 #[inline(always)]
-fn frame_entry(family: Family, octets: &[u8]) -> Option<FramedEntry<'_>>
-    ensures some { IfSome result (λ framed. IsFramed family framed octets.now) }
-    ensures none { IfNone result (BeginsWithNone (ArePeerEntryFields family) octets.now) }
+fn split_entry_fields(family: Family, octets: &[u8]) -> Option<EntryFields<'_>>
+    ensures some { IfSome result (λ framed. BeginsWithEntryFields family framed octets.now) }
+    ensures none { IfNone result (BeginsWithNone (AreTableDumpFields family) octets.now) }
 {
     let after_numbers = skip(NUMBERS_SIZE, octets)?;
-    let Some(prefix) = split_prefix(family, after_numbers) else {
+    let Some(prefix) = split_address_and_length(family, after_numbers) else {
         return None;
     };
     let after_status = skip(STATUS_SIZE, prefix.rest)?;
-    let time = split_word(after_status)?;
-    let Some(peer) = split_peer_of(family, AsWidth::Two, time.rest) else {
+    let time = split_u32(after_status)?;
+    let Some(peer) = split_address_and_asn(family, AsWidth::Two, time.rest) else {
         return None;
     };
-    let (attributes, _) = split_sized(peer.rest)?;
-    Some(FramedEntry {
+    let (attributes, _) = split_length_prefixed(peer.rest)?;
+    Some(EntryFields {
         attributes,
         prefix: prefix.value,
         peer: peer.value,
@@ -84,59 +85,61 @@ fn frame_entry(family: Family, octets: &[u8]) -> Option<FramedEntry<'_>>
 
 /// The timestamp of a TABLE_DUMP record, and the choice of the time that its route gets.
 #[derive(Clone, Copy)]
-pub(crate) struct Dating {
+pub(crate) struct TimeChoice {
     /// The timestamp of the record, in seconds since 1970.
     pub(crate) seconds: u32,
     /// The choice of the time that the route gets.
     pub(crate) stamp: Stamp,
 }
 
-/// Parses a TABLE_DUMP body for a prefix of `family` into an announcement. Fails with `Malformed`
-/// if it isn't such a body, or with `Memory` if memory allocation fails.
-// It is inlined, so that there is code for each family.
+/// Parses a TABLE_DUMP body for a prefix of `family` into an announcement, as [`read_table_dump`]
+/// does. Fails with `Malformed` if the body has another form, or with `Memory` if memory allocation
+/// fails.
+// Inlined, so that the compiler makes code for each family.
 #[inline(always)]
-fn read_entry_of(
+fn read_table_dump_of(
     alloc: Global,
     pool: &mut Pool,
     family: Family,
-    dating: Dating,
+    choice: TimeChoice,
     octets: &[u8],
 ) -> Result<Items, WireFault>
-    ensures { Reads (Told (SpellsPeerEntry family) (peer_entry_items dating.stamp dating.seconds))
+    ensures { ParsesOrFails (SpellsMapped (SpellsTableDump family) (table_dump_items choice.stamp choice.seconds))
         octets.now result }
 {
-    let Some(entry) = frame_entry(family, octets) else {
+    let Some(entry) = split_entry_fields(family, octets) else {
         return Err(WireFault::Malformed);
     };
-    let time = time_of(dating.stamp, dating.seconds, entry.time);
-    let sent = SentAttrs {
+    let time = route_time(choice.stamp, choice.seconds, entry.time);
+    let raw = RawAttrs {
         octets: entry.attributes,
         family,
         width: AsWidth::Two,
     };
     let route = pool
         .read
-        .route_of(alloc, place_of(&entry.peer), sent, time)?;
+        .get_or_read(alloc, peer_hash(&entry.peer), raw, time)?;
     let mut items = pool.take_items(alloc);
     items.push(Item::Announce(entry.peer, entry.prefix, route))?;
     let (start, middle, end) = (0, 1, 1);
-    Ok(Items::sharing(items, SharedRanges { start, middle, end }))
+    Ok(Items::with_shared_ranges(items, SharedRanges { start, middle, end }))
 }
 
 /// Parses a TABLE_DUMP body for a prefix of `family` into an announcement (RFC 6396, section 4.2).
-/// Fails with `Malformed` if it isn't such a body, or with `Memory` if memory allocation fails.
-pub(crate) fn read_peer_entry(
+/// Fails with `Malformed` if the body has another form, or with `Memory` if memory allocation
+/// fails.
+pub(crate) fn read_table_dump(
     alloc: Global,
     pool: &mut Pool,
     family: Family,
-    dating: Dating,
+    choice: TimeChoice,
     octets: &[u8],
 ) -> Result<Items, WireFault>
-    ensures { Reads (Told (SpellsPeerEntry family) (peer_entry_items dating.stamp dating.seconds))
+    ensures { ParsesOrFails (SpellsMapped (SpellsTableDump family) (table_dump_items choice.stamp choice.seconds))
         octets.now result }
 {
     match family {
-        Family::V4 => read_entry_of(alloc, pool, Family::V4, dating, octets),
-        Family::V6 => read_entry_of(alloc, pool, Family::V6, dating, octets),
+        Family::V4 => read_table_dump_of(alloc, pool, Family::V4, choice, octets),
+        Family::V6 => read_table_dump_of(alloc, pool, Family::V6, choice, octets),
     }
 }

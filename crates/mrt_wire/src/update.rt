@@ -1,12 +1,12 @@
 //! Turning the parsed parts of an UPDATE into withdrawals and announcements. `session.rt` calls
-//! [`items_of_update`] once `replace_message` has parsed an UPDATE into `Pool::parts`; read that
-//! first.
+//! [`items_of_update`] once `read_message_into` of `bgp_wire` has parsed an UPDATE into
+//! `Pool::parts`; read that first.
 
 ghost use Rattle.std.specs.Prelude.{◌≡◌, ◌++◌, ◌∷◌, [], true, map, OnOk, IfOk};
-ghost use Rattle.bgp_wire.specs.Parts.{update_in};
-ghost use Rattle.mrt_events.specs.Event.{Withdrawn, saying};
+ghost use Rattle.bgp_wire.specs.Parts.{update_of_parts};
+ghost use Rattle.mrt_events.specs.Event.{Withdrawn, item_value};
 ghost use Rattle.mrt_wire.specs.Items.{update_items};
-ghost use Rattle.mrt_wire.specs.Judging.{Adds, announced_with};
+ghost use Rattle.mrt_wire.specs.Decoding.{AddsItems, announced_with};
 
 use crate::pool::Pool;
 use crate::route_pool::RoutePool;
@@ -18,25 +18,26 @@ use std::rc::Rc;
 
 /// Prefixes that an UPDATE announces with the same attributes.
 #[derive(Clone, Copy)]
-struct Announcement<'a, 'b> {
+struct AnnouncedPrefixes<'a, 'b> {
     /// The peer that sent the UPDATE.
     peer: &'a Peer,
-    /// The prefixes, which may be none.
+    /// The prefixes. There may be none.
     prefixes: &'b Prefixes,
     /// The time of the route, in seconds since 1970.
     seconds: u32,
-    /// Whether the attributes are needed again, so that they are copied into the route.
-    is_kept: bool,
+    /// Whether the attributes are needed again, so that they are copied into the route and not
+    /// moved.
+    keep_attrs: bool,
 }
 
-/// Appends a withdrawal of each prefix by `peer` to `items`. On error, which means that memory
-/// allocation fails, `items` is unspecified.
+/// Appends a withdrawal by `peer` of each prefix to `items`, in order. On error, which means that
+/// memory allocation fails, `items` is unspecified.
 fn add_withdrawals(
     items: &mut Vec<Item>,
     peer: &Peer,
     prefixes: &Prefixes,
 ) -> Result<(), AllocError>
-    ensures { OnOk result (Adds items.old.items items.new.items
+    ensures { OnOk result (AddsItems items.old.items items.new.items
         (map (Withdrawn peer.now) prefixes.now)) }
 {
     for prefix in prefixes.as_slice() {
@@ -46,30 +47,31 @@ fn add_withdrawals(
 }
 
 /// Appends an announcement of each prefix to `items`, all with one route, which is made from
-/// `attrs` unless there are no prefixes. `attrs` is left as it was if `is_kept`, and is unspecified
-/// if not. On error, which means that memory allocation fails, `items` is unspecified.
+/// `attrs` unless there are no prefixes. `attrs` is left as it is if `keep_attrs`, and is
+/// unspecified afterwards if not. On error, which means that memory allocation fails, `items` is
+/// unspecified.
 #[inline(always)]
 fn add_announcements(
     alloc: Global,
     routes: &mut RoutePool,
     items: &mut Vec<Item>,
-    announcement: Announcement<'_, '_>,
+    announcement: AnnouncedPrefixes<'_, '_>,
     attrs: &mut Attrs,
 ) -> Result<(), AllocError>
-    ensures added { OnOk result (Adds items.old.items items.new.items
+    ensures added { OnOk result (AddsItems items.old.items items.new.items
         (announced_with announcement.entry attrs.old)) }
-    ensures kept { announcement.entry.is_kept ≡ true → attrs.new ≡ attrs.old }
+    ensures kept { announcement.entry.keep_attrs ≡ true → attrs.new ≡ attrs.old }
 {
-    let Announcement {
+    let AnnouncedPrefixes {
         peer,
         prefixes,
         seconds,
-        is_kept,
+        keep_attrs,
     } = announcement;
     if prefixes.as_slice().is_empty() {
         return Ok(());
     }
-    let route = routes.route(alloc, attrs, seconds, is_kept)?;
+    let route = routes.make_route(alloc, attrs, seconds, keep_attrs)?;
     for prefix in prefixes.as_slice() {
         let shared = route.clone()?;
         items.push(Item::Announce(*peer, *prefix, shared))?;
@@ -77,8 +79,8 @@ fn add_announcements(
     Ok(())
 }
 
-/// Returns the number of prefixes that `parts` withdraws and announces, or `usize::MAX` if there
-/// are more.
+/// Returns the number of prefixes that `parts` withdraws and announces together, or `usize::MAX` if
+/// there are more.
 #[inline]
 fn prefix_count(parts: &UpdateParts) -> usize {
     let withdrawn = parts.withdrawn.as_slice().len();
@@ -91,9 +93,10 @@ fn prefix_count(parts: &UpdateParts) -> usize {
         .saturating_add(mp_announced)
 }
 
-/// Returns the items of the UPDATE in `pool.parts`: its withdrawals, by MP_UNREACH_NLRI last, and
-/// then its announcements, by MP_REACH_NLRI last (RFC 4760, sections 3 and 4). Fails if memory
-/// allocation fails. The attributes in `pool.parts` are unspecified afterwards.
+/// Returns the items of the UPDATE in `pool.parts`, sent by `peer`: its withdrawals, by
+/// MP_UNREACH_NLRI last, and then its announcements, by MP_REACH_NLRI last (RFC 4760, sections 3
+/// and 4). Routes get the time `seconds`. Fails if memory allocation fails. The attributes in
+/// `pool.parts` are unspecified afterwards.
 #[inline]
 pub(crate) fn items_of_update(
     alloc: Global,
@@ -102,7 +105,7 @@ pub(crate) fn items_of_update(
     seconds: u32,
 ) -> Result<Items, AllocError>
     ensures { IfOk result (λ items.
-        items ≡ update_items peer.now seconds (update_in pool.old.parts)) }
+        items ≡ update_items peer.now seconds (update_of_parts pool.old.parts)) }
 {
     let count = prefix_count(&pool.parts);
     let mut items = pool.take_items(alloc);
@@ -110,16 +113,16 @@ pub(crate) fn items_of_update(
     add_withdrawals(&mut items, peer, &pool.parts.withdrawn)?;
     add_withdrawals(&mut items, peer, &pool.parts.mp_withdrawn)?;
     let start = items.len();
-    let is_kept = !pool.parts.mp_announced.as_slice().is_empty();
+    let keep_attrs = !pool.parts.mp_announced.as_slice().is_empty();
     add_announcements(
         alloc,
         &mut pool.routes,
         &mut items,
-        Announcement {
+        AnnouncedPrefixes {
             peer,
             prefixes: &pool.parts.announced,
             seconds,
-            is_kept,
+            keep_attrs,
         },
         &mut pool.parts.attrs,
     )?;
@@ -129,14 +132,14 @@ pub(crate) fn items_of_update(
         alloc,
         &mut pool.routes,
         &mut items,
-        Announcement {
+        AnnouncedPrefixes {
             peer,
             prefixes: &pool.parts.mp_announced,
             seconds,
-            is_kept: false,
+            keep_attrs: false,
         },
         &mut pool.parts.attrs,
     )?;
     let end = items.len();
-    Ok(Items::sharing(items, SharedRanges { start, middle, end }))
+    Ok(Items::with_shared_ranges(items, SharedRanges { start, middle, end }))
 }

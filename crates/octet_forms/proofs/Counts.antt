@@ -2,7 +2,7 @@
 use Rattle.std.proofs.Common.{◌≡◌, ℕ, ◌<◌, ◌^◌, List, [], ◌∷◌, ◌++◌, length, refl, ap, sym, subst, ◌∙◌, arith, append_assoc}
 use Rattle.std.specs.Int.{w16, to_be_bytes}
 use Rattle.octet_forms.specs.Sequences.{Begins, SpellsAll}
-use Rattle.octet_forms.specs.Fronts.{BeginsWithNone, IsCode}
+use Rattle.octet_forms.specs.Fronts.{BeginsWithNone, IsSelfDelimiting}
 use Rattle.octet_forms.specs.Counted.{SpellsCounted}
 use Rattle.octet_forms.proofs.Numbers.{one_w16}
 
@@ -20,7 +20,7 @@ in_front Spells value values rest octets b =
     )
 
 -- two lists of one count in front of the same octets are one, and so is what follows them
-pub same_counted : {A : Type 0} (Spells : A → List ℕ → Type 0) → IsCode Spells → (values others : List A) (x y octets : List ℕ) → length values ≡ length others
+pub same_counted : {A : Type 0} (Spells : A → List ℕ → Type 0) → IsSelfDelimiting Spells → (values others : List A) (x y octets : List ℕ) → length values ≡ length others
     → Begins (SpellsAll Spells) values x octets → Begins (SpellsAll Spells) others y octets → (values ≡ others) × (x ≡ y)
 same_counted Spells code [] [] x y octets e p q =
     (refl, sym (p.whole ∙ ap (λ l. l ++ x) p.spelled) ∙ (q.whole ∙ ap (λ l. l ++ y) q.spelled))
@@ -34,7 +34,7 @@ same_counted Spells code (a ∷ values) (b ∷ others) x y octets e p q =
     ((λ i. one.0 i ∷ more.0 i), more.1)
 
 -- where no value stands in front of what is left before a count is reached, no list of that count is there
-pub none_counted : {A : Type 0} (Spells : A → List ℕ → Type 0) → IsCode Spells → (values others : List A) (rest more octets : List ℕ) → length values < length others
+pub none_counted : {A : Type 0} (Spells : A → List ℕ → Type 0) → IsSelfDelimiting Spells → (values others : List A) (rest more octets : List ℕ) → length values < length others
     → Begins (SpellsAll Spells) values rest octets → BeginsWithNone Spells rest → Begins (SpellsAll Spells) others more octets → ⊥
 none_counted Spells code values [] rest more octets e p none q = absurd (omega (arith, e))
 none_counted Spells code [] (b ∷ others) rest more octets e p none q =
@@ -59,7 +59,7 @@ counted_begun Spells values rest octets b =
     )
 
 -- no octets begin with two lists of counted values
-pub counted_code : {A : Type 0} (Spells : A → List ℕ → Type 0) → IsCode Spells → IsCode (SpellsCounted Spells)
+pub counted_code : {A : Type 0} (Spells : A → List ℕ → Type 0) → IsSelfDelimiting Spells → IsSelfDelimiting (SpellsCounted Spells)
 counted_code {A} Spells code = record { some = some; same = same }
   where
     some : (values : List A) → SpellsCounted Spells values [] → ⊥
@@ -82,7 +82,7 @@ counted Spells values count rest body octets fits e size b = record {
 }
 
 -- none are where none stands in front of the rest before the count is reached
-pub not_counted : {A : Type 0} (Spells : A → List ℕ → Type 0) → IsCode Spells → (values : List A) (count : ℕ) (rest body octets : List ℕ) → count < 2 ^ 16 → octets ≡ to_be_bytes w16 count ++ body
+pub not_counted : {A : Type 0} (Spells : A → List ℕ → Type 0) → IsSelfDelimiting Spells → (values : List A) (count : ℕ) (rest body octets : List ℕ) → count < 2 ^ 16 → octets ≡ to_be_bytes w16 count ++ body
     → length values < count → Begins (SpellsAll Spells) values rest body → BeginsWithNone Spells rest → BeginsWithNone (SpellsCounted Spells) octets
 not_counted Spells code values count rest body octets fits e less b none others more s =
     let t = counted_begun Spells others more octets s in

@@ -1,18 +1,18 @@
 -- Values spelled one behind the other.
 use Rattle.std.proofs.Common.{◌≡◌, ℕ, ◌*◌, List, [], ◌∷◌, ◌++◌, length, refl, ap, sym, subst, ◌∙◌, arith, append_assoc, append-nil, length-append}
 use Rattle.octet_forms.specs.Sequences.{Begins, SpellsAll}
-use Rattle.octet_forms.specs.Fronts.{BeginsWithNone, IsCode}
+use Rattle.octet_forms.specs.Fronts.{BeginsWithNone, IsSelfDelimiting}
 use Rattle.octet_forms.proofs.Lists.{nothing_before}
 
 -- ---- one list
 
 -- nothing begins with no spelling
-pub never_begins : {A : Type 0} (Spells : A → List ℕ → Type 0) → IsCode Spells → (value : A) (rest octets : List ℕ) → Begins Spells value rest octets → octets ≡ [] → ⊥
+pub never_begins : {A : Type 0} (Spells : A → List ℕ → Type 0) → IsSelfDelimiting Spells → (value : A) (rest octets : List ℕ) → Begins Spells value rest octets → octets ≡ [] → ⊥
 never_begins Spells code value rest octets b e =
     code.some value (subst (Spells value) (nothing_before b.front rest (sym e ∙ b.whole)) b.spelled)
 
 -- so no octets are spellings of two lists
-pub one_list : {A : Type 0} (Spells : A → List ℕ → Type 0) → IsCode Spells → (octets : List ℕ) (values others : List A)
+pub one_list : {A : Type 0} (Spells : A → List ℕ → Type 0) → IsSelfDelimiting Spells → (octets : List ℕ) (values others : List A)
     → SpellsAll Spells values octets → SpellsAll Spells others octets → values ≡ others
 one_list Spells code octets [] [] p q = refl
 one_list Spells code octets [] (b ∷ others) p q = absurd (never_begins Spells code b q.0 octets q.1 p)
@@ -52,7 +52,7 @@ one_more Spells values value more rest octets b c = record {
 }
 
 -- a list that is spelled by octets which others begin goes on after those
-after : {A : Type 0} (Spells : A → List ℕ → Type 0) → IsCode Spells → (values others : List A) (front rest : List ℕ) → SpellsAll Spells values front → SpellsAll Spells others (front ++ rest)
+after : {A : Type 0} (Spells : A → List ℕ → Type 0) → IsSelfDelimiting Spells → (values others : List A) (front rest : List ℕ) → SpellsAll Spells values front → SpellsAll Spells others (front ++ rest)
     → (more : List A) × SpellsAll Spells more rest
 after Spells code [] others front rest p q = (others, subst (λ l. SpellsAll Spells others (l ++ rest)) p q)
 after Spells code (value ∷ values) [] front rest p q =
@@ -62,7 +62,7 @@ after Spells code (value ∷ values) (other ∷ others) front rest p q =
     after Spells code values others p.0 rest p.2 (subst (SpellsAll Spells others) (sym one.1) q.2)
 
 -- and it is those and more
-pub goes_on : {A : Type 0} (Spells : A → List ℕ → Type 0) → IsCode Spells → (values others : List A) (rest octets : List ℕ) → Begins (SpellsAll Spells) values rest octets → SpellsAll Spells others octets
+pub goes_on : {A : Type 0} (Spells : A → List ℕ → Type 0) → IsSelfDelimiting Spells → (values others : List A) (rest octets : List ℕ) → Begins (SpellsAll Spells) values rest octets → SpellsAll Spells others octets
     → (more : List A) × (others ≡ values ++ more)
 goes_on Spells code values others rest octets b s =
     let left = after Spells code values others b.front rest b.spelled (subst (SpellsAll Spells others) b.whole s) in
@@ -74,7 +74,7 @@ pub all_read : {A : Type 0} (Spells : A → List ℕ → Type 0) (values : List 
 all_read Spells values rest octets b e = subst (SpellsAll Spells values) (sym (b.whole ∙ ap (λ l. b.front ++ l) e ∙ append-nil b.front)) b.spelled
 
 -- where no value stands in front of what is left, and something is, no list is spelled
-pub none_at_all : {A : Type 0} (Spells : A → List ℕ → Type 0) → IsCode Spells → (values : List A) (rest octets : List ℕ) → (rest ≡ [] → ⊥) → Begins (SpellsAll Spells) values rest octets
+pub none_at_all : {A : Type 0} (Spells : A → List ℕ → Type 0) → IsSelfDelimiting Spells → (values : List A) (rest octets : List ℕ) → (rest ≡ [] → ⊥) → Begins (SpellsAll Spells) values rest octets
     → BeginsWithNone Spells rest → (others : List A) → SpellsAll Spells others octets → ⊥
 none_at_all {A} Spells code values rest octets some b none others s =
     let left = after Spells code values others b.front rest b.spelled (subst (SpellsAll Spells others) b.whole s) in

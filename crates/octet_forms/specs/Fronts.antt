@@ -1,21 +1,22 @@
 -- Private.
--- Octets that begin with no value, and spellings that no two values share.
+-- Octets that begin with no spelling of a value, and spellings from which the value can be told.
 use Rattle.std.specs.Prelude.{◌≡◌, ℕ, List, []}
 use Rattle.octet_forms.specs.Sequences.{Begins}
 
--- no value stands in front of the octets, whatever follows it
+-- the octets begin with a spelling of no value
 abbrev pub BeginsWithNone : {A : Type 0} → (A → List ℕ → Type 0) → List ℕ → Type 0
 BeginsWithNone {A} Spells octets = (value : A) (rest : List ℕ) → Begins Spells value rest octets → ⊥
 
--- no octets begin with spellings of two values
-abbrev pub OneFront : {A : Type 0} → (A → List ℕ → Type 0) → Type 0
-OneFront {A} Spells = (a b : A) (x y octets : List ℕ) → Begins Spells a x octets → Begins Spells b y octets → (a ≡ b) × (x ≡ y)
+-- from octets that begin with a spelling, the value and the octets after the spelling can be told: if they
+-- begin with spellings of `a`, which leaves `x`, and of `b`, which leaves `y`, both are equal
+abbrev pub HasOneFront : {A : Type 0} → (A → List ℕ → Type 0) → Type 0
+HasOneFront {A} Spells = (a b : A) (x y octets : List ℕ) → Begins Spells a x octets → Begins Spells b y octets → (a ≡ b) × (x ≡ y)
 
--- no value is spelled by nothing, and no octets begin with spellings of two
-pub record IsCode {A : Type 0} (Spells : A → List ℕ → Type 0) : Type 0 where
+-- spellings can be told apart in a sequence (a prefix-free code): none is empty, and no octets begin with two
+pub record IsSelfDelimiting {A : Type 0} (Spells : A → List ℕ → Type 0) : Type 0 where
   pub some : (a : A) → Spells a [] → ⊥
-  pub same : OneFront Spells
+  pub same : HasOneFront Spells
 
--- no octets are spellings of two values
-abbrev pub IsOne : {A B : Type 0} → (A → B → Type 0) → Type 0
-IsOne {A} {B} Spells = (value other : A) (octets : B) → Spells value octets → Spells other octets → value ≡ other
+-- no octets (of any type `B`) spell two values
+abbrev pub IsUnambiguous : {A B : Type 0} → (A → B → Type 0) → Type 0
+IsUnambiguous {A} {B} Spells = (value other : A) (octets : B) → Spells value octets → Spells other octets → value ≡ other

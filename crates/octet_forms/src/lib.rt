@@ -1,3 +1,3 @@
-//! Definitions of how octets encode lists, counted lists, and values one after the other, which the
-//! contracts of parsers cite. The crate has no code.
+//! Definitions that contracts of parsers cite: octets that encode lists, lists after their count,
+//! and values one after the other. The crate has no code; read `specs/Sequences.antt` first.
 #![tactic(auto)]

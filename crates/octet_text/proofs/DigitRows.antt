@@ -6,7 +6,7 @@ use Rattle.std.specs.Cmp.Lexicographic.{pointwise, same_text}
 use lib.Ieee.Fits.{and_r}
 use Rattle.octet_text.specs.declared.digits.TheConstants.{DIGIT_ROWS, HEX_PAIRS}
 use Rattle.std.specs.Fmt.{digits}
-use Rattle.octet_text.specs.Written.{three_digits, filled, two_hex_digits}
+use Rattle.octet_text.specs.Written.{three_digits, left_aligned_digits, two_hex_digits}
 
 -- whether the rows from a number on are those of the numbers
 abbrev are_rows : (ℕ → List ℕ) → ℕ → List (List ℕ) → Bool
@@ -35,10 +35,10 @@ HEX_PAIRS_at n h = row_at two_hex_digits 0 HEX_PAIRS tt n n (omega arith) h
 -- ---- decimals
 
 -- a number below a thousand has its decimal
-pub short_row_at : (n : ℕ) → n < 1000 → get_or DIGIT_ROWS n [] ≡ filled (decimal n)
+pub short_row_at : (n : ℕ) → n < 1000 → get_or DIGIT_ROWS n [] ≡ left_aligned_digits (decimal n)
 unfolding digits
 short_row_at n h =
-    rw (sym (get_or-take 1000 DIGIT_ROWS n [] h)) (row_at (λ n. filled (decimal n)) 0 (take 1000 DIGIT_ROWS) tt n n (omega arith) h)
+    rw (sym (get_or-take 1000 DIGIT_ROWS n [] h)) (row_at (λ n. left_aligned_digits (decimal n)) 0 (take 1000 DIGIT_ROWS) tt n n (omega arith) h)
 
 -- a number of more digits ends with its last three
 pub decimal_thousands : (n : ℕ) → 1000 ≤ n → n < 2 ^ 64 → decimal n ≡ decimal (n / 1000) ++ three_digits (n % 1000)

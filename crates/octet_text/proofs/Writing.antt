@@ -3,7 +3,7 @@ use Rattle.std.proofs.Common.{◌≡◌, ℕ, ◌+◌, ◌-◌, ◌<◌, ◌≤�
 use Rattle.std.proofs.Math.Seq.{take-append-add}
 use Rattle.std.proofs.lemmas.List.{take-append-le, length-set, take_more_set, take-take, drop-take}
 use Rattle.std.proofs.lemmas.Grind.{common_steps}
-use Rattle.octet_text.specs.Written.{IsWritten, filled}
+use Rattle.octet_text.specs.Written.{IsWritten, left_aligned_digits}
 
 -- the first octets of a row stand where it was put
 pub written_row : (old row new : List ℕ) (at n : ℕ) → at + length row ≤ length old → n ≤ length row
@@ -28,7 +28,7 @@ pub record IsRow (digits row : List ℕ) : Type 0 where
   pub last : get_or row 3 0 ≡ 48 + length digits
   pub front : take (length digits) row ≡ digits
 
-pub filled_row : (digits : List ℕ) → length digits ≤ 3 → IsRow digits (filled digits)
+pub filled_row : (digits : List ℕ) → length digits ≤ 3 → IsRow digits (left_aligned_digits digits)
 filled_row [] h = record { size = refl; last = refl; front = refl }
 filled_row (a ∷ []) h = record { size = refl; last = refl; front = refl }
 filled_row (a ∷ b ∷ []) h = record { size = refl; last = refl; front = refl }
@@ -37,11 +37,11 @@ filled_row (a ∷ b ∷ c ∷ d ∷ more) h = absurd (omega (arith, h))
 
 -- the digits are written where the row was put
 pub written_digits : (digits old new : List ℕ) (at : ℕ) → length digits ≤ 3 → at + 4 ≤ length old
-    → new ≡ take at old ++ filled digits ++ drop (at + length (filled digits)) old → IsWritten old at digits new (at + length digits)
+    → new ≡ take at old ++ left_aligned_digits digits ++ drop (at + length (left_aligned_digits digits)) old → IsWritten old at digits new (at + length digits)
 written_digits digits old new at short room put =
     let row = filled_row digits short in
     subst (λ t. IsWritten old at t new (at + length digits)) row.front
-    (written_row old (filled digits) new at (length digits) (omega (arith, row.size, room)) (omega (arith, row.size, short)) put)
+    (written_row old (left_aligned_digits digits) new at (length digits) (omega (arith, row.size, room)) (omega (arith, row.size, short)) put)
 
 -- ---- one behind another
 

@@ -1,27 +1,29 @@
 -- Private.
--- Texts in a slice.
+-- Texts that are written into slices, and the texts of small numbers.
 use Rattle.std.specs.Prelude.{◌≡◌, ℕ, ◌+◌, ◌/◌, ◌%◌, List, [], ◌∷◌, ◌++◌, length, take, flat_map}
 use Rattle.std.specs.Char.{digit_char}
 use Rattle.octet_text.specs.declared.cursor.TheConstants.{SPACE}
 
--- the text stands from a place on, what stood before it stands there, and the end is behind it
+-- `new` is `old` with `text` written at offset `at`: the octets before it are unchanged, `end` is the offset
+-- after it, and the octets from `end` on are unspecified, but as many as in `old`
 pub record IsWritten (old : List ℕ) (at : ℕ) (text new : List ℕ) (end : ℕ) : Type 0 where
   pub front : take end new ≡ take at old ++ text
   pub behind : end ≡ at + length text
   pub size : length new ≡ length old
 
--- words, each ended by an octet
+-- the concatenation of the words, each with the octet `separator` after it, the last too
 abbrev pub ended_words : ℕ → List (List ℕ) → List ℕ
 ended_words separator words = flat_map (λ word. word ++ separator ∷ []) words
 
--- the last three digits of a number
+-- the last three decimal digits of a number in ASCII, with leading zeros; all of it if it is below 1,000
 abbrev pub three_digits : ℕ → List ℕ
 three_digits n = (48 + n / 100 % 10) ∷ (48 + n / 10 % 10) ∷ (48 + n % 10) ∷ []
 
--- up to three digits, filled with spaces, and how many there are
-abbrev pub filled : List ℕ → List ℕ
-filled digits = take 3 (digits ++ SPACE ∷ SPACE ∷ SPACE ∷ []) ++ (48 + length digits) ∷ []
+-- the first three of the digits, padded on the right with spaces to three octets, and the ASCII digit of
+-- their count, which must be below 10
+abbrev pub left_aligned_digits : List ℕ → List ℕ
+left_aligned_digits digits = take 3 (digits ++ SPACE ∷ SPACE ∷ SPACE ∷ []) ++ (48 + length digits) ∷ []
 
--- the last two hexadecimal digits of a number
+-- the last two hexadecimal digits of a number in lower-case ASCII, with leading zeros
 abbrev pub two_hex_digits : ℕ → List ℕ
 two_hex_digits n = digit_char (n / 16 % 16) ∷ digit_char (n % 16) ∷ []

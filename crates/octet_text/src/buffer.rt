@@ -1,11 +1,11 @@
-//! A growable text of octets, to which paths and lines are printed. `bgp_paths` and `bgpdump_lines`
-//! call its appends. Read [`Text`] first, then [`make_room`].
+//! A growable text of octets. The crates that print AS paths, lines and replies append to it. Read
+//! [`Text`] first, then [`make_room`], which all appends call.
 
 ghost use Rattle.std.specs.Prelude.{◌≡◌, ◌+◌, ◌-◌, ◌*◌, ◌<◌, ◌≤◌, ◌++◌, ◌∷◌, [], OnOk, OnErr, length, map, take, drop, slice_range, decimal};
 ghost use Rattle.octet_text.specs.Written.{ended_words};
 
 use crate::cursor::{
-    DECIMAL_ROOM, ENDED_ROOM, InPlace, WORD_ROOM, Word, put_octets, write_decimal,
+    DECIMAL_ROOM, ENDED_ROOM, WORD_ROOM, WordFormat, WriteTextAt, put_octets, write_decimal,
     write_ended_decimal,
 };
 use itoa::Buffer;
@@ -13,15 +13,15 @@ use std::alloc::{AllocError, Global};
 use std::marker::Model;
 use std::mem;
 
-/// The least number of octets that a buffer has after its text once it has grown. An append of more
+/// The least number of octets after the text in a buffer that has just grown. An append of more
 /// octets grows the buffer by as many as it needs.
 const LEAST_ROOM: usize = 512;
 
-/// The greatest size of a buffer, in octets, that [`Text::clear`] keeps. A larger buffer is freed,
+/// The size of a buffer, in octets, up to which [`Text::clear`] keeps it. A larger buffer is freed,
 /// and the next long text allocates its own.
 const MOST_KEPT: usize = 1 << 18;
 
-/// A growable text of octets. Appends fail if memory allocation fails.
+/// A growable text of octets, not necessarily UTF-8. Appends fail if memory allocation fails.
 #[derive(Drop)]
 pub struct Text {
     // The text is its first `len` octets. Those after it are unspecified; appends overwrite them.
@@ -50,7 +50,8 @@ impl Text {
         }
     }
 
-    /// Returns a text of the octets in `octets`, without copying them, and leaves `octets` empty.
+    /// Moves the octets out of `octets` into a new text, without copying them, and leaves `octets`
+    /// empty.
     #[inline]
     pub fn taken_from(octets: &mut Vec<u8>) -> Self
         ensures taken { result ≡ octets.old.items }
@@ -64,7 +65,8 @@ impl Text {
         }
     }
 
-    /// Returns the octets of the text as a vector, without copying them.
+    /// Converts the text into a vector of its octets, without copying them. The vector may have
+    /// spare capacity.
     #[inline]
     pub fn into_vec(self) -> Vec<u8>
         ensures { result.items ≡ self }
@@ -90,7 +92,8 @@ impl Text {
         &self.buffer[..self.len]
     }
 
-    /// Keeps the first `len` octets of the text, or all if it has no more.
+    /// Shortens the text to its first `len` octets. A text of no more than `len` octets is
+    /// unchanged.
     #[inline]
     pub fn truncate(&mut self, len: usize)
         ensures { self.new ≡ take len self.old }
@@ -133,8 +136,9 @@ impl Text {
         Ok(())
     }
 
-    /// Appends a 64-bit number in decimal, without leading zeros. On error, the text is unchanged.
-    pub fn put_long_decimal(&mut self, number: u64) -> Result<(), AllocError>
+    /// Appends the 64-bit `number` in decimal, without leading zeros. On error, the text is
+    /// unchanged.
+    pub fn put_decimal_u64(&mut self, number: u64) -> Result<(), AllocError>
         ensures appended { OnOk result (self.new ≡ self.old ++ decimal number) }
         ensures unchanged { OnErr result (self.new ≡ self.old) }
     {
@@ -144,7 +148,8 @@ impl Text {
         }
     }
 
-    /// Appends `number` in decimal, and then the octet `end`. On error, the text is unchanged.
+    /// Appends `number` in decimal, without leading zeros, and then the octet `end`. On error, the
+    /// text is unchanged.
     #[inline]
     pub fn put_ended_decimal(&mut self, number: u32, end: u8) -> Result<(), AllocError>
         ensures appended { OnOk result (self.new ≡ self.old ++ (decimal number ++ end ∷ [])) }
@@ -155,7 +160,8 @@ impl Text {
         Ok(())
     }
 
-    /// Appends the octet `lead`, and then `number` in decimal. On error, the text is unchanged.
+    /// Appends the octet `lead`, and then `number` in decimal, without leading zeros. On error, the
+    /// text is unchanged.
     #[inline(always)]
     pub fn put_led_decimal(&mut self, lead: u8, number: u32) -> Result<(), AllocError>
         ensures appended { OnOk result (self.new ≡ self.old ++ lead ∷ decimal number) }
@@ -169,14 +175,15 @@ impl Text {
         Ok(())
     }
 
-    /// Appends each number in decimal, followed by `end`. On error, the text is unchanged.
+    /// Appends each of `numbers` in decimal, without leading zeros, and the octet `end` after each.
+    /// On error, the text is unchanged.
     #[inline]
     pub fn put_ended_decimals(&mut self, numbers: &[u32], end: u8) -> Result<(), AllocError>
         ensures appended { OnOk result
             (self.new ≡ self.old ++ ended_words end (map decimal numbers.now)) }
         ensures unchanged { OnErr result (self.new ≡ self.old) }
     {
-        make_rooms(&mut self.buffer, self.len, numbers.len(), ENDED_ROOM)?;
+        make_room_for_each(&mut self.buffer, self.len, numbers.len(), ENDED_ROOM)?;
         let text = self.buffer.as_mut_slice();
         let mut place = self.len;
         for number in numbers {
@@ -186,14 +193,19 @@ impl Text {
         Ok(())
     }
 
-    /// Appends the word of each number, followed by `end`. On error, the text is unchanged.
+    /// Appends the word of each of `numbers`, as `W` writes it, and the octet `end` after each. On
+    /// error, the text is unchanged.
     #[inline]
-    pub fn put_ended_words<W: Word>(&mut self, numbers: &[u32], end: u8) -> Result<(), AllocError>
+    pub fn put_ended_words<W: WordFormat>(
+        &mut self,
+        numbers: &[u32],
+        end: u8,
+    ) -> Result<(), AllocError>
         ensures appended { OnOk result
             (self.new ≡ self.old ++ ended_words end (map W.word numbers.now)) }
         ensures unchanged { OnErr result (self.new ≡ self.old) }
     {
-        make_rooms(&mut self.buffer, self.len, numbers.len(), WORD_ROOM)?;
+        make_room_for_each(&mut self.buffer, self.len, numbers.len(), WORD_ROOM)?;
         let text = self.buffer.as_mut_slice();
         let mut place = self.len;
         for number in numbers {
@@ -203,20 +215,20 @@ impl Text {
         Ok(())
     }
 
-    /// Appends the text of `value`. On error, the text is unchanged.
+    /// Appends `value` as text. On error, the text is unchanged.
     #[inline]
-    pub fn put<V: InPlace>(&mut self, value: &V) -> Result<(), AllocError>
+    pub fn put<V: WriteTextAt>(&mut self, value: &V) -> Result<(), AllocError>
         ensures appended { OnOk result (self.new ≡ self.old ++ V.shown value.now) }
         ensures unchanged { OnErr result (self.new ≡ self.old) }
     {
         make_room(&mut self.buffer, self.len, V::ROOM)?;
-        self.len = value.write_in_place(self.buffer.as_mut_slice(), self.len);
+        self.len = value.write_text_at(self.buffer.as_mut_slice(), self.len);
         Ok(())
     }
 
-    /// Appends the octet `lead`, and then the text of `value`. On error, the text is unchanged.
+    /// Appends the octet `lead`, and then `value` as text. On error, the text is unchanged.
     #[inline]
-    pub fn put_led<V: InPlace>(&mut self, lead: u8, value: &V) -> Result<(), AllocError>
+    pub fn put_led<V: WriteTextAt>(&mut self, lead: u8, value: &V) -> Result<(), AllocError>
         ensures appended { OnOk result (self.new ≡ self.old ++ lead ∷ V.shown value.now) }
         ensures unchanged { OnErr result (self.new ≡ self.old) }
     {
@@ -224,7 +236,7 @@ impl Text {
         make_room(&mut self.buffer, at, V::ROOM.saturating_add(1))?;
         let text = self.buffer.as_mut_slice();
         text[at] = lead;
-        self.len = value.write_in_place(text, at + 1);
+        self.len = value.write_text_at(text, at + 1);
         Ok(())
     }
 
@@ -241,7 +253,8 @@ impl Text {
         Ok(())
     }
 
-    /// Appends a copy of the octets in `start..end`. On error, the text is unchanged.
+    /// Appends a copy of the octets `start..end` of the text itself. On error, the text is
+    /// unchanged.
     #[inline]
     pub fn extend_from_within(&mut self, start: usize, end: usize) -> Result<(), AllocError>
         requires { (start ≤ end) × (end ≤ length self.old) }
@@ -256,7 +269,8 @@ impl Text {
     }
 }
 
-/// Appends `number` in decimal, without leading zeros. On error, the vector is unchanged.
+/// Appends the 64-bit `number` in decimal, without leading zeros, to `text`. On error, `text` is
+/// unchanged.
 pub fn put_decimal(number: u64, text: &mut Vec<u8>) -> Result<(), AllocError>
     ensures appended { OnOk result (text.new.items ≡ text.old.items ++ decimal number) }
     ensures unchanged { OnErr result (text.new.items ≡ text.old.items) }
@@ -264,7 +278,8 @@ pub fn put_decimal(number: u64, text: &mut Vec<u8>) -> Result<(), AllocError>
     text.extend_from_slice(Buffer::new().format(number).as_bytes())
 }
 
-/// Makes `buffer` at least `room` octets longer than its first `len`, which are unchanged.
+/// Ensures that `buffer` has at least `room` octets after its first `len`, and grows it if it has
+/// fewer. The first `len` octets are unchanged, on error too; those after them are unspecified.
 #[inline(always)]
 fn make_room(buffer: &mut Vec<u8>, len: usize, room: usize) -> Result<(), AllocError>
     requires { len ≤ length buffer.old.items }
@@ -278,9 +293,16 @@ fn make_room(buffer: &mut Vec<u8>, len: usize, room: usize) -> Result<(), AllocE
     Ok(())
 }
 
-/// Makes `buffer` at least `count * each` octets longer than its first `len`, which are unchanged.
+/// Ensures that `buffer` has at least `count * each` octets after its first `len`, and grows it if
+/// it has fewer. The first `len` octets are unchanged, on error too; those after them are
+/// unspecified.
 #[inline(always)]
-fn make_rooms(buffer: &mut Vec<u8>, len: usize, count: usize, each: usize) -> Result<(), AllocError>
+fn make_room_for_each(
+    buffer: &mut Vec<u8>,
+    len: usize,
+    count: usize,
+    each: usize,
+) -> Result<(), AllocError>
     requires front { len ≤ length buffer.old.items }
     requires some { 0 < each }
     ensures room { OnOk result (len + count * each ≤ length buffer.new.items) }
@@ -293,7 +315,8 @@ fn make_rooms(buffer: &mut Vec<u8>, len: usize, count: usize, each: usize) -> Re
     Ok(())
 }
 
-/// Grows a shorter `buffer` to at least `len + room` octets. The first `len` are unchanged.
+/// Resizes `buffer` to `len + room` octets, or to `len + LEAST_ROOM` if that is more. The first
+/// `len` octets are unchanged, on error too.
 #[cold]
 #[inline(never)]
 fn grow(buffer: &mut Vec<u8>, len: usize, room: usize) -> Result<(), AllocError>
@@ -307,7 +330,7 @@ fn grow(buffer: &mut Vec<u8>, len: usize, room: usize) -> Result<(), AllocError>
     buffer.resize(size, 0)
 }
 
-/// Copies the octets in the range `start..end` to offset `at`, which is at least `end`.
+/// Copies the octets `start..end` of `octets` to offset `at` of `octets`, which is at least `end`.
 #[inline]
 fn copy_within(octets: &mut [u8], start: usize, end: usize, at: usize)
     requires order { (start ≤ end) × (end ≤ at) }

@@ -1,6 +1,6 @@
-//! Text built from octets: [`Text`], which grows at its end, and functions that write numbers into
-//! a slice at an offset. The crates that print addresses, AS paths and lines call them. Read
-//! `buffer.rt` first, then `cursor.rt`.
+//! Texts as octets: [`Text`], which grows at its end, and functions that write numbers into a slice
+//! at an offset. The crates that print addresses, AS paths and lines call them. Read `buffer.rt`
+//! first, then `cursor.rt`.
 #![tactic(auto)]
 
 mod buffer;
@@ -9,6 +9,6 @@ mod digits;
 
 pub use buffer::{Text, put_decimal};
 pub use cursor::{
-    DECIMAL_ROOM, HEX_PAIR, InPlace, ROW, SPACE, WORD_ROOM, Word, hex_pair, put_octets,
-    write_decimal, write_ended_decimal, write_hex_pair, write_short,
+    DECIMAL_ROOM, HEX_PAIR, ROW, SPACE, WORD_ROOM, WordFormat, WriteTextAt, hex_pair, put_octets,
+    write_below_thousand, write_decimal, write_ended_decimal, write_hex_pair,
 };

@@ -13,7 +13,7 @@ use Rattle.std.specs.FinMap.Entries.{is_sorted, below_all}
 use Rattle.std.proofs.lemmas.Bool.{and_parts}
 use Rattle.ip_prefix.specs.Network.{Network, network_cmp}
 use Rattle.ip_prefix.specs.OrderLaws.{network_cmp_total}
-use Rattle.prefix_store.specs.Lookups.{is_higher, above, pointed}
+use Rattle.prefix_store.specs.Lookups.{is_above_bound, above, dereferenced}
 
 -- ---- those above a key, in a list in the order of its keys
 
@@ -27,14 +27,14 @@ first_passes p (y ∷ xs) x e = grind (arith, first_passes p xs x)
 
 module _ {K A : Type 0} {R : K → K → Ordering} (o : IsTotalOrder R) (key : A → K) where
   abbrev higher : Option K → List A → List A
-  higher low xs = filter (λ x. is_higher R low (key x)) xs
+  higher low xs = filter (λ x. is_above_bound R low (key x)) xs
 
-  higher_trans : (low : Option K) (x y : K) → is_higher R low x ≡ true → is_lt (R x y) ≡ true → is_higher R low y ≡ true
+  higher_trans : (low : Option K) (x y : K) → is_above_bound R low x ≡ true → is_lt (R x y) ≡ true → is_above_bound R low y ≡ true
   higher_trans None x y e f = refl
   higher_trans (Some l) x y e f = ap is_lt (o.trans l x y (is_less _ e) (is_less _ f))
 
   -- all that follow one that is above are above
-  all_higher : (low : Option K) (x : K) (xs : List A) → is_higher R low x ≡ true → AllByRecursion (λ y. R x y ≡ Less) (map key xs) → higher low xs ≡ xs
+  all_higher : (low : Option K) (x : K) (xs : List A) → is_above_bound R low x ≡ true → AllByRecursion (λ y. R x y ≡ Less) (map key xs) → higher low xs ≡ xs
   all_higher low x [] above below = refl
   all_higher low x (y ∷ xs) above below =
       let rest = all_higher low x xs above below.1 in
@@ -51,9 +51,9 @@ module _ {K A : Type 0} {R : K → K → Ordering} (o : IsTotalOrder R) (key : A
   higher-next low (y ∷ xs) x sorted is =
       let below = sorted_head R (key y) (map key xs) sorted in
       let own = higher_from (key y) xs below in
-      let all = λ (here : is_higher R low (key y) ≡ true). all_higher low (key y) xs here below in
+      let all = λ (here : is_above_bound R low (key y) ≡ true). all_higher low (key y) xs here below in
       let rest = higher-next low xs x (sorted_tail R (key y) (map key xs) sorted) in
-      let found = first_passes (λ z. is_higher R low (key z)) xs x in
+      let found = first_passes (λ z. is_above_bound R low (key z)) xs x in
       let lower = higher_trans low (key x) (key y) in
       let tied = ap is_lt (tied_itself o (key y)) in
       grind arith
@@ -142,5 +142,5 @@ seen_none view (f ∷ found) last is none = let there = slice_get-get_or (f ∷ 
 pub take-nil : {A : Type 0} (n : ℕ) → take {A = A} n [] ≡ []
 take-nil n = grind arith
 
-pub length-pointed : {R : Type 0} (found : List (Network × Bor R)) → length (pointed found) ≡ length found
-length-pointed found = length-map found (λ p. (p.0, p.1.now))
+pub length-dereferenced : {R : Type 0} (found : List (Network × Bor R)) → length (dereferenced found) ≡ length found
+length-dereferenced found = length-map found (λ p. (p.0, p.1.now))

@@ -7,7 +7,7 @@ use Rattle.ip_prefix.specs.Network.{Address, Network, contains, network_of}
 use Rattle.ip_prefix.proofs.Containing.{contains_parts, contains_from, front_length, one_of_length}
 use Rattle.std.specs.FinMap.{get}
 use Rattle.prefix_store.specs.Stored.{Routes}
-use Rattle.prefix_store.specs.Lookups.{IsLongest}
+use Rattle.prefix_store.specs.Lookups.{IsLongestMatch}
 
 -- a prefix that contains an address is no longer than it
 pub contains-length : (n : Network) (a : Address) → contains n a ≡ true → length n.bits ≤ length a.bits
@@ -35,7 +35,7 @@ longer-or {A = A} m k from longer same = ⊎_elim (λ more. longer (omega arith)
 -- ---- one longest prefix
 
 -- at most one prefix is the longest
-pub longest-one : {R : Type 0} (routes : Routes R) (address : Address) (one other : Option (Network × R)) → IsLongest routes address one → IsLongest routes address other → one ≡ other
+pub longest-one : {R : Type 0} (routes : Routes R) (address : Address) (one other : Option (Network × R)) → IsLongestMatch routes address one → IsLongestMatch routes address other → one ≡ other
 longest-one routes address None None p q = refl
 longest-one routes address None (Some other) p q = absurd (none-some other.1 (sym (p other.0 q.0) ∙ q.1))
 longest-one routes address (Some one) None p q = absurd (none-some one.1 (sym (q one.0 p.0) ∙ p.1))

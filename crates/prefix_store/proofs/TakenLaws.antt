@@ -13,7 +13,7 @@ use Rattle.std.specs.FinSet as set
 use Rattle.std.specs.FinSet.{contains-empty}
 use Rattle.ip_prefix.specs.Network.{Network, network_cmp}
 use Rattle.ip_prefix.specs.OrderLaws.{network_cmp_total, network_cmp-IsAntisymmetric}
-use Rattle.prefix_store.specs.Stored.{Keys, Routes, put, AreAmong}
+use Rattle.prefix_store.specs.Stored.{Keys, Routes, put, ContainsDomain}
 use Rattle.prefix_store.specs.Lookups.{is_above, above}
 use Rattle.prefix_store.proofs.AboveLaws.{higher_from, above-next, keys-in_order}
 
@@ -68,17 +68,17 @@ pub values-empty : {R : Type 0} (routes : Routes R) → routes ≡ finite.empty 
 values-empty {R} routes e = ap (map (λ e. e.1)) (sym (nil_from_length _ (sym (len-entries routes) ∙ ap finite.len e ∙ len-empty network_cmp R)))
 
 -- a key that is not there has no route, so one with a route is there
-pub key-there : {R : Type 0} (keys : Keys) (routes : Routes R) (n : Network) (r : R) → AreAmong keys routes → finite.get routes n ≡ Some r → set.contains keys n ≡ true
+pub key-there : {R : Type 0} (keys : Keys) (routes : Routes R) (n : Network) (r : R) → ContainsDomain keys routes → finite.get routes n ≡ Some r → set.contains keys n ≡ true
 key-there keys routes n r among found = let none = among n in grind arith
 
 -- without keys there are no routes
-pub keyless : {R : Type 0} (keys : Keys) (routes : Routes R) → set.len keys ≡ 0 → AreAmong keys routes → routes ≡ finite.empty
+pub keyless : {R : Type 0} (keys : Keys) (routes : Routes R) → set.len keys ≡ 0 → ContainsDomain keys routes → routes ≡ finite.empty
 keyless keys routes none among =
     same_map network_cmp_total network_cmp-IsAntisymmetric routes finite.empty
     (λ n. among n (ap (λ k. set.contains k n) (set.empty_of_len keys none) ∙ contains-empty network_cmp n) ∙ sym (get-empty network_cmp n))
 
 -- with a route less, keys have it still
-pub among-less : {R : Type 0} (keys keys' : Keys) (routes routes' : Routes R) (n : Network) → keys' ≡ keys → routes' ≡ put routes n None → AreAmong keys routes → AreAmong keys' routes'
+pub among-less : {R : Type 0} (keys keys' : Keys) (routes routes' : Routes R) (n : Network) → keys' ≡ keys → routes' ≡ put routes n None → ContainsDomain keys routes → ContainsDomain keys' routes'
 among-less keys keys' routes routes' n same less among q out =
     let none = among q (ap (λ k. set.contains k q) (sym same) ∙ out) in
     ap (λ r. finite.get r q) less ∙ get-remove network_cmp_total routes n q ∙ grind arith

@@ -1,5 +1,5 @@
 -- Private.
--- A store as one value, walks over it, and prefixes in few octets.
+-- The contents of a store as one value, walks over them, and the prefixes that compact forms represent.
 use Rattle.ip_prefix.specs.declared.addr.Family.TheVariants.{V4}
 use Rattle.ip_prefix.specs.Bits.{bits_of_octets}
 use Rattle.ip_prefix.specs.Network.{Network, network_of}
@@ -13,21 +13,24 @@ use Rattle.prefix_store.specs.Lookups.{above}
 use Rattle.std.specs.FinMap as finite
 use Rattle.std.specs.FinSet as set
 
--- ---- what prefixes in little memory stand for
+-- ---- the prefixes that compact forms represent
 
+-- the IPv4 prefix that a value of `V4Prefix` represents
 abbrev pub v4_network : V4Prefix → Network
 v4_network p = network_of (record { family = V4; bits = bits_of_octets p.octets }) p.len
 
+-- the IPv6 prefix that a `Prefix` represents: itself
 abbrev pub v6_network : Network → Network
 v6_network n = n
 
 -- ---- a store as one value
 
--- what a store holds
+-- the contents of a store as one value: its keys, and the routes at some of them
 pub record Contents (R : Type 0) : Type 0 where
   pub keys : Keys
   pub routes : Routes R
 
+-- a code for the contents of a store, given a code for its routes
 abbrev pub coded_contents : {R : Type 0} → Coded R → Coded (Contents R)
 coded_contents {R} route =
     code_by (Keys × Routes R) (coded× (set.code coded_network) (finite.code coded_network route))
@@ -35,10 +38,12 @@ coded_contents {R} route =
 
 -- ---- walks
 
--- the routes of a map above a prefix, in order
+-- the entries of the map whose prefix is greater than the bound, in ascending order; all if the
+-- bound is `None`
 abbrev pub routes_above : {R : Type 0} → Routes R → Option Network → List (Network × R)
 routes_above routes low = above low (entries routes)
 
--- the first of these
+-- the entry of the map with the least prefix greater than the bound, or with the least prefix of
+-- all if the bound is `None`; `None` if there is no such entry
 abbrev pub first_above : {R : Type 0} → Routes R → Option Network → Option (Network × R)
 first_above routes low = slice_get (routes_above routes low) 0

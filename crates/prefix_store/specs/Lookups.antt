@@ -1,4 +1,4 @@
--- What look-ups and walks of a store answer.
+-- What look-ups and walks of a store return.
 use Rattle.std.specs.Prelude.{◌≡◌, ◌≤◌, Bool, true, List, map, Option, Some, None, length, is_some, filter}
 use Rattle.std.specs.declared.cmp.Ordering.{Ordering}
 use Rattle.std.specs.Borrow.{Bor}
@@ -7,31 +7,36 @@ use Rattle.std.specs.Ordering.{is_lt}
 use Rattle.ip_prefix.specs.Network.{Network, contains, Address, network_cmp}
 use Rattle.prefix_store.specs.Stored.{Routes}
 
--- of the prefixes that have a route and contain the address the longest, and its route, or none where none contains it
-abbrev pub IsLongestOf : {R : Type 0} → (Network → Option R) → Address → Option (Network × R) → Type 0
-IsLongestOf route address None = (n : Network) → contains n address ≡ true → route n ≡ None
-IsLongestOf route address (Some found) =
+-- `Some (n, r)`: n contains the address, r is the route at n, and no longer prefix that contains
+-- the address has a route; `None`: no prefix that contains the address has a route. The routes are
+-- given as a function of the prefix.
+abbrev pub IsLongestMatchOf : {R : Type 0} → (Network → Option R) → Address → Option (Network × R) → Type 0
+IsLongestMatchOf route address None = (n : Network) → contains n address ≡ true → route n ≡ None
+IsLongestMatchOf route address (Some found) =
     (contains found.0 address ≡ true)
     × (route found.0 ≡ Some found.1)
     × ((n : Network) → contains n address ≡ true → is_some (route n) ≡ true → length n.bits ≤ length found.0.bits)
 
--- the same of the routes that a map has
-abbrev pub IsLongest : {R : Type 0} → Routes R → Address → Option (Network × R) → Type 0
-IsLongest routes = IsLongestOf (get routes)
+-- `Some (n, r)`: of the prefixes that have a route in the map and contain the address, n is the
+-- longest, and r is its route; `None`: there is no such prefix
+abbrev pub IsLongestMatch : {R : Type 0} → Routes R → Address → Option (Network × R) → Type 0
+IsLongestMatch routes = IsLongestMatchOf (get routes)
 
--- whether a key is above the other, where there is one
-abbrev pub is_higher : {K : Type 0} → (K → K → Ordering) → Option K → K → Bool
-is_higher cmp None key = true
-is_higher cmp (Some low) key = is_lt (cmp low key)
+-- whether the key is greater than the bound, by the comparison cmp; true if the bound is `None`
+abbrev pub is_above_bound : {K : Type 0} → (K → K → Ordering) → Option K → K → Bool
+is_above_bound cmp None key = true
+is_above_bound cmp (Some low) key = is_lt (cmp low key)
 
--- the same of prefixes
+-- whether the prefix is greater than the bound, in the order of prefixes; true if the bound is
+-- `None`
 abbrev pub is_above : Option Network → Network → Bool
-is_above = is_higher network_cmp
+is_above = is_above_bound network_cmp
 
--- the routes above a prefix, in order
+-- the entries of the list whose prefix is greater than the bound, in the order of the list; all if
+-- the bound is `None`
 abbrev pub above : {R : Type 0} → Option Network → List (Network × R) → List (Network × R)
 above low routes = filter (λ route. is_above low route.0) routes
 
--- prefixes, each with the route that is pointed to
-abbrev pub pointed : {R : Type 0} → List (Network × Bor R) → List (Network × R)
-pointed found = map (λ p. (p.0, p.1.now)) found
+-- the entries with each reference to a route replaced by the route that it points to
+abbrev pub dereferenced : {R : Type 0} → List (Network × Bor R) → List (Network × R)
+dereferenced found = map (λ p. (p.0, p.1.now)) found

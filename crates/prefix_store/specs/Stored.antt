@@ -1,4 +1,4 @@
--- What a store holds: a set of prefixes, and routes at some of them.
+-- The contents of a store: a set of prefixes, the keys, and a map of routes at some of them.
 use Rattle.std.specs.Prelude.{◌≡◌, ℕ, min, false, Option, Some, None}
 use Rattle.std.specs.declared.cmp.Ordering.{Ordering}
 use Rattle.std.specs.FinMap.{FinMap, get, insert, remove}
@@ -6,23 +6,24 @@ use Rattle.std.specs.FinSet.{FinSet, contains}
 use Rattle.ip_prefix.specs.Network.{network_cmp}
 use Rattle.prefix_store.specs.declared.store.TheConstants.{GREATEST_COUNT}
 
--- the prefixes that have room for a route
+-- a finite set of prefixes: the keys of a store, at each of which it has memory for a route
 abbrev pub Keys : Type 0
 Keys = FinSet network_cmp
 
--- at most one route at each prefix
+-- a finite map from prefixes to values of R: the routes of a store, at most one at each prefix
 abbrev pub Routes : Type 0 → Type 0
 Routes R = FinMap network_cmp R
 
--- only keys have routes
-abbrev pub AreAmong : {K R : Type 0} {cmp : K → K → Ordering} → FinSet cmp → FinMap cmp R → Type 0
-AreAmong {K} keys routes = (key : K) → contains keys key ≡ false → get routes key ≡ None
+-- the map has values at elements of the set only, as the routes of a store at its keys
+abbrev pub ContainsDomain : {K R : Type 0} {cmp : K → K → Ordering} → FinSet cmp → FinMap cmp R → Type 0
+ContainsDomain {K} keys routes = (key : K) → contains keys key ≡ false → get routes key ≡ None
 
--- the map with this value, or none, at the key
+-- the map after `None` removes the key, or `Some new` sets its value to new; all other keys keep
+-- their values
 abbrev pub put : {K R : Type 0} {cmp : K → K → Ordering} → FinMap cmp R → K → Option R → FinMap cmp R
 put values key None = remove values key
 put values key (Some new) = insert values key new
 
--- what a count of so many answers
-abbrev pub counted : ℕ → ℕ
-counted size = min size GREATEST_COUNT
+-- the number that a count of this size returns: the size, or GREATEST_COUNT if that is less
+abbrev pub saturated_count : ℕ → ℕ
+saturated_count size = min size GREATEST_COUNT

@@ -9,16 +9,16 @@ ghost use Rattle.ip_prefix.specs.Network.{Address, Network, network_cmp};
 ghost use Rattle.prefix_store.specs.declared.store.TheConstants.{GREATEST_COUNT};
 ghost use Rattle.prefix_store.specs.Stored.{Routes, put};
 ghost use Rattle.prefix_store.specs.Contents.{first_above, routes_above};
-ghost use Rattle.prefix_store.specs.Lookups.{IsLongest};
+ghost use Rattle.prefix_store.specs.Lookups.{IsLongestMatch};
 
-/// Proves the value of the greatest count, `u64::MAX`.
-pub fn count_numbers()
+/// Proves that the greatest count is `u64::MAX`.
+pub fn law_greatest_count()
     ensures { GREATEST_COUNT + 1 ≡ 2 ^ 64 }
 {}
 
 /// Proves that a route put at a prefix is found there, and that the routes at other prefixes are
 /// unchanged.
-pub fn put_route<R>()
+pub fn law_put_route<R>()
     ensures there { (routes : Routes R) (n : Network) (new : Option R)
         → finite.get (put routes n new) n ≡ new }
     ensures others { (routes : Routes R) (m n : Network) (new : Option R)
@@ -27,14 +27,14 @@ pub fn put_route<R>()
 
 /// Proves that at most one route, with its prefix, is at the longest prefix that contains an
 /// address.
-pub fn one_longest<R>()
+pub fn law_one_longest<R>()
     ensures { (routes : Routes R) (address : Address) (one other : Option (Network × R))
-        → IsLongest routes address one → IsLongest routes address other → one ≡ other }
+        → IsLongestMatch routes address one → IsLongestMatch routes address other → one ≡ other }
 {}
 
 /// Proves that a walk from the least prefix to the next one, and so on, meets every route once, in
 /// the order of prefixes, and then ends.
-pub fn walk<R>()
+pub fn law_walk<R>()
     ensures all { (routes : Routes R)
         → routes_above routes None ≡ finite.entries routes }
     ensures next { (routes : Routes R) (low : Option Network) (e : Network × R)

@@ -5,10 +5,10 @@
 
 mod laws;
 mod packed;
-mod places;
+mod prefetch_batch;
 mod store;
 
-pub use laws::{count_numbers, one_longest, put_route, walk};
-pub use packed::{Packed, V4Prefix};
-pub use places::{PLACES_AT_ONCE, Place, Places};
+pub use laws::{law_greatest_count, law_one_longest, law_put_route, law_walk};
+pub use packed::{PackedPrefix, V4Prefix};
+pub use prefetch_batch::{PREFETCH_BATCH_LEN, PrefetchBatch, PrefetchTarget};
 pub use store::{GREATEST_COUNT, PrefixStore};

@@ -1,5 +1,5 @@
-//! Compact forms of prefixes whose family is known. The radix trees of `rib_store` keep their
-//! prefixes so. Read [`Packed`] first.
+//! Compact forms of prefixes whose family is known. The radix trees of `rib_store` and the entries
+//! of `rib_player` keep prefixes so. Read [`PackedPrefix`] first.
 
 ghost use Rattle.std.specs.Prelude.{◌≡◌, ◌≢◌, ◌≤◌, length};
 ghost use Rattle.ip_prefix.specs.declared.addr.Family.{Family};
@@ -11,8 +11,8 @@ ghost use Rattle.ip_prefix.specs.declared.turn.Turn.TheVariants.{Outside};
 
 use ip_prefix::{Addr, Prefix, Turn, V4_OCTETS};
 
-/// A form of prefixes that are all of one family.
-pub trait Packed: Copy + Drop {
+/// A compact form of prefixes that are all of one family.
+pub trait PackedPrefix: Copy + Drop {
     /// The prefix that the value represents.
     ghost network: { Self → Network };
 
@@ -20,21 +20,21 @@ pub trait Packed: Copy + Drop {
     ghost family: { Family };
 
     /// Converts the value to a [`Prefix`].
-    fn wide(&self) -> Prefix
+    fn unpack(&self) -> Prefix
         ensures { result ≡ network self.now };
 
     /// Returns the length of the prefix, in bits.
     fn len(&self) -> u8
         ensures { result ≡ length (network self.now).bits }
     {
-        self.wide().len()
+        self.unpack().len()
     }
 
     /// Returns the position of `other` relative to this prefix, as [`Prefix::turn`] does.
     fn turn(&self, other: &Prefix) -> Turn
         ensures { result ≡ turn_of (way (network self.now)) (way other.now) };
 
-    /// Returns the position of `other`, which this prefix must cover, relative to this prefix. An
+    /// Returns the position of `other` relative to this prefix, which must cover it. An
     /// implementation needn't compare the bits that both have.
     fn turn_covered(&self, other: &Prefix) -> Turn
         requires { turn_of (way (network self.now)) (way other.now) ≢ Outside }
@@ -44,12 +44,13 @@ pub trait Packed: Copy + Drop {
     }
 
     /// Converts `prefix`, which must be of this family, to this form.
-    fn of(prefix: &Prefix) -> Self
+    fn pack(prefix: &Prefix) -> Self
         requires { prefix.now.family ≡ family }
         ensures { network result ≡ prefix.now };
 }
 
-/// An IPv4 prefix: its network address, and its length in bits.
+/// An IPv4 prefix: the octets of its network address, in network byte order, and its length in
+/// bits.
 #[derive(Clone, Copy, Drop)]
 pub struct V4Prefix {
     octets: [u8; V4_OCTETS],
@@ -57,7 +58,7 @@ pub struct V4Prefix {
     ghost within: { len ≤ V4_BITS },
 }
 
-impl Packed for V4Prefix {
+impl PackedPrefix for V4Prefix {
     ghost use Rattle.prefix_store.specs.Contents.{v4_network};
 
     ghost network = { v4_network };
@@ -65,7 +66,7 @@ impl Packed for V4Prefix {
     ghost family = { V4 };
 
     #[inline]
-    fn wide(&self) -> Prefix {
+    fn unpack(&self) -> Prefix {
         let addr = Addr::v4(self.octets);
         Prefix::new(addr, self.len).unwrap_or_else(|| Prefix::host(addr))
     }
@@ -86,7 +87,7 @@ impl Packed for V4Prefix {
     }
 
     #[inline]
-    fn of(prefix: &Prefix) -> Self {
+    fn pack(prefix: &Prefix) -> Self {
         let addr = prefix.addr();
         V4Prefix {
             octets: [addr.octet(0), addr.octet(1), addr.octet(2), addr.octet(3)],
@@ -95,7 +96,7 @@ impl Packed for V4Prefix {
     }
 }
 
-impl Packed for Prefix {
+impl PackedPrefix for Prefix {
     ghost use Rattle.prefix_store.specs.Contents.{v6_network};
 
     ghost network = { v6_network };
@@ -103,7 +104,7 @@ impl Packed for Prefix {
     ghost family = { V6 };
 
     #[inline]
-    fn wide(&self) -> Prefix {
+    fn unpack(&self) -> Prefix {
         *self
     }
 
@@ -123,7 +124,7 @@ impl Packed for Prefix {
     }
 
     #[inline]
-    fn of(prefix: &Prefix) -> Self {
+    fn pack(prefix: &Prefix) -> Self {
         *prefix
     }
 }

@@ -1,12 +1,13 @@
-//! The interface of a store of routes by prefix. Read [`PrefixStore`], then [`PrefixStore::put`].
+//! The interface of a store of routes by prefix. `rib_store` implements it and `rib_player` calls
+//! it. Read [`PrefixStore`], then [`PrefixStore::put`].
 
 ghost use Rattle.std.specs.Prelude.{◌≡◌, ◌≤◌, true, false, not, Option, None, slice_get, take, vec_capacity, IfOk, OnOk, OnErr, option_map, option_copied};
 ghost use Rattle.std.specs.FinMap as finite;
 ghost use Rattle.std.specs.FinSet as set;
-ghost use Rattle.prefix_store.specs.Stored.{Keys, Routes, put, counted, AreAmong};
-ghost use Rattle.prefix_store.specs.Lookups.{IsLongest, above, pointed};
+ghost use Rattle.prefix_store.specs.Stored.{Keys, Routes, put, saturated_count, ContainsDomain};
+ghost use Rattle.prefix_store.specs.Lookups.{IsLongestMatch, above, dereferenced};
 
-use crate::places::Places;
+use crate::prefetch_batch::PrefetchBatch;
 use ip_prefix::{Addr, Prefix};
 use std::alloc::{AllocError, Global};
 
@@ -24,7 +25,7 @@ pub trait PrefixStore<R: Drop>: Sized + Drop {
     /// The routes by prefix, at some of the keys.
     ghost routes: { Self → Routes R };
 
-    /// Returns a store without keys, without allocating memory.
+    /// Returns a store without keys. Allocates no memory.
     fn new(alloc: Global) -> Self
         ensures keys { keys result ≡ set.empty }
         ensures routes { routes result ≡ finite.empty };
@@ -44,7 +45,7 @@ pub trait PrefixStore<R: Drop>: Sized + Drop {
         requires { set.contains (keys self.old) prefix.now ≡ true }
         ensures keys { keys self.new ≡ keys self.old }
         ensures routes { routes self.new ≡ put (routes self.old) prefix.now route.old }
-        ensures given { route.new ≡ finite.get (routes self.old) prefix.now };
+        ensures taken_out { route.new ≡ finite.get (routes self.old) prefix.now };
 
     /// Swaps the route at `prefix` and `route`, either of which may be `None`, and makes `prefix` a
     /// key. Returns `true` if it wasn't one before. Fails if memory allocation fails, which happens
@@ -54,7 +55,7 @@ pub trait PrefixStore<R: Drop>: Sized + Drop {
         ensures made { IfOk result (λ made. made ≡ not (set.contains (keys self.old) prefix.now)) }
         ensures routes { OnOk result (routes self.new ≡
             put (routes self.old) prefix.now route.old) }
-        ensures given { OnOk result (route.new ≡ finite.get (routes self.old) prefix.now) }
+        ensures taken_out { OnOk result (route.new ≡ finite.get (routes self.old) prefix.now) }
         ensures refused { OnErr result (keys self.new ≡ keys self.old) }
         ensures held { OnErr result (routes self.new ≡ routes self.old) }
         ensures kept { OnErr result (route.new ≡ route.old) }
@@ -65,7 +66,7 @@ pub trait PrefixStore<R: Drop>: Sized + Drop {
         Ok(made)
     }
 
-    /// Removes the key `prefix`, which must have no route.
+    /// Removes the key `prefix`, which must be a key without a route.
     fn discard(&mut self, prefix: &Prefix)
         requires key { set.contains (keys self.old) prefix.now ≡ true }
         requires free { finite.get (routes self.old) prefix.now ≡ None }
@@ -84,11 +85,11 @@ pub trait PrefixStore<R: Drop>: Sized + Drop {
     /// no prefix with a route contains it. By this route a router forwards (RFC 1812, section
     /// 5.2.4.3).
     fn longest(&self, addr: &Addr) -> Option<(Prefix, &R)>
-        ensures { IsLongest (routes self.now) addr.now (option_map (λ p. (p.0, p.1.now)) result) };
+        ensures { IsLongestMatch (routes self.now) addr.now (option_map (λ p. (p.0, p.1.now)) result) };
 
     /// Returns the route at the least prefix that is greater than `prefix`, or at the least prefix
-    /// if `prefix` is `None`, with that prefix. Returns `None` if there is no such route. A walk
-    /// over all routes needs no state but the last prefix.
+    /// of all if `prefix` is `None`, with that prefix. Returns `None` if there is no such route. A
+    /// walk over all routes needs no state but the last prefix.
     fn after(&self, prefix: Option<&Prefix>) -> Option<(Prefix, &R)>
         ensures { option_map (λ p. (p.0, p.1.now)) result ≡
             slice_get (above (option_copied prefix.entry) (finite.entries (routes self.now))) 0 };
@@ -97,7 +98,7 @@ pub trait PrefixStore<R: Drop>: Sized + Drop {
     /// return, with their prefixes and in their order, up to the capacity of `found`. A walk so
     /// needs one call for many routes. Allocates no memory.
     fn next_routes<'a>(&'a self, prefix: Option<&Prefix>, found: &mut Vec<(Prefix, &'a R)>)
-        ensures found { pointed found.new.items ≡ take (vec_capacity found.old)
+        ensures found { dereferenced found.new.items ≡ take (vec_capacity found.old)
             (above (option_copied prefix.entry) (finite.entries (routes self.now))) }
         ensures room { vec_capacity found.new ≡ vec_capacity found.old }
     {
@@ -113,8 +114,8 @@ pub trait PrefixStore<R: Drop>: Sized + Drop {
     }
 
     /// Moves all routes into `taken`, in the order of their prefixes, in place of its elements. The
-    /// keys stay. `taken` must have capacity for all routes.
-    fn take_routes(&mut self, taken: &mut Vec<R>)
+    /// keys stay. `taken` must have capacity for all routes. Allocates no memory.
+    fn drain_routes(&mut self, taken: &mut Vec<R>)
         requires { finite.len (routes self.old) ≤ vec_capacity taken.old }
         ensures keys { keys self.new ≡ keys self.old }
         ensures routes { routes self.new ≡ finite.empty }
@@ -136,25 +137,25 @@ pub trait PrefixStore<R: Drop>: Sized + Drop {
         }
     }
 
-    /// Prefetches the memory that calls for these prefixes read, for all of them at once. Changes
-    /// nothing. Returns a number that depends on what was read; a caller that uses it keeps the
-    /// compiler from removing the reads.
-    fn reach(_places: &Places<'_, Self>) -> u64 {
+    /// Prefetches the memory that calls for the prefixes of the batch read, for all of them at
+    /// once. Changes nothing. Returns a number that depends on what was read; a caller that uses it
+    /// keeps the compiler from removing the reads. The provided method reads nothing and returns 0.
+    fn prefetch(_batch: &PrefetchBatch<'_, Self>) -> u64 {
         0
     }
 
     /// Returns `true` if dropping the store frees no memory: the operating system takes it when the
     /// program ends. A program that ends then needn't free what it holds beside such stores.
-    fn is_left() -> bool {
+    fn leaks_on_drop() -> bool {
         false
     }
 
     /// Returns the number of keys, or `u64::MAX` if there are more.
     fn key_count(&self) -> u64
-        ensures count { result ≡ counted (set.len (keys self.now)) }
-        ensures among { AreAmong (keys self.now) (routes self.now) };
+        ensures count { result ≡ saturated_count (set.len (keys self.now)) }
+        ensures among { ContainsDomain (keys self.now) (routes self.now) };
 
     /// Returns the number of keys that have a route, or `u64::MAX` if there are more.
     fn route_count(&self) -> u64
-        ensures { result ≡ counted (finite.len (routes self.now)) };
+        ensures { result ≡ saturated_count (finite.len (routes self.now)) };
 }

@@ -10,9 +10,9 @@ use Rattle.mrt_events.specs.declared.peer.Peer.{Peer}
 use Rattle.rib_player.specs.declared.pair.Pair.{Pair}
 use Rattle.mrt_events.specs.declared.event.Route.{Route}
 use Rattle.mrt_events.specs.declared.event.Item.{Item}
-use Rattle.mrt_events.specs.Event.{Saying, Announced, Withdrawn, Changed, saying}
-use Rattle.mrt_events.specs.SharedRoute.{Announces, AreOfOneRoute}
-use Rattle.rib_player.specs.History.{pair_cmp, Effect, Keep, Clear, where_true, item_effect, later}
+use Rattle.mrt_events.specs.Event.{ItemValue, Announced, Withdrawn, Changed, item_value}
+use Rattle.mrt_events.specs.SharedRoute.{Announces, AnnounceOneRoute}
+use Rattle.rib_player.specs.History.{pair_cmp, Effect, Keep, Clear, effect_if, item_effect, later}
 use Rattle.rib_player.specs.Journal.{Side, pairs_in}
 use Rattle.rib_player.specs.Changes.{found, is_lost, effect_of, or_absent, items_effect, HasRoute}
 use Rattle.rib_player.proofs.PairLaws.{same_pair}
@@ -34,7 +34,7 @@ found-append (first ∷ sides) more q = grind (arith, found-append sides more q)
 -- where the peer isn't lost, what is appended for a pair comes before all that is noted
 pub noted_effect-first : (sides : List Side) (peers : List Peer) (side : Side) (q : Pair) → is_lost peers side.0 ≡ false
     → effect_of (found (sides ++ side ∷ []) q) (is_lost peers q)
-    ≡ later (where_true (eq_by_cmp pair_cmp q side.0) (effect_of (Some side.1) false)) (effect_of (found sides q) (is_lost peers q))
+    ≡ later (effect_if (eq_by_cmp pair_cmp q side.0) (effect_of (Some side.1) false)) (effect_of (found sides q) (is_lost peers q))
 noted_effect-first sides peers side q held =
     let one = same_pair q side.0 in
     let found_there = found-append sides (side ∷ []) q in
@@ -42,7 +42,7 @@ noted_effect-first sides peers side q held =
 
 -- where the peer is lost, an earlier effect changes nothing
 pub noted_effect-lost : (sides : List Side) (peers : List Peer) (pair : Pair) (first : Effect) (q : Pair) → is_lost peers pair ≡ true
-    → effect_of (found sides q) (is_lost peers q) ≡ later (where_true (eq_by_cmp pair_cmp q pair) first) (effect_of (found sides q) (is_lost peers q))
+    → effect_of (found sides q) (is_lost peers q) ≡ later (effect_if (eq_by_cmp pair_cmp q pair) first) (effect_of (found sides q) (is_lost peers q))
 noted_effect-lost sides peers pair first q lost = let one = same_pair q pair in grind arith
 
 -- what is found stays where the pair is not among those
@@ -65,20 +65,20 @@ later-together first second third = grind arith
 
 -- one more item, before those that are noted before what was noted at first
 pub items_effect-more : (q : Pair) (items : List Item) (i rest : ℕ) (item : Item) (before old here : Effect) → i < length items → suc i ≡ rest → item ≡ get_or items i item
-    → old ≡ later (items_effect q (drop rest items)) before → here ≡ later (item_effect q (saying item)) old
+    → old ≡ later (items_effect q (drop rest items)) before → here ≡ later (item_effect q (item_value item)) old
     → here ≡ later (items_effect q (drop i items)) before
 items_effect-more q items i rest item before old here h next at noted step =
     step
-    ∙ ap₂ (λ a b. later (item_effect q (saying a)) b) at (noted ∙ ap (λ n. later (items_effect q (drop n items)) before) (sym next))
-    ∙ later-together (item_effect q (saying (get_or items i item))) (items_effect q (drop (suc i) items)) before
+    ∙ ap₂ (λ a b. later (item_effect q (item_value a)) b) at (noted ∙ ap (λ n. later (items_effect q (drop n items)) before) (sym next))
+    ∙ later-together (item_effect q (item_value (get_or items i item))) (items_effect q (drop (suc i) items)) before
     ∙ ap (λ xs. later (items_effect q xs) before) (sym (drop-cons items i item h))
 
 -- what items do, and others behind them
 items_effect-append : (q : Pair) (xs ys : List Item) → items_effect q (xs ++ ys) ≡ later (items_effect q xs) (items_effect q ys)
 items_effect-append q [] ys = sym (later-keep (items_effect q ys))
 items_effect-append q (x ∷ xs) ys =
-    ap (later (item_effect q (saying x))) (items_effect-append q xs ys)
-    ∙ later-together (item_effect q (saying x)) (items_effect q xs) (items_effect q ys)
+    ap (later (item_effect q (item_value x))) (items_effect-append q xs ys)
+    ∙ later-together (item_effect q (item_value x)) (items_effect q xs) (items_effect q ys)
 
 -- what is noted of a range, in front of what is noted from its end on
 noted-from : (q : Pair) (items : List Item) (a b : ℕ) (behind here : Effect) → a ≤ b → behind ≡ items_effect q (drop b items)
@@ -104,39 +104,39 @@ effect-parts q items a b c fourth third second first le le' back behind middle f
     ∙ ap (items_effect q) (take-append-drop a items)
 
 -- what announces with a route has it
-announces-has : (peer : Peer) (route same : Route) (s : Saying) → same ≡ route → Announces peer same s → HasRoute route s
+announces-has : (peer : Peer) (route same : Route) (s : ItemValue) → same ≡ route → Announces peer same s → HasRoute route s
 announces-has peer route same (Announced other network this) e is = is.1 ∙ e
 announces-has peer route same (Withdrawn other network) e is = absurd is
 announces-has peer route same (Changed other old new) e is = absurd is
 
 -- of items that share a route each has that of the first
-pub all-have_route : (items : List Item) (route : Route) → AreOfOneRoute (map saying items) → IfSome (slice_get items 0) (λ first. HasRoute route (saying first)) → AllByRecursion (λ item. HasRoute route (saying item)) items
-all-have_route [] route one has = tt
-all-have_route (first ∷ rest) route one has = (has, by (saying first) has one)
+pub all-route_presence : (items : List Item) (route : Route) → AnnounceOneRoute (map item_value items) → IfSome (slice_get items 0) (λ first. HasRoute route (item_value first)) → AllByRecursion (λ item. HasRoute route (item_value item)) items
+all-route_presence [] route one has = tt
+all-route_presence (first ∷ rest) route one has = (has, by (item_value first) has one)
   where
-    by : (s : Saying) → HasRoute route s → AreOfOneRoute (s ∷ map saying rest) → AllByRecursion (λ item. HasRoute route (saying item)) rest
+    by : (s : ItemValue) → HasRoute route s → AnnounceOneRoute (s ∷ map item_value rest) → AllByRecursion (λ item. HasRoute route (item_value item)) rest
     by (Announced peer network same) e all =
-        AllByRecursion-from_get_or (λ item. HasRoute route (saying item)) rest first (λ i within.
-        announces-has peer route same (saying (get_or rest i first)) e
-        (subst (Announces peer same) (get_or-map saying rest i first (saying first) within)
-        (All-get_or (Announces peer same) (map saying rest) i (saying first) (omega (arith, within, length-map rest saying)) all)))
+        AllByRecursion-from_get_or (λ item. HasRoute route (item_value item)) rest first (λ i within.
+        announces-has peer route same (item_value (get_or rest i first)) e
+        (subst (Announces peer same) (get_or-map item_value rest i first (item_value first) within)
+        (All-get_or (Announces peer same) (map item_value rest) i (item_value first) (omega (arith, within, length-map rest item_value)) all)))
     by (Withdrawn peer network) e all = absurd all
     by (Changed peer old new) e all = absurd all
 
 -- so has each by itself
 pub shared-at : (shared : Option (Bor (Rc Route Global))) (items : List Item) (i : ℕ) (item : Item) → i < length items → item ≡ get_or items i item
-    → IfSome shared (λ r. AllByRecursion (λ x. HasRoute r.now.value (saying x)) items) → IfSome shared (λ r. HasRoute r.now.value (saying item))
+    → IfSome shared (λ r. AllByRecursion (λ x. HasRoute r.now.value (item_value x)) items) → IfSome shared (λ r. HasRoute r.now.value (item_value item))
 shared-at None items i item within at all = tt
 shared-at (Some r) items i item within at all =
-    subst (λ x. HasRoute r.now.value (saying x)) (sym at) (AllByRecursion-get_or (λ x. HasRoute r.now.value (saying x)) items i item within all)
+    subst (λ x. HasRoute r.now.value (item_value x)) (sym at) (AllByRecursion-get_or (λ x. HasRoute r.now.value (item_value x)) items i item within all)
 
 -- what items say has the effects of the items
-pub effects-sayings : (q : Pair) (items : List Item) → map (item_effect q) (map saying items) ≡ map (λ item. item_effect q (saying item)) items
+pub effects-sayings : (q : Pair) (items : List Item) → map (item_effect q) (map item_value items) ≡ map (λ item. item_effect q (item_value item)) items
 effects-sayings q [] = refl
-effects-sayings q (item ∷ items) = ap (λ l. item_effect q (saying item) ∷ l) (effects-sayings q items)
+effects-sayings q (item ∷ items) = ap (λ l. item_effect q (item_value item) ∷ l) (effects-sayings q items)
 
 -- one more lost peer, before all that is noted
-pub lost-noted : (kept : Option (Option Route)) (b lost : Bool) → effect_of kept (cond b true lost) ≡ later (where_true b Clear) (effect_of kept lost)
+pub lost-noted : (kept : Option (Option Route)) (b lost : Bool) → effect_of kept (cond b true lost) ≡ later (effect_if b Clear) (effect_of kept lost)
 lost-noted kept b lost = grind arith
 
 -- a lost peer more, whose pairs that have a route lose it, is one less that is left

@@ -10,13 +10,13 @@ use Rattle.rib_player.specs.declared.pair.Pair.{Pair}
 use Rattle.mrt_events.specs.declared.event.Event.{Event}
 use Rattle.rib_player.specs.History.{Effect, effect, route_after}
 use Rattle.rib_player.specs.Tables.{Routes, Pairs, table, table_after, is_named, named_pairs}
-use Rattle.rib_player.specs.Timeline.{Timeline, end_of, behind, table_at, current, after_play, without_first, wanted, IsWellFormed}
+use Rattle.rib_player.specs.Timeline.{Timeline, end_of, undoable, table_at, current, after_play, without_first, needed_keys, IsWellFormed}
 use Rattle.rib_player.specs.Calls.{StandsFor, tables_along, steps_along}
 use Rattle.rib_player.specs.Claims.{is_routed, brings, clears, one_if, brought_along, claims_along, claims, without_last}
 use Rattle.rib_player.proofs.TableLaws.{get-table_after, contains-named_pairs}
 use Rattle.rib_player.proofs.HistoryLaws.{table-append}
 use Rattle.rib_player.proofs.JournalLaws.{unnamed-same}
-use Rattle.rib_player.proofs.KeyLaws.{contains-wanted, none_from}
+use Rattle.rib_player.proofs.KeyLaws.{contains-needed_keys, none_from}
 
 -- ---- a pair is claimed exactly where it has a route at some of the positions
 
@@ -100,9 +100,9 @@ routed-somewhere pair (before ∷ after ∷ tables) (step ∷ steps) names (suc 
     (routed-somewhere pair (after ∷ tables) steps names.1 i (omega arith))
 
 -- so a pair is wanted exactly where it is claimed
-pub wanted-claimed : (t : Timeline) (pair : Pair) → NameFor pair t.tables t.steps → t.cursor - t.floor < length t.tables → set.contains (wanted t) pair ≡ nat_lt 0 (claims t pair)
-wanted-claimed t pair names within =
-    contains-wanted t pair
+pub needed_keys-claimed : (t : Timeline) (pair : Pair) → NameFor pair t.tables t.steps → t.cursor - t.floor < length t.tables → set.contains (needed_keys t) pair ≡ nat_lt 0 (claims t pair)
+needed_keys-claimed t pair names within =
+    contains-needed_keys t pair
     ∙ sym (routed-somewhere pair t.tables t.steps names (t.cursor - t.floor) within)
     ∙ sym (claimed-somewhere pair t.tables)
 
@@ -135,13 +135,13 @@ length-tables_along past [] = refl
 length-tables_along past (event ∷ events) = ap suc (length-tables_along (past ++ event ∷ []) events)
 
 -- a player that stands for a history wants the pairs that it claims
-pub StandsFor-claimed : (t : Timeline) (history : List Event) (pair : Pair) → StandsFor t history → set.contains (wanted t) pair ≡ nat_lt 0 (claims t pair)
+pub StandsFor-claimed : (t : Timeline) (history : List Event) (pair : Pair) → StandsFor t history → set.contains (needed_keys t) pair ≡ nat_lt 0 (claims t pair)
 StandsFor-claimed t history pair stands =
     let past = take t.floor history in
     let events = drop t.floor history in
     let names = subst (λ ss. NameFor pair t.tables ss) (sym stands.steps) (subst (λ ts. NameFor pair ts (steps_along past events)) (sym stands.tables) (names-along pair past events)) in
     let positions : length t.tables ≡ suc (length events) = ap length stands.tables ∙ length-tables_along past events in
-    wanted-claimed t pair names (omega (arith, positions, length-drop t.floor history, stands.floor, stands.cursor))
+    needed_keys-claimed t pair names (omega (arith, positions, length-drop t.floor history, stands.floor, stands.cursor))
 
 -- ---- what calls make of claims
 
@@ -213,6 +213,6 @@ pub claims-played : (t : Timeline) (event : Event) (pair : Pair) → IsWellForme
     → claims (after_play t event) pair ≡ claims t pair + one_if (brings pair (current t) (table_after (current t) event))
 claims-played t event pair formed last =
     let new = table_after (current t) event in
-    let whole : take (behind t + 1) t.tables ≡ t.tables = take_all (behind t + 1) t.tables (omega (arith, formed.tables, last)) in
+    let whole : take (undoable t + 1) t.tables ≡ t.tables = take_all (undoable t + 1) t.tables (omega (arith, formed.tables, last)) in
     ap (λ ts. claims_along pair (ts ++ new ∷ [])) whole
     ∙ last-played pair t.tables new (t.cursor - t.floor) (omega (arith, formed.tables, last))

@@ -9,7 +9,7 @@ use Rattle.rib_player.specs.declared.pair.Pair.{Pair}
 use Rattle.rib_player.specs.declared.entry.Step.{Step}
 use Rattle.rib_player.specs.History.{pair_cmp}
 use Rattle.rib_player.specs.Journal.{pairs_in, steps_of, step_sides}
-use Rattle.rib_player.specs.Marks.{AreDistinct, entry_count}
+use Rattle.rib_player.specs.Sides.{AreDistinct, entry_count}
 use Rattle.rib_player.proofs.PairLaws.{pair_cmp_total}
 use Rattle.rib_player.proofs.MarkLaws.{tied, none-any, length-pairs}
 

@@ -18,11 +18,11 @@ use Rattle.ip_prefix.specs.OrderLaws.{network_cmp_total, network_cmp-IsAntisymme
 use Rattle.ip_prefix.proofs.Chunks.{bits_of-number_of, number_of-lt}
 use Rattle.mrt_events.specs.declared.peer.Peer.{Peer}
 use Rattle.rib_player.specs.declared.pair.Pair.{Pair}
-use Rattle.rib_player.specs.declared.claims.Counts.{Counts}
+use Rattle.rib_player.specs.declared.claims.PeerClaims.{PeerClaims}
 use Rattle.rib_player.specs.declared.claims.TheConstants.{ADDRESSES}
-use Rattle.rib_player.specs.FewCounts.{count_at}
-use Rattle.rib_player.specs.Claims.{count_of, v4_key, by_family, count_of_peer}
-use Rattle.rib_player.specs.Kept.{IsWritten}
+use Rattle.rib_player.specs.KeyCounts.{count_at}
+use Rattle.rib_player.specs.Claims.{count_of, v4_prefix_number, by_family, count_of_peer}
+use Rattle.rib_player.specs.Representation.{IsUpdatedAt}
 use Rattle.rib_player.proofs.MarkLaws.{tied}
 use Rattle.rib_player.proofs.StoreLaws.{same_peer, same_network, one_peer, peer_symm, tied_parts}
 
@@ -49,7 +49,7 @@ below : (n : Network) → leading n < ADDRESSES
 below n = subst (λ k. leading n < 2 ^ k) (long n) (number_of-lt (take V4_BITS (filled n)))
 
 -- a prefix is got back from its key
-one_key : (n p : Network) → n.family ≡ V4 → p.family ≡ V4 → length p.bits ≤ V4_BITS → v4_key n ≡ v4_key p → n ≡ p
+one_key : (n p : Network) → n.family ≡ V4 → p.family ≡ V4 → length p.bits ≤ V4_BITS → v4_prefix_number n ≡ v4_prefix_number p → n ≡ p
 one_key n p e f within same =
     let lengths : length n.bits ≡ length p.bits = omega (arith, same, below n, below p) in
     let numbers : leading n ≡ leading p = omega (arith, same, below n, below p) in
@@ -63,11 +63,11 @@ iff : (a b : Bool) → (a ≡ true → b ≡ true) → (b ≡ true → a ≡ tru
 iff a b there back = grind arith
 
 -- keys tie where prefixes do
-tied_keys : (n p : Network) → n.family ≡ V4 → p.family ≡ V4 → length p.bits ≤ V4_BITS → eq_by_cmp nat_cmp (v4_key n) (v4_key p) ≡ same_network n p
+tied_keys : (n p : Network) → n.family ≡ V4 → p.family ≡ V4 → length p.bits ≤ V4_BITS → eq_by_cmp nat_cmp (v4_prefix_number n) (v4_prefix_number p) ≡ same_network n p
 tied_keys n p e f within =
-    iff (eq_by_cmp nat_cmp (v4_key n) (v4_key p)) (same_network n p)
-    (λ t. ap (same_network n) (sym (one_key n p e f within (nat_cmp-IsAntisymmetric (v4_key n) (v4_key p) ((Equal-is (nat_cmp (v4_key n) (v4_key p))).0 t)))) ∙ (eq_by_cmp_equiv network_cmp_total).refl n)
-    (λ t. ap (λ x. eq_by_cmp nat_cmp (v4_key n) (v4_key x)) (sym (network_cmp-IsAntisymmetric n p ((Equal-is (network_cmp n p)).0 t))) ∙ (eq_by_cmp_equiv nat_cmp_total).refl (v4_key n))
+    iff (eq_by_cmp nat_cmp (v4_prefix_number n) (v4_prefix_number p)) (same_network n p)
+    (λ t. ap (same_network n) (sym (one_key n p e f within (nat_cmp-IsAntisymmetric (v4_prefix_number n) (v4_prefix_number p) ((Equal-is (nat_cmp (v4_prefix_number n) (v4_prefix_number p))).0 t)))) ∙ (eq_by_cmp_equiv network_cmp_total).refl n)
+    (λ t. ap (λ x. eq_by_cmp nat_cmp (v4_prefix_number n) (v4_prefix_number x)) (sym (network_cmp-IsAntisymmetric n p ((Equal-is (network_cmp n p)).0 t))) ∙ (eq_by_cmp_equiv nat_cmp_total).refl (v4_prefix_number n))
 
 -- prefixes of two families don't tie
 apart : (n p : Network) (f g : Family) → n.family ≡ f → p.family ≡ g → (f ≡ g → false ≡ true) → same_network n p ≡ false
@@ -76,26 +76,26 @@ apart n p f g e h differ =
     grind arith
 
 -- what is counted of keys, with this bit for the one that is meant, is counted of prefixes
-pub v4-counted : (old new : Counts) (p : Network) (R : ℕ → ℕ → Bool → Type 0) → p.family ≡ V4 → length p.bits ≤ V4_BITS → new.v6 ≡ old.v6
-    → ((k : ℕ) → R (count_at nat_cmp new.v4 k) (count_at nat_cmp old.v4 k) (eq_by_cmp nat_cmp k (v4_key p))) → ((m : ℕ) → R m m false) → (n : Network) → R (count_of new n) (count_of old n) (same_network n p)
+pub v4-counted : (old new : PeerClaims) (p : Network) (R : ℕ → ℕ → Bool → Type 0) → p.family ≡ V4 → length p.bits ≤ V4_BITS → new.v6 ≡ old.v6
+    → ((k : ℕ) → R (count_at nat_cmp new.v4 k) (count_at nat_cmp old.v4 k) (eq_by_cmp nat_cmp k (v4_prefix_number p))) → ((m : ℕ) → R m m false) → (n : Network) → R (count_of new n) (count_of old n) (same_network n p)
 v4-counted old new p R f within same keys other n = at n.family refl
   where
     at : (g : Family) → n.family ≡ g → R (count_of new n) (count_of old n) (same_network n p)
     at V4 e =
-        subst (λ g. R (by_family g (count_at nat_cmp new.v4 (v4_key n)) (count_at network_cmp new.v6 n)) (by_family g (count_at nat_cmp old.v4 (v4_key n)) (count_at network_cmp old.v6 n)) (same_network n p)) (sym e)
-        (subst (R (count_at nat_cmp new.v4 (v4_key n)) (count_at nat_cmp old.v4 (v4_key n))) (tied_keys n p e f within) (keys (v4_key n)))
+        subst (λ g. R (by_family g (count_at nat_cmp new.v4 (v4_prefix_number n)) (count_at network_cmp new.v6 n)) (by_family g (count_at nat_cmp old.v4 (v4_prefix_number n)) (count_at network_cmp old.v6 n)) (same_network n p)) (sym e)
+        (subst (R (count_at nat_cmp new.v4 (v4_prefix_number n)) (count_at nat_cmp old.v4 (v4_prefix_number n))) (tied_keys n p e f within) (keys (v4_prefix_number n)))
     at V6 e =
-        subst (λ g. R (by_family g (count_at nat_cmp new.v4 (v4_key n)) (count_at network_cmp new.v6 n)) (by_family g (count_at nat_cmp old.v4 (v4_key n)) (count_at network_cmp old.v6 n)) (same_network n p)) (sym e)
+        subst (λ g. R (by_family g (count_at nat_cmp new.v4 (v4_prefix_number n)) (count_at network_cmp new.v6 n)) (by_family g (count_at nat_cmp old.v4 (v4_prefix_number n)) (count_at network_cmp old.v6 n)) (same_network n p)) (sym e)
         (subst (λ m. R (count_at network_cmp m n) (count_at network_cmp old.v6 n) (same_network n p)) (sym same)
         (subst (R (count_at network_cmp old.v6 n) (count_at network_cmp old.v6 n)) (sym (apart n p V6 V4 e f (λ d. cc))) (other (count_at network_cmp old.v6 n))))
 
 -- ---- pair by pair
 
 abbrev pub Peers : Type 0
-Peers = tree.BTreeMap Peer (Box Counts Global)
+Peers = tree.BTreeMap Peer (Box PeerClaims Global)
 
 -- where other counts stand for a peer, what holds there of each prefix, and elsewhere, holds of each pair
-pub beyond-written : {peers peers' : List (Peer × Box Counts Global)} {w : Option (Box Counts Global)} (pair : Pair) → IsWritten peers peers' pair.peer w → (R : ℕ → ℕ → Bool → Type 0)
+pub beyond-written : {peers peers' : List (Peer × Box PeerClaims Global)} {w : Option (Box PeerClaims Global)} (pair : Pair) → IsUpdatedAt peers peers' pair.peer w → (R : ℕ → ℕ → Bool → Type 0)
     → ((n : Network) → R (count_of_peer w n) (count_of_peer (lookup (same_peer pair.peer) peers) n) (same_network n pair.prefix)) → ((m : ℕ) → R m m false)
     → (q : Pair) → R (count_of_peer (lookup (same_peer q.peer) peers') q.prefix) (count_of_peer (lookup (same_peer q.peer) peers) q.prefix) (tied q pair)
 beyond-written {peers = peers} {w = w} pair written R here elsewhere q =

@@ -7,7 +7,7 @@ use Rattle.mrt_events.specs.declared.event.Event.{Event}
 use Rattle.rib_player.specs.Tables.{Routes, Pairs, table_after, named_pairs}
 use Rattle.rib_player.specs.Timeline.{current, after_play, after_undo, after_redo}
 use Rattle.rib_player.specs.Journal.{Side, pairs_in, routes_across, tables_before, tables_after, tables_over, timeline_of}
-use Rattle.rib_player.specs.Marks.{sides_at, sides_across, IsStepFor}
+use Rattle.rib_player.specs.Sides.{sides_at, sides_across, IsStepFor}
 use Rattle.rib_player.proofs.BackAndForth.{after_undo-at, after_redo-at}
 use Rattle.rib_player.proofs.JournalLaws.{pairs_in-sides_across, routes_across-sides_across, routes_across-step}
 

@@ -16,7 +16,7 @@ use Rattle.rib_player.specs.History.{pair_cmp, effect, route_after}
 use Rattle.rib_player.specs.Tables.{Routes, table_after, is_named, named_pairs}
 use Rattle.rib_player.specs.Entries.{Entry}
 use Rattle.rib_player.specs.Journal.{Side, side_of, sides_of, pairs_in}
-use Rattle.rib_player.specs.Marks.{sides_across, AreDistinct, IsStepFor}
+use Rattle.rib_player.specs.Sides.{sides_across, AreDistinct, IsStepFor}
 use Rattle.rib_player.specs.Changes.{found, is_lost, effect_of, noted_effect, or_absent}
 use Rattle.rib_player.proofs.PairLaws.{pair_cmp_total, same_pair}
 use Rattle.rib_player.proofs.TableLaws.{get-table_after, contains-named_pairs}

@@ -14,13 +14,13 @@ use Rattle.mrt_events.specs.declared.event.Route.{Route}
 use Rattle.mrt_events.specs.Event.{peer_cmp}
 use Rattle.mrt_events.proofs.PeerLaws.{peer_cmp_total, peer_cmp-IsAntisymmetric}
 use Rattle.prefix_store.specs.Stored as stored
-use Rattle.prefix_store.specs.Stored.{counted}
+use Rattle.prefix_store.specs.Stored.{saturated_count}
 use Rattle.rib_player.specs.History.{pair_of}
 use Rattle.rib_player.specs.Tables.{Routes, Stores, store_at, routes_in, peer_routes, routed_peers}
 use Rattle.rib_player.specs.Lookups.{counted_peers}
-use Rattle.rib_player.specs.Kept.{IsWritten, have_route}
-use Rattle.rib_player.specs.Places.{ListsAll}
-use Rattle.rib_player.specs.Chosen.{choices}
+use Rattle.rib_player.specs.Representation.{IsUpdatedAt, route_presence}
+use Rattle.rib_player.specs.Indices.{ListsAll}
+use Rattle.rib_player.specs.SparseSet.{choices}
 use Rattle.rib_player.specs.StoresByPeer.{stores_in}
 use Rattle.rib_player.specs.Noted.{routed_in}
 use Rattle.rib_player.specs.declared.stores.Stores as numbered
@@ -90,7 +90,7 @@ module _ {S : Type 0} (routes : S → stored.Routes (Rc Route Global)) where
   -- what is listed of a store, if it has a route
   abbrev pub listed_count : Option S → Option ℕ
   listed_count None = None
-  listed_count (Some store) = cond (nat_lt 0 (finite.len (routes store))) (Some (counted (finite.len (routes store)))) None
+  listed_count (Some store) = cond (nat_lt 0 (finite.len (routes store))) (Some (saturated_count (finite.len (routes store)))) None
 
   -- each peer of these numbers is listed if it has a route, and no others are
   pub record IsFound (stores : Stores S) (order : List (Peer × ℕ)) (done : List ℕ) (found : List (Peer × ℕ)) : Type 0 where
@@ -112,10 +112,10 @@ module _ {S : Type 0} (routes : S → stored.Routes (Rc Route Global)) where
     }
 
     module _ (peer : Peer) (store : S) (there : store_at stores peer ≡ Some store) (named : (p : Peer) → lookup (same_peer p) order ≡ Some number → peer ≡ p)
-        (n : ℕ) (is : n ≡ counted (finite.len (routes store))) where
+        (n : ℕ) (is : n ≡ saturated_count (finite.len (routes store))) where
       pub found-empty : n ≤ 0 → IsFound stores order (done ++ number ∷ []) found
       found-empty none =
-          let no : listed_count (Some store) ≡ None = ap (λ b. cond b (Some (counted (finite.len (routes store)))) None) (le-ltb 0 (finite.len (routes store)) (omega (arith, is, none))) in
+          let no : listed_count (Some store) ≡ None = ap (λ b. cond b (Some (saturated_count (finite.len (routes store)))) None) (le-ltb 0 (finite.len (routes store)) (omega (arith, is, none))) in
           record {
             true_of = so_far.true_of;
             each = all-more _ done number so_far.each (λ p at.
@@ -123,10 +123,10 @@ module _ {S : Type 0} (routes : S → stored.Routes (Rc Route Global)) where
                 none-found (lookup (same_peer p) found) (listed_count (store_at stores p)) (so_far.true_of p) here ∙ sym here);
           }
 
-      pub found-more : {found' : List (Peer × ℕ)} → 0 < n → IsWritten found found' peer (Some n) → IsFound stores order (done ++ number ∷ []) found'
+      pub found-more : {found' : List (Peer × ℕ)} → 0 < n → IsUpdatedAt found found' peer (Some n) → IsFound stores order (done ++ number ∷ []) found'
       found-more {found' = found'} some written =
           let yes : Some n ≡ listed_count (Some store) =
-          ap Some is ∙ sym (ap (λ b. cond b (Some (counted (finite.len (routes store)))) None) (lt-ltb 0 (finite.len (routes store)) (omega (arith, is, some)))) in
+          ap Some is ∙ sym (ap (λ b. cond b (Some (saturated_count (finite.len (routes store)))) None) (lt-ltb 0 (finite.len (routes store)) (omega (arith, is, some)))) in
           let here : Some n ≡ listed_count (store_at stores peer) = yes ∙ ap listed_count (sym there) in
           record {
             true_of = λ p. subst (λ o. IfSome o (λ n. Some n ≡ listed_count (store_at stores p))) (sym (written.each p))
@@ -141,7 +141,7 @@ module _ {S : Type 0} (routes : S → stored.Routes (Rc Route Global)) where
           rewritten : (p : Peer) → lookup (same_peer p) found ≡ listed_count (store_at stores p) → lookup (same_peer p) found' ≡ listed_count (store_at stores p)
           rewritten p was = written.each p ∙ (elim (same_peer peer p) as (λ b. same_peer peer p ≡ b → cond b (Some n) (lookup (same_peer p) found) ≡ listed_count (store_at stores p)) [
             | true ↦ λ same.
-                ap Some is ∙ sym (ap (λ b. cond b (Some (counted (finite.len (routes store)))) None) (lt-ltb 0 (finite.len (routes store)) (omega (arith, is, some))))
+                ap Some is ∙ sym (ap (λ b. cond b (Some (saturated_count (finite.len (routes store)))) None) (lt-ltb 0 (finite.len (routes store)) (omega (arith, is, some))))
                 ∙ ap listed_count (sym there) ∙ ap (λ q. listed_count (store_at stores q)) (one_peer peer p same)
             | false ↦ λ differ. was
           ] refl)
@@ -155,10 +155,10 @@ module _ {S : Type 0} (routes : S → stored.Routes (Rc Route Global)) where
         there : (store : S) → store_at (stores_in s) p ≡ Some store → nat_lt 0 (finite.len (routes store)) ≡ true → lookup (same_peer p) found ≡ listed_count (store_at (stores_in s) p)
         there store is has =
             let flag : standing (choices s.routed) (lookup (same_peer p) s.order.entries) ≡ Some true =
-            sym (at-stores_of (numbered-along s.numbered (sym s.each)) p) ∙ noted p ∙ ap (have_route routes) is ∙ ap Some has in
+            sym (at-stores_of (numbered-along s.numbered (sym s.each)) p) ∙ noted p ∙ ap (route_presence routes) is ∙ ap Some has in
             elim (lookup (same_peer p) s.order.entries) as (λ o. lookup (same_peer p) s.order.entries ≡ o → standing (choices s.routed) o ≡ Some true → lookup (same_peer p) found ≡ listed_count (store_at (stores_in s) p)) [
               | None ↦ λ no lost. absurd cc
-              | Some number ↦ λ at chosen. all-contained _ numbers number whole.each (listed number chosen) p at
+              | Some number ↦ λ at sparse_set. all-contained _ numbers number whole.each (listed number sparse_set) p at
             ] refl flag
 
         at : (o : Option S) → store_at (stores_in s) p ≡ o → lookup (same_peer p) found ≡ listed_count (store_at (stores_in s) p)
@@ -167,22 +167,22 @@ module _ {S : Type 0} (routes : S → stored.Routes (Rc Route Global)) where
             elim (nat_lt 0 (finite.len (routes store))) as (λ b. nat_lt 0 (finite.len (routes store)) ≡ b → lookup (same_peer p) found ≡ listed_count (store_at (stores_in s) p)) [
               | true ↦ λ has. there store is has
               | false ↦ λ has_none.
-                  let no : listed_count (store_at (stores_in s) p) ≡ None = ap listed_count is ∙ ap (λ b. cond b (Some (counted (finite.len (routes store)))) None) has_none in
+                  let no : listed_count (store_at (stores_in s) p) ≡ None = ap listed_count is ∙ ap (λ b. cond b (Some (saturated_count (finite.len (routes store)))) None) has_none in
                   none-found (lookup (same_peer p) found) (listed_count (store_at (stores_in s) p)) (whole.true_of p) no ∙ sym no
             ] refl
 
     -- the count of a store is that of its peer's routes
     listed-routes : (all : Routes) (p : Peer) (store : Option S) → store ≡ store_at (stores_in s) p → routes_in routes (stores_in s) ≡ all
-        → listed_count store ≡ cond (nat_lt 0 (finite.len (peer_routes all p))) (Some (counted (finite.len (peer_routes all p)))) None
+        → listed_count store ≡ cond (nat_lt 0 (finite.len (peer_routes all p))) (Some (saturated_count (finite.len (peer_routes all p)))) None
     listed-routes all p None is e =
-        sym (ap (λ b. cond b (Some (counted (finite.len (peer_routes all p)))) None) (some-routes_in routes (stores_in s) all p None is e))
+        sym (ap (λ b. cond b (Some (saturated_count (finite.len (peer_routes all p)))) None) (some-routes_in routes (stores_in s) all p None is e))
     listed-routes all p (Some store) is e =
         let same = len-of_peer (routes store) all p (λ n. get-found routes (stores_in s) all (pair_of p n) (Some store) is e) in
-        sym (ap (λ n. cond (nat_lt 0 n) (Some (counted n)) None) same)
+        sym (ap (λ n. cond (nat_lt 0 n) (Some (saturated_count n)) None) same)
 
-    pub found-counted : (all : Routes) → routes_in routes (stores_in s) ≡ all → IsStrictlySortedBy peer_cmp (keys_of found) → found ≡ counted_peers all
+    pub found-saturated_count : (all : Routes) → routes_in routes (stores_in s) ≡ all → IsStrictlySortedBy peer_cmp (keys_of found) → found ≡ counted_peers all
     unfolding paired
-    found-counted all e sorted =
-        let count = λ (p : Peer). counted (finite.len (peer_routes all p)) in
+    found-saturated_count all e sorted =
+        let count = λ (p : Peer). saturated_count (finite.len (peer_routes all p)) in
         same_found found (counted_peers all) sorted (subst (IsStrictlySortedBy peer_cmp) (sym (keys-paired count (routed_peers all))) (peers-in_order all))
         (λ p. found-at p ∙ listed-routes all p (store_at (stores_in s) p) refl e ∙ sym (lookup-paired count p (routed_peers all) ∙ ap (λ b. cond b (Some (count p)) None) (has-routed_peers all p)))

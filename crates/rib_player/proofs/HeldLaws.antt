@@ -8,7 +8,7 @@ use Rattle.std.specs.FinSet.{contains-insert, contains-remove}
 use Rattle.std.proofs.lemmas.Bool.{lt-ltb, or_parts}
 use Rattle.rib_player.specs.declared.pair.Pair.{Pair}
 use Rattle.mrt_events.specs.declared.event.Route.{Route}
-use Rattle.prefix_store.specs.Stored.{put, AreAmong}
+use Rattle.prefix_store.specs.Stored.{put, ContainsDomain}
 use Rattle.prefix_store.proofs.PutLaws.{get-put}
 use Rattle.std.proofs.Math.Bool.{or-true}
 use Rattle.rib_player.specs.Tables.{Routes, Pairs}
@@ -94,7 +94,7 @@ one-or a b apart = grind arith
 
 -- ---- keys and routes with one pair more
 
-pub put-among : (keys keys' : Pairs) (routes routes' : Routes) (p : Pair) (new : Option Route) → keys' ≡ set.insert keys p → routes' ≡ put routes p new → AreAmong keys routes → AreAmong keys' routes'
+pub put-among : (keys keys' : Pairs) (routes routes' : Routes) (p : Pair) (new : Option Route) → keys' ≡ set.insert keys p → routes' ≡ put routes p new → ContainsDomain keys routes → ContainsDomain keys' routes'
 put-among keys keys' routes routes' p new more after among q out =
     let apart = or_parts (tied q p) (set.contains keys q) (sym (ap (λ k. set.contains k q) more ∙ contains-insert pair_cmp_total keys p q) ∙ out) in
     ap (λ r. finite.get r q) after ∙ get-put pair_cmp_total routes p new q ∙ ap (λ b. cond b new (finite.get routes q)) apart.0 ∙ among q apart.1

@@ -17,7 +17,7 @@ use Rattle.rib_player.specs.History.{pair_cmp, Effect, effect, route_after}
 use Rattle.prefix_store.specs.Stored.{put}
 use Rattle.rib_player.specs.Tables.{Routes, Pairs, table_after, is_named, route_in}
 use Rattle.rib_player.specs.Journal.{Side, side_of, sides_of, pairs_in, routes_across}
-use Rattle.rib_player.specs.Marks.{sides_across, IsKept, IsStepFor}
+use Rattle.rib_player.specs.Sides.{sides_across, AreDistinctKeys, IsStepFor}
 use Rattle.rib_player.proofs.PairLaws.{pair_cmp_total, same_pair}
 use Rattle.rib_player.proofs.TableLaws.{same_routes, get-table_after, contains-named_pairs}
 use Rattle.octet_forms.proofs.Booleans.{cond-cond, cond_untested}
@@ -43,28 +43,28 @@ rest_of_entries i entries first default within same =
     front ∙ ap (λ es. get_or entries i default ∷ es) (sym (ap (drop 1) front) ∙ drop-drop 1 i first)
 
 -- kept entries are still kept without the first
-pub kept-tail : (keys : Pairs) (side : Side) (sides : List Side) → IsKept keys (side ∷ sides) → IsKept keys sides
+pub kept-tail : (keys : Pairs) (side : Side) (sides : List Side) → AreDistinctKeys keys (side ∷ sides) → AreDistinctKeys keys sides
 kept-tail keys side sides kept = record {
   distinct = IsDistinct-tail (eq_by_cmp pair_cmp) side.0 (pairs_in sides) kept.distinct;
   among_keys = kept.among_keys.1;
 }
 
 -- crossing kept entries one by one
-pub sides_across-tail : (keys : Pairs) (routes : Routes) (side : Side) (sides : List Side) → IsKept keys (side ∷ sides)
+pub sides_across-tail : (keys : Pairs) (routes : Routes) (side : Side) (sides : List Side) → AreDistinctKeys keys (side ∷ sides)
     → sides_across (put routes side.0 side.1) sides ≡ sides_across routes sides
 sides_across-tail keys routes side sides kept =
     sides_across-put routes side.0 side.1 sides (IsDistinct-head (eq_by_cmp pair_cmp) side.0 (pairs_in sides) kept.distinct)
 
 -- one entry more is crossed
 pub entries-more : (keys : Pairs) (routes routes' : Routes) (entries rest : List Entry) (i : ℕ) (entry entry' : Entry) (whole : List Side) → i < length entries
-    → IsKept keys (sides_of (entry ∷ rest)) → routes' ≡ put routes entry.pair (route_in entry.other) → side_of entry' ≡ (entry.pair, finite.get routes entry.pair)
+    → AreDistinctKeys keys (sides_of (entry ∷ rest)) → routes' ≡ put routes entry.pair (route_in entry.other) → side_of entry' ≡ (entry.pair, finite.get routes entry.pair)
     → sides_of (take i entries) ++ sides_across routes (sides_of (entry ∷ rest)) ≡ whole
     → sides_of (take (i + 1) (set entries i entry')) ++ sides_across routes' (sides_of rest) ≡ whole
-entries-more keys routes routes' entries rest i entry entry' whole within kept put_there given before =
+entries-more keys routes routes' entries rest i entry entry' whole within kept put_there taken_out before =
     ap (λ es. sides_of es ++ sides_across routes' (sides_of rest)) (take_more_set entries i entry' within)
     ∙ ap (λ s. s ++ sides_across routes' (sides_of rest)) (map-append side_of (take i entries) (entry' ∷ []))
     ∙ append_assoc (sides_of (take i entries)) (side_of entry' ∷ []) (sides_across routes' (sides_of rest))
-    ∙ ap (λ s. sides_of (take i entries) ++ (s ∷ sides_across routes' (sides_of rest))) given
+    ∙ ap (λ s. sides_of (take i entries) ++ (s ∷ sides_across routes' (sides_of rest))) taken_out
     ∙ ap (λ s. sides_of (take i entries) ++ ((entry.pair, finite.get routes entry.pair) ∷ s))
     (ap (λ r. sides_across r (sides_of rest)) put_there ∙ sides_across-tail keys routes (side_of entry) (sides_of rest) kept)
     ∙ before

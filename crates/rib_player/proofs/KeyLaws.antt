@@ -10,9 +10,9 @@ use Rattle.std.proofs.lemmas.List.Folds.{list_any-append}
 use Rattle.std.proofs.Math.Bool.{or-true}
 use Rattle.rib_player.specs.declared.pair.Pair.{Pair}
 use Rattle.rib_player.specs.Tables.{Pairs}
-use Rattle.rib_player.specs.Timeline.{Timeline, current, wanted}
+use Rattle.rib_player.specs.Timeline.{Timeline, current, needed_keys}
 use Rattle.rib_player.specs.Journal.{Side, pairs_in}
-use Rattle.rib_player.specs.Marks.{IsKept, AreDistinct}
+use Rattle.rib_player.specs.Sides.{AreDistinctKeys, AreDistinct}
 use Rattle.rib_player.proofs.PairLaws.{pair_cmp_total}
 use Rattle.rib_player.proofs.MarkLaws.{tied, all-among}
 
@@ -30,9 +30,9 @@ any-flat : (q : Pair) (steps : List Pairs) → list_any (tied q) (flat_map set.i
 any-flat q [] = refl
 any-flat q (s ∷ steps) = list_any-append (tied q) (set.items s) (flat_map set.items steps) ∙ ap₂ (λ a b. a || b) (sym (contains-items s q)) (any-flat q steps)
 
-pub contains-wanted : (t : Timeline) (q : Pair) → set.contains (wanted t) q ≡ (is_some (finite.get (current t) q) || list_any (λ (s : Pairs). set.contains s q) t.steps)
-unfolding wanted
-contains-wanted t q =
+pub contains-needed_keys : (t : Timeline) (q : Pair) → set.contains (needed_keys t) q ≡ (is_some (finite.get (current t) q) || list_any (λ (s : Pairs). set.contains s q) t.steps)
+unfolding needed_keys
+contains-needed_keys t q =
     contains-from_list pair_cmp_total (finite.keys (current t) ++ flat_map set.items t.steps) q
     ∙ list_any-append (tied q) (finite.keys (current t)) (flat_map set.items t.steps)
     ∙ ap₂ (λ a b. a || b) (sym (contains_key-keys (current t) q)) (any-flat q t.steps)
@@ -44,7 +44,7 @@ any-sides q (sides ∷ steps) = ap₂ (λ a b. a || b) (contains-from_list pair_
 
 -- ---- keys of all pairs that steps name
 
-all-kept : (keys : Pairs) (steps : List (List Side)) → AllByRecursion AreDistinct steps → ((q : Pair) → list_any (side_named q) steps ≡ true → set.contains keys q ≡ true) → AllByRecursion (IsKept keys) steps
+all-kept : (keys : Pairs) (steps : List (List Side)) → AllByRecursion AreDistinct steps → ((q : Pair) → list_any (side_named q) steps ≡ true → set.contains keys q ≡ true) → AllByRecursion (AreDistinctKeys keys) steps
 all-kept keys [] distinct have = tt
 all-kept keys (sides ∷ steps) distinct have = (
   record { distinct = distinct.0; among_keys = all-among (λ p. set.contains keys p ≡ true) (pairs_in sides) (λ q there. have q (ap (λ b. b || list_any (side_named q) steps) there)) },
@@ -52,9 +52,9 @@ all-kept keys (sides ∷ steps) distinct have = (
 )
 
 -- the steps of a player that has the wanted keys can be crossed
-pub wanted-kept : (keys : Pairs) (t : Timeline) (steps : List (List Side)) → keys ≡ wanted t → t.steps ≡ map (λ (sides : List Side). set.from_list (pairs_in sides)) steps
-    → AllByRecursion AreDistinct steps → AllByRecursion (IsKept keys) steps
-wanted-kept keys t steps same named distinct = all-kept keys steps distinct (λ q there.
-    ap (λ k. set.contains k q) same ∙ contains-wanted t q
+pub needed_keys-kept : (keys : Pairs) (t : Timeline) (steps : List (List Side)) → keys ≡ needed_keys t → t.steps ≡ map (λ (sides : List Side). set.from_list (pairs_in sides)) steps
+    → AllByRecursion AreDistinct steps → AllByRecursion (AreDistinctKeys keys) steps
+needed_keys-kept keys t steps same named distinct = all-kept keys steps distinct (λ q there.
+    ap (λ k. set.contains k q) same ∙ contains-needed_keys t q
     ∙ ap (λ b. is_some (finite.get (current t) q) || b) (ap (list_any (λ (s : Pairs). set.contains s q)) named ∙ any-sides q steps ∙ there)
     ∙ or-true (is_some (finite.get (current t) q)))

@@ -8,7 +8,7 @@ use Rattle.rib_player.proofs.PairLaws.{pair_cmp_total, pair_cmp-IsAntisymmetric}
 use Rattle.rib_player.proofs.TableLaws.{get-table, get-table_after, contains-named_pairs}
 use Rattle.rib_player.proofs.PeerLaws.{get-peer_routes, has-routed_peers, peers-in_order, all-peers, peers-next}
 use Rattle.prefix_store.proofs.AboveLaws.{none-above}
-use Rattle.rib_player.proofs.KeyLaws.{contains-wanted}
+use Rattle.rib_player.proofs.KeyLaws.{contains-needed_keys}
 
 pub ruleset law_lemmas = (
   StandsFor-claimed,
@@ -39,5 +39,5 @@ pub ruleset law_lemmas = (
   all-peers,
   peers-next,
   none-above,
-  contains-wanted,
+  contains-needed_keys,
 )

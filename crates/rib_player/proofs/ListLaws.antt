@@ -1,5 +1,5 @@
 -- What stands in a list of which an element was written, added or taken out.
-pub use Rattle.rib_player.specs.Places.{IsSwapped}
+pub use Rattle.rib_player.specs.Indices.{IsSwapRemoved}
 use Rattle.std.proofs.Common.{◌≡◌, ◌≢◌, ℕ, zero, suc, ◌+◌, ◌-◌, ◌<◌, ◌≤◌, true, List, [], ◌∷◌, ◌++◌, map, set, length, get_or, Option, Some, None, is_some, slice_get, refl, sym, ap, ◌∙◌, arith, Bor, option_map, option_copied}
 use Rattle.std.specs.List.{AllByRecursion}
 use Rattle.std.specs.Slice.{IsItemAt}
@@ -49,7 +49,7 @@ module _ {X : Type 0} where
 
   -- the same, where the lists are told to have so many
   pub swapped : (old new : List X) (n n' i : ℕ) (d : X) → n ≡ length old → n' ≡ length new → n' + 1 ≡ n → ((d : X) → i + 1 < n → get_or new i d ≡ get_or old (n - 1) d)
-      → ((j : ℕ) (d : X) → j ≢ i → j + 1 < n → get_or new j d ≡ get_or old j d) → IsSwapped old new i
+      → ((j : ℕ) (d : X) → j ≢ i → j + 1 < n → get_or new j d ≡ get_or old j d) → IsSwapRemoved old new i
   swapped old new n n' i d is is' less last others = record {
     len = omega (arith, is, is', less);
     last = λ within.
@@ -61,7 +61,7 @@ module _ {X : Type 0} where
         ∙ sym (slice_get-get_or old j d (omega (arith, within, is, is', less)));
   }
 
-pub swapped-map : {X Y : Type 0} (f : X → Y) (old new : List X) (i : ℕ) → IsSwapped old new i → IsSwapped (map f old) (map f new) i
+pub swapped-map : {X Y : Type 0} (f : X → Y) (old new : List X) (i : ℕ) → IsSwapRemoved old new i → IsSwapRemoved (map f old) (map f new) i
 swapped-map f old new i is = record {
   len = omega (arith, is.len, length-map old f, length-map new f);
   last = λ within.

@@ -16,15 +16,15 @@ use Rattle.mrt_events.proofs.PeerLaws.{peer_cmp_total}
 use Rattle.std.proofs.lemmas.Map.Keys.{IsDistinct-from_sorted}
 use Rattle.rib_player.specs.declared.pair.Pair.{Pair}
 use Rattle.rib_player.specs.Entries.{Entry}
-use Rattle.rib_player.specs.Kept.{cleared_entries}
+use Rattle.rib_player.specs.Representation.{cleared_entries}
 use Rattle.rib_player.specs.Lookups.{value_of}
 use Rattle.rib_player.specs.declared.changes.Changes.{Changes}
 use Rattle.rib_player.specs.Changes.{found, is_lost, effect_of, noted_effect}
-use Rattle.rib_player.specs.History.{pair_cmp, pair_of, effect, where_true, Clear, route_after}
+use Rattle.rib_player.specs.History.{pair_cmp, pair_of, effect, effect_if, Clear, route_after}
 use Rattle.rib_player.specs.Tables.{Routes, table_after, is_named, named_pairs, peer_routes}
 use Rattle.rib_player.specs.Journal.{Side, side_of, sides_of, pairs_in, routes_across}
-use Rattle.rib_player.specs.Marks.{cleared_side, sides_across, ClearAllOf, AreDistinct, IsStepFor, marks_of, marks_across, gives_up_by}
-use Rattle.rib_player.specs.declared.entry.End.TheVariants.{Last}
+use Rattle.rib_player.specs.Sides.{cleared_side, sides_across, ClearAllOf, AreDistinct, IsStepFor, marks_of, marks_across, any_releases_claim_of}
+use Rattle.rib_player.specs.declared.entry.JournalEnd.TheVariants.{Last}
 use Rattle.mrt_events.specs.declared.event.Route.{Route}
 use Rattle.std.specs.declared.rc.Rc.{Rc}
 use Rattle.prefix_store.proofs.AboveLaws.{keys-in_order}
@@ -73,12 +73,12 @@ module _ (routes : Routes) (peer : Peer) (sides : List Side) (cleared : ClearAll
   lost-distinct = subst AreDistinct (sym cleared) (distinct-cleared peer (finite.keys (peer_routes routes peer)) (keys-in_order (peer_routes routes peer)))
 
 -- the sides of pairs that a peer loses are those of the step of an event that does nothing else
-module _ (routes : Routes) (event : Event) (peer : Peer) (alone : (q : Pair) → effect q event ≡ where_true (same_peer q.peer peer) Clear) where
+module _ (routes : Routes) (event : Event) (peer : Peer) (alone : (q : Pair) → effect q event ≡ effect_if (same_peer q.peer peer) Clear) where
   -- such a pair has no route then
   none_then : (q : Pair) → same_peer q.peer peer ≡ true → None ≡ finite.get (table_after routes event) q
-  none_then q of_peer = sym (get-table_after routes event q ∙ ap (route_after (finite.get routes q)) (alone q ∙ ap (λ b. where_true b Clear) of_peer))
+  none_then q of_peer = sym (get-table_after routes event q ∙ ap (route_after (finite.get routes q)) (alone q ∙ ap (λ b. effect_if b Clear) of_peer))
 
-  named-then : (b : Bool) (before : Option _) → (b && is_some before) ≡ is_named before (where_true b Clear)
+  named-then : (b : Bool) (before : Option _) → (b && is_some before) ≡ is_named before (effect_if b Clear)
   named-then b before = grind arith
 
   -- all of them are the peer's
@@ -105,10 +105,10 @@ only-first (key ∷ other ∷ keys) first peer one is told = grind (arith, one)
 
 -- an event of which nothing but a loss is noted does just that
 pub lost-alone : (event : Event) (changes : Changes) (peer : Peer) → ((q : Pair) → noted_effect changes q ≡ effect q event) → changes.entries.items ≡ [] → changes.lost.keys ≡ peer ∷ []
-    → (q : Pair) → effect q event ≡ where_true (same_peer q.peer peer) Clear
+    → (q : Pair) → effect q event ≡ effect_if (same_peer q.peer peer) Clear
 lost-alone event changes peer notes none one q =
     sym (notes q) ∙ ap₂ (λ (entries : List Entry) (peers : List Peer). effect_of (found (sides_of entries) q) (is_lost peers q)) none one
-    ∙ ap (λ b. where_true b Clear) (or-false (same_peer q.peer peer))
+    ∙ ap (λ b. effect_if b Clear) (or-false (same_peer q.peer peer))
 
 -- ---- the routes that they get
 
@@ -120,28 +120,28 @@ cleared-nil (entry ∷ entries) = refl
 pub record AreTaken (routes : Routes) (old new : List Entry) : Type 0 where
   pub sides : sides_of new ≡ sides_across routes (sides_of old)
   pub marks : marks_of new ≡ marks_across routes (sides_of old)
-  pub unbrought : (q : Pair) → gives_up_by Last (marks_of new) q ≡ false
+  pub unbrought : (q : Pair) → any_releases_claim_of Last (marks_of new) q ≡ false
 
-taken : (routes : Routes) (peer : Peer) (own : List (Network × Route)) (entries : List Entry) (given : List (Rc Route Global)) → AllByRecursion (λ e. finite.get routes (pair_of peer e.0) ≡ Some e.1) own
-    → sides_of entries ≡ map (cleared_side peer) (map (λ (e : Network × Route). e.0) own) → map value_of given ≡ map (λ (e : Network × Route). e.1) own → AreTaken routes entries (cleared_entries entries given)
-taken routes peer [] [] given found same values = record { sides = refl; marks = refl; unbrought = λ q. refl }
-taken routes peer [] (entry ∷ entries) given found same values = cc
-taken routes peer (e ∷ own) [] given found same values = cc
+taken : (routes : Routes) (peer : Peer) (own : List (Network × Route)) (entries : List Entry) (taken_out : List (Rc Route Global)) → AllByRecursion (λ e. finite.get routes (pair_of peer e.0) ≡ Some e.1) own
+    → sides_of entries ≡ map (cleared_side peer) (map (λ (e : Network × Route). e.0) own) → map value_of taken_out ≡ map (λ (e : Network × Route). e.1) own → AreTaken routes entries (cleared_entries entries taken_out)
+taken routes peer [] [] taken_out found same values = record { sides = refl; marks = refl; unbrought = λ q. refl }
+taken routes peer [] (entry ∷ entries) taken_out found same values = cc
+taken routes peer (e ∷ own) [] taken_out found same values = cc
 taken routes peer (e ∷ own) (entry ∷ entries) [] found same values = cc
-taken routes peer (e ∷ own) (entry ∷ entries) (route ∷ given) found same values =
-    let rest = taken routes peer own entries given found.1 (ap (drop 1) same) (ap (drop 1) values) in
+taken routes peer (e ∷ own) (entry ∷ entries) (route ∷ taken_out) found same values =
+    let rest = taken routes peer own entries taken_out found.1 (ap (drop 1) same) (ap (drop 1) values) in
     let side : side_of entry ≡ cleared_side peer e.0 = (let first = same in cc) in
     let value : route.value ≡ e.1 = (let first = values in cc) in
     let route_then : Some route.value ≡ finite.get routes entry.pair = ap Some value ∙ sym found.0 ∙ ap (λ (s : Side). finite.get routes s.0) (sym side) in
     record {
       sides = ap₂ (λ r ss. (entry.pair, r) ∷ ss) route_then rest.sides;
-      marks = λ i. record { pair = entry.pair; before = ap is_some route_then i; behind = ap (λ (s : Side). is_some s.1) (sym side) i } ∷ rest.marks i;
+      marks = λ i. record { pair = entry.pair; before = ap is_some route_then i; after = ap (λ (s : Side). is_some s.1) (sym side) i } ∷ rest.marks i;
       unbrought = rest.unbrought;
     }
 
-pub taken-peer : (routes : Routes) (peer : Peer) (entries : List Entry) (given : List (Rc Route Global)) → ClearAllOf routes peer (sides_of entries) → map value_of given ≡ finite.values (peer_routes routes peer)
-    → AreTaken routes entries (cleared_entries entries given)
-taken-peer routes peer entries given cleared values = taken routes peer (finite.entries (peer_routes routes peer)) entries given (each-of_peer routes peer) cleared values
+pub taken-peer : (routes : Routes) (peer : Peer) (entries : List Entry) (taken_out : List (Rc Route Global)) → ClearAllOf routes peer (sides_of entries) → map value_of taken_out ≡ finite.values (peer_routes routes peer)
+    → AreTaken routes entries (cleared_entries entries taken_out)
+taken-peer routes peer entries taken_out cleared values = taken routes peer (finite.entries (peer_routes routes peer)) entries taken_out (each-of_peer routes peer) cleared values
 
 -- and leave the routes of the others
 across-taken : (new : Routes) (peer : Peer) (prefixes : List Network) → ((n : Network) → finite.get new (pair_of peer n) ≡ None) → map (cleared_side peer) prefixes ≡ sides_across new (map (cleared_side peer) prefixes)

@@ -12,14 +12,14 @@ use Rattle.std.proofs.Math.Bool.{or-true}
 use Rattle.octet_forms.proofs.Lists.{AllByRecursion-take}
 use Rattle.rib_player.specs.declared.pair.Pair.{Pair}
 use Rattle.rib_player.specs.declared.entry.Step.{Step}
-use Rattle.rib_player.specs.declared.entry.End.{End}
-use Rattle.rib_player.specs.declared.entry.End.TheVariants.{Last}
+use Rattle.rib_player.specs.declared.entry.JournalEnd.{JournalEnd}
+use Rattle.rib_player.specs.declared.entry.JournalEnd.TheVariants.{Last}
 use Rattle.rib_player.specs.Entries.{Entry}
 use Rattle.rib_player.specs.History.{pair_cmp}
 use Rattle.rib_player.specs.Tables.{Routes}
 use Rattle.rib_player.specs.Claims.{is_routed}
 use Rattle.rib_player.specs.Journal.{Side, sides_of, pairs_in, step_sides}
-use Rattle.rib_player.specs.Marks.{Mark, mark_of, marks_of, step_marks, named_by, leaves, gives_up, gives_up_by, marks_across, IsMarkOf, AreMarksOf, AreMarked}
+use Rattle.rib_player.specs.Sides.{Mark, mark_of, marks_of, step_marks, named_by, releases_at, releases_claim, any_releases_claim_of, marks_across, IsMarkOf, AreMarksOf, AreMarked}
 use Rattle.rib_player.proofs.PairLaws.{pair_cmp_total, same_pair, pair_symm}
 
 abbrev pub tied : Pair → Pair → Bool
@@ -102,32 +102,32 @@ length-pairs [] = refl
 length-pairs (e ∷ entries) = ap suc (length-pairs entries)
 
 -- a mark more
-pub gives_up_by-push : (end : End) (marks : List Mark) (m : Mark) (q : Pair) → gives_up_by end (marks ++ m ∷ []) q ≡ (gives_up_by end marks q || (gives_up end m && tied q m.pair))
-gives_up_by-push end [] m q = grind arith
-gives_up_by-push end (first ∷ marks) m q = grind (arith, gives_up_by-push end marks m q)
+pub any_releases_claim_of-push : (end : JournalEnd) (marks : List Mark) (m : Mark) (q : Pair) → any_releases_claim_of end (marks ++ m ∷ []) q ≡ (any_releases_claim_of end marks q || (releases_claim end m && tied q m.pair))
+any_releases_claim_of-push end [] m q = grind arith
+any_releases_claim_of-push end (first ∷ marks) m q = grind (arith, any_releases_claim_of-push end marks m q)
 
 -- a step gives up claims of pairs that it names alone
-pub gives_up_by-named : (end : End) (marks : List Mark) (q : Pair) → named_by marks q ≡ false → gives_up_by end marks q ≡ false
-gives_up_by-named end [] q out = refl
-gives_up_by-named end (m ∷ marks) q out = let later = gives_up_by-named end marks q in grind arith
+pub any_releases_claim_of-named : (end : JournalEnd) (marks : List Mark) (q : Pair) → named_by marks q ≡ false → any_releases_claim_of end marks q ≡ false
+any_releases_claim_of-named end [] q out = refl
+any_releases_claim_of-named end (m ∷ marks) q out = let later = any_releases_claim_of-named end marks q in grind arith
 
 -- ---- marks that are right
 
 -- of a pair on whose sides of a step there is a route on both or on none nothing is given up
-same-sides : (end : End) (a b : Bool) → a ≡ b → leaves end a b ≡ false
+same-sides : (end : JournalEnd) (a b : Bool) → a ≡ b → releases_at end a b ≡ false
 same-sides end a b e = grind arith
 
 -- what right marks give up is what the tables say of the pairs that they name
-gives-named : (end : End) (before after : Routes) (marks : List Mark) (q : Pair) → AllByRecursion (IsMarkOf before after) marks
-    → gives_up_by end marks q ≡ (named_by marks q && leaves end (is_routed q before) (is_routed q after))
+gives-named : (end : JournalEnd) (before after : Routes) (marks : List Mark) (q : Pair) → AllByRecursion (IsMarkOf before after) marks
+    → any_releases_claim_of end marks q ≡ (named_by marks q && releases_at end (is_routed q before) (is_routed q after))
 gives-named end before after [] q all = refl
 gives-named end before after (m ∷ marks) q all =
     let one = same_pair q m.pair in
     let later = gives-named end before after marks q all.1 in
-    grind (arith, all.0.mark_before, all.0.mark_behind)
+    grind (arith, all.0.mark_before, all.0.mark_after)
 
 -- so of all pairs: a dropped step gives up a claim of those that it brings, a forgotten one of those that it clears
-pub gives-between : (end : End) (before after : Routes) (marks : List Mark) (q : Pair) → AreMarksOf before after marks → gives_up_by end marks q ≡ leaves end (is_routed q before) (is_routed q after)
+pub gives-between : (end : JournalEnd) (before after : Routes) (marks : List Mark) (q : Pair) → AreMarksOf before after marks → any_releases_claim_of end marks q ≡ releases_at end (is_routed q before) (is_routed q after)
 gives-between end before after marks q are =
     let named = gives-named end before after marks q are.right in
     let none = same-sides end (is_routed q before) (is_routed q after) in
@@ -140,7 +140,7 @@ named-routed before after [] q all there = cc
 named-routed before after (m ∷ marks) q all there =
     let one = same_pair q m.pair in
     let later = named-routed before after marks q all.1 in
-    grind (arith, all.0.mark_before, all.0.mark_behind, all.0.some)
+    grind (arith, all.0.mark_before, all.0.mark_after, all.0.some)
 
 -- ---- marks by step
 
@@ -191,27 +191,27 @@ pub step-names : (step : Step) (q : Pair) → set.contains (set.from_list {R = p
 step-names step q = contains-from_list pair_cmp_total (pairs_in (step_sides step)) q ∙ ap (list_any (tied q)) (sym (pairs-same step.entries.items))
 
 -- a claim that an entry gives up is given up by its step
-pub gives-at : (end : End) (entries : List Entry) (i : ℕ) (d : Entry) → i < length entries → gives_up end (mark_of (get_or entries i d)) ≡ true
-    → gives_up_by end (marks_of entries) (get_or entries i d).pair ≡ true
+pub gives-at : (end : JournalEnd) (entries : List Entry) (i : ℕ) (d : Entry) → i < length entries → releases_claim end (mark_of (get_or entries i d)) ≡ true
+    → any_releases_claim_of end (marks_of entries) (get_or entries i d).pair ≡ true
 gives-at end [] i d within gives = absurd (omega arith)
 gives-at end (e ∷ entries) zero d within gives = let itself = tied_itself e.pair in grind arith
 gives-at end (e ∷ entries) (suc i) d within gives = let later = gives-at end entries i d (omega arith) gives in grind arith
 
 -- and not by those before it
-pub gives-before : (end : End) (entries : List Entry) (i : ℕ) (d : Entry) → i < length entries → IsDistinct tied (pairs_in (sides_of entries))
-    → gives_up_by end (marks_of (take i entries)) (get_or entries i d).pair ≡ false
-gives-before end entries i d within distinct = gives_up_by-named end (marks_of (take i entries)) (get_or entries i d).pair (distinct-before entries i d within distinct)
+pub gives-before : (end : JournalEnd) (entries : List Entry) (i : ℕ) (d : Entry) → i < length entries → IsDistinct tied (pairs_in (sides_of entries))
+    → any_releases_claim_of end (marks_of (take i entries)) (get_or entries i d).pair ≡ false
+gives-before end entries i d within distinct = any_releases_claim_of-named end (marks_of (take i entries)) (get_or entries i d).pair (distinct-before entries i d within distinct)
 
 -- what the first entries and one more give up
-pub gives-more : (end : End) (entries : List Entry) (i : ℕ) (e : Entry) (q : Pair) → i < length entries → e ≡ get_or entries i e
-    → gives_up_by end (marks_of (take (i + 1) entries)) q ≡ (gives_up_by end (marks_of (take i entries)) q || (gives_up end (mark_of e) && tied q e.pair))
+pub gives-more : (end : JournalEnd) (entries : List Entry) (i : ℕ) (e : Entry) (q : Pair) → i < length entries → e ≡ get_or entries i e
+    → any_releases_claim_of end (marks_of (take (i + 1) entries)) q ≡ (any_releases_claim_of end (marks_of (take i entries)) q || (releases_claim end (mark_of e) && tied q e.pair))
 gives-more end entries i e q within is =
-    ap (λ es. gives_up_by end (marks_of es) q) (take_more entries i e within ∙ ap (λ x. take i entries ++ x ∷ []) (sym is))
-    ∙ ap (λ ms. gives_up_by end ms q) (map-append mark_of (take i entries) (e ∷ []))
-    ∙ gives_up_by-push end (marks_of (take i entries)) (mark_of e) q
+    ap (λ es. any_releases_claim_of end (marks_of es) q) (take_more entries i e within ∙ ap (λ x. take i entries ++ x ∷ []) (sym is))
+    ∙ ap (λ ms. any_releases_claim_of end ms q) (map-append mark_of (take i entries) (e ∷ []))
+    ∙ any_releases_claim_of-push end (marks_of (take i entries)) (mark_of e) q
 
 -- a pair that a step brings has no route before it
-pub gives-none : (routes : Routes) (sides : List Side) (q : Pair) → gives_up_by Last (marks_across routes sides) q ≡ true → finite.get routes q ≡ None
+pub gives-none : (routes : Routes) (sides : List Side) (q : Pair) → any_releases_claim_of Last (marks_across routes sides) q ≡ true → finite.get routes q ≡ None
 gives-none routes [] q e = cc
 gives-none routes (side ∷ sides) q e =
     let later = gives-none routes sides q in

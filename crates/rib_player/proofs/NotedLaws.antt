@@ -10,8 +10,8 @@ use Rattle.ip_prefix.specs.OrderLaws.{network_cmp_total}
 use Rattle.prefix_store.specs.Stored as stored
 use Rattle.mrt_events.specs.declared.peer.Peer.{Peer}
 use Rattle.mrt_events.specs.declared.event.Route.{Route}
-use Rattle.rib_player.specs.Chosen.{choices}
-use Rattle.rib_player.specs.Kept.{have_route}
+use Rattle.rib_player.specs.SparseSet.{choices}
+use Rattle.rib_player.specs.Representation.{route_presence}
 use Rattle.rib_player.specs.Lent.{IsLent}
 use Rattle.rib_player.specs.Noted.{routed_in}
 use Rattle.rib_player.specs.StoresByPeer.{stores_in}
@@ -26,7 +26,7 @@ len-put routes prefix None = let fewer = finite.len-remove network_cmp_total rou
 len-put routes prefix (Some route) = let more = finite.len-insert network_cmp_total routes prefix route in grind arith
 
 -- so where there are several behind it, there are some before it
-pub some-before : {X : Type 0} (before after : stored.Routes X) (n : ℕ) → finite.len after ≤ finite.len before + 1 → n ≡ stored.counted (finite.len after) → 1 < n → nat_lt 0 (finite.len before) ≡ true
+pub some-before : {X : Type 0} (before after : stored.Routes X) (n : ℕ) → finite.len after ≤ finite.len before + 1 → n ≡ stored.saturated_count (finite.len after) → 1 < n → nat_lt 0 (finite.len before) ≡ true
 some-before before after n most is more = lt-ltb 0 (finite.len before) (omega (arith, most, is, more))
 
 -- of a store that had some it is noted, also while it is written
@@ -36,4 +36,4 @@ pub noted-there : {S : Type 0} (routes : S → stored.Routes (Rc Route Global)) 
 noted-there routes old between {peer = peer} lent noted found is has =
     ap (standing (choices between.routed)) (sym (ap (lookup (same_peer peer)) lent.order ∙ found))
     ∙ sym (at-stores_of (numbered-along between.numbered (sym between.each)) peer)
-    ∙ ap (lookup (same_peer peer)) lent.routed ∙ noted peer ∙ ap (have_route routes) (sym is) ∙ ap Some has
+    ∙ ap (lookup (same_peer peer)) lent.routed ∙ noted peer ∙ ap (route_presence routes) (sym is) ∙ ap Some has

@@ -13,11 +13,11 @@ use Rattle.mrt_events.specs.Event.{peer_cmp}
 use Rattle.mrt_events.proofs.PeerLaws.{peer_cmp_total}
 use Rattle.rib_player.specs.Tables.{store_at}
 use Rattle.rib_player.specs.StoresByPeer.{stores_of}
-use Rattle.rib_player.specs.Kept.{IsWritten}
+use Rattle.rib_player.specs.Representation.{IsUpdatedAt}
 use Rattle.rib_player.specs.Numbered.{AreNumbered}
-use Rattle.rib_player.specs.Places.{IsReplaced}
+use Rattle.rib_player.specs.Indices.{IsSetAt}
 use Rattle.rib_player.proofs.StoreLaws.{same_peer, one_peer, one_of}
-use Rattle.rib_player.proofs.ListLaws.{get-set_same, get-set_other, get-push_last, get-push_other, get-within, get-past, IsSwapped}
+use Rattle.rib_player.proofs.ListLaws.{get-set_same, get-set_other, get-push_last, get-push_other, get-within, get-past, IsSwapRemoved}
 
 pub same_itself : (peer : Peer) → same_peer peer peer ≡ true
 same_itself = (eq_by_cmp_equiv peer_cmp_total).refl
@@ -28,7 +28,7 @@ module _ {A : Type 0} where
   apart order one other differ = let tie = one_peer one other in grind arith
 
   -- what stands where something was written
-  module _ {old new : List (Peer × A)} {peer : Peer} {w : Option A} (written : IsWritten old new peer w) (p : Peer) where
+  module _ {old new : List (Peer × A)} {peer : Peer} {w : Option A} (written : IsUpdatedAt old new peer w) (p : Peer) where
     written-here : same_peer peer p ≡ true → lookup (same_peer p) new ≡ w
     written-here same = written.each p ∙ ap (λ b. cond b w (lookup (same_peer p) old)) same
 
@@ -115,7 +115,7 @@ module _ {S : Type 0} where
         ] refl
 
     -- nothing goes of a peer without a store
-    pub stores-absent : {order' : List (Peer × ℕ)} {peer : Peer} → lookup (same_peer peer) order ≡ None → order' ≡ order → IsWritten (stores_of held order) (stores_of held order') peer None
+    pub stores-absent : {order' : List (Peer × ℕ)} {peer : Peer} → lookup (same_peer peer) order ≡ None → order' ≡ order → IsUpdatedAt (stores_of held order) (stores_of held order') peer None
     stores-absent {peer = peer} none same = record { each = λ p. let one = one_peer peer p in grind (arith, at-stores_of p) }
 
     -- a store is written
@@ -127,11 +127,11 @@ module _ {S : Type 0} where
     numbered-along many = record { there = are.there; back = are.back; even = are.even ∙ many }
 
     -- where one was taken out, the peer that stands there then stood last
-    moved-last : {names' : List Peer} {number : ℕ} → IsSwapped names names' number → (other : Peer) → slice_get names' number ≡ Some other → lookup (same_peer other) order ≡ Some (length names')
+    moved-last : {names' : List Peer} {number : ℕ} → IsSwapRemoved names names' number → (other : Peer) → slice_get names' number ≡ Some other → lookup (same_peer other) order ≡ Some (length names')
     moved-last {names' = names'} {number = number} peers other is = are.back other (length names') (sym (peers.last (slice_get_within names' number other is)) ∙ is)
 
   module _ {held : List S} {names : List Peer} {order : List (Peer × ℕ)} (are : AreNumbered held names order) {peer : Peer} {number : ℕ} (found : lookup (same_peer peer) order ≡ Some number) (w : S) where
-    pub stores-write : IsWritten (stores_of held order) (stores_of (set held number w) order) peer (Some w)
+    pub stores-write : IsUpdatedAt (stores_of held order) (stores_of (set held number w) order) peer (Some w)
     stores-write = record { each = λ p. at-stores_of (numbered-write are number w) p ∙ at p ∙ ap (cond (same_peer peer p) (Some w)) (sym (at-stores_of are p)) }
       where
         at : (p : Peer) → stored (set held number w) (lookup (same_peer p) order) ≡ cond (same_peer peer p) (Some w) (stored held (lookup (same_peer p) order))
@@ -142,8 +142,8 @@ module _ {S : Type 0} where
             grind arith
 
   -- what stands at a peer's number is another
-  pub stores-replaced : {held held' : List S} {names : List Peer} {order : List (Peer × ℕ)} → AreNumbered held names order → {number : ℕ} {w : S} → IsReplaced held held' number w
-      → (peer : Peer) → lookup (same_peer peer) order ≡ Some number → IsWritten (stores_of held order) (stores_of held' order) peer (Some w)
+  pub stores-replaced : {held held' : List S} {names : List Peer} {order : List (Peer × ℕ)} → AreNumbered held names order → {number : ℕ} {w : S} → IsSetAt held held' number w
+      → (peer : Peer) → lookup (same_peer peer) order ≡ Some number → IsUpdatedAt (stores_of held order) (stores_of held' order) peer (Some w)
   stores-replaced {held = held} {held' = held'} {order = order} are {number = number} {w = w} new peer found =
       let are' = numbered-along are (sym new.len) in
       record { each = λ p. at-stores_of are' p ∙ at p ∙ ap (cond (same_peer peer p) (Some w)) (sym (at-stores_of are p)) }
@@ -157,7 +157,7 @@ module _ {S : Type 0} where
 
   -- a store is added, of a peer that has none, behind all others
   module _ {held : List S} {names : List Peer} {order order' : List (Peer × ℕ)} (are : AreNumbered held names order) {peer : Peer} (store : S) (none : lookup (same_peer peer) order ≡ None)
-      (updated : IsWritten order order' peer (Some (length held))) where
+      (updated : IsUpdatedAt order order' peer (Some (length held))) where
     there-insert : (p : Peer) (n : ℕ) → lookup (same_peer p) order' ≡ Some n → slice_get (names ++ peer ∷ []) n ≡ Some p
     there-insert p n is =
         let has = updated.each p in
@@ -185,7 +185,7 @@ module _ {S : Type 0} where
       even = omega (arith, are.even, length_push names peer, length_push held store);
     }
 
-    stores-insert : IsWritten (stores_of held order) (stores_of (held ++ store ∷ []) order') peer (Some store)
+    stores-insert : IsUpdatedAt (stores_of held order) (stores_of (held ++ store ∷ []) order') peer (Some store)
     stores-insert = record { each = λ p. at-stores_of numbered-insert p ∙ ap (stored (held ++ store ∷ [])) (updated.each p) ∙ at p ∙ ap (cond (same_peer peer p) (Some store)) (sym (at-stores_of are p)) }
       where
         at : (p : Peer) → stored (held ++ store ∷ []) (cond (same_peer peer p) (Some (length held)) (lookup (same_peer p) order)) ≡ cond (same_peer peer p) (Some store) (stored held (lookup (same_peer p) order))
@@ -196,17 +196,17 @@ module _ {S : Type 0} where
 
   -- the same, by what the lists are then
   pub numbered-added : {held held' : List S} {names names' : List Peer} {order order' : List (Peer × ℕ)} {peer : Peer} {store : S} {number : ℕ} → AreNumbered held names order
-      → lookup (same_peer peer) order ≡ None → number ≡ length held → held' ≡ held ++ store ∷ [] → names' ≡ names ++ peer ∷ [] → IsWritten order order' peer (Some number)
-      → AreNumbered held' names' order' × IsWritten (stores_of held order) (stores_of held' order') peer (Some store)
+      → lookup (same_peer peer) order ≡ None → number ≡ length held → held' ≡ held ++ store ∷ [] → names' ≡ names ++ peer ∷ [] → IsUpdatedAt order order' peer (Some number)
+      → AreNumbered held' names' order' × IsUpdatedAt (stores_of held order) (stores_of held' order') peer (Some store)
   numbered-added {held = held} {names = names} {names' = names'} {order = order} {order' = order'} {peer = peer} {store = store} are none last stores peers updated =
-      let at-last = subst (λ n. IsWritten order order' peer (Some n)) last updated in (
+      let at-last = subst (λ n. IsUpdatedAt order order' peer (Some n)) last updated in (
         subst (λ hs. AreNumbered hs names' order') (sym stores) (subst (λ ns. AreNumbered (held ++ store ∷ []) ns order') (sym peers) (numbered-insert are store none at-last)),
-        subst (λ hs. IsWritten (stores_of held order) (stores_of hs order') peer (Some store)) (sym stores) (stores-insert are store none at-last),
+        subst (λ hs. IsUpdatedAt (stores_of held order) (stores_of hs order') peer (Some store)) (sym stores) (stores-insert are store none at-last),
       )
 
   module _ {held : List S} {names : List Peer} {order : List (Peer × ℕ)} (are : AreNumbered held names order) {peer : Peer} {number : ℕ} (found : lookup (same_peer peer) order ≡ Some number) where
     -- the peer that goes stood last itself
-    renumbered-last : {order' : List (Peer × ℕ)} (last : ℕ) → number ≡ last → IsWritten order order' peer None → IsRenumbered order order' peer last number
+    renumbered-last : {order' : List (Peer × ℕ)} (last : ℕ) → number ≡ last → IsUpdatedAt order order' peer None → IsRenumbered order order' peer last number
     renumbered-last last is removed = record {
       gone = written-here removed peer (same_itself peer);
       moved = λ p differ here. absurd (numbers-differ are peer p number last found here differ (sym is));
@@ -216,7 +216,7 @@ module _ {S : Type 0} where
 
     -- another one stood last, and gets its number
     renumbered-other : {order1 order' : List (Peer × ℕ)} (other : Peer) (last : ℕ) → number ≢ last → lookup (same_peer other) order ≡ Some last
-        → IsWritten order order1 peer None → IsWritten order1 order' other (Some number) → IsRenumbered order order' peer last number
+        → IsUpdatedAt order order1 peer None → IsUpdatedAt order1 order' other (Some number) → IsRenumbered order order' peer last number
     renumbered-other other last differs at-last removed written = record {
       gone = written-elsewhere written peer (apart order other peer (λ e. differs (one_of number last (sym found ∙ sym e ∙ at-last)))) ∙ written-here removed peer (same_itself peer);
       moved = λ p differ here.
@@ -229,21 +229,21 @@ module _ {S : Type 0} where
           ∙ removed.each p ∙ none-either (same_peer peer p) (lookup (same_peer p) order) here;
     }
 
-    module _ {names' : List Peer} (peers : IsSwapped names names' number) where
-      pub moved-found : {order1 : List (Peer × ℕ)} → IsWritten order order1 peer None → (other : Peer) → slice_get names' number ≡ Some other → lookup (same_peer other) order1 ≡ Some (length names')
+    module _ {names' : List Peer} (peers : IsSwapRemoved names names' number) where
+      pub moved-found : {order1 : List (Peer × ℕ)} → IsUpdatedAt order order1 peer None → (other : Peer) → slice_get names' number ≡ Some other → lookup (same_peer other) order1 ≡ Some (length names')
       moved-found removed other is =
           written-elsewhere removed other (apart order peer other (λ e. moved-differs names' number other is (one_of number (length names') (sym found ∙ e ∙ moved-last are peers other is)))) ∙ moved-last are peers other is
 
-      pub renumbered-moved : {order1 order' : List (Peer × ℕ)} → IsWritten order order1 peer None → (other : Peer) → slice_get names' number ≡ Some other → IsWritten order1 order' other (Some number)
+      pub renumbered-moved : {order1 order' : List (Peer × ℕ)} → IsUpdatedAt order order1 peer None → (other : Peer) → slice_get names' number ≡ Some other → IsUpdatedAt order1 order' other (Some number)
           → IsRenumbered order order' peer (length names') number
       renumbered-moved removed other is written = renumbered-other other (length names') (moved-differs names' number other is) (moved-last are peers other is) removed written
 
-      pub renumbered-gone : {order1 : List (Peer × ℕ)} → IsWritten order order1 peer None → slice_get names' number ≡ None → IsRenumbered order order1 peer (length names') number
+      pub renumbered-gone : {order1 : List (Peer × ℕ)} → IsUpdatedAt order order1 peer None → slice_get names' number ≡ None → IsRenumbered order order1 peer (length names') number
       renumbered-gone removed none =
           renumbered-last (length names') (omega (arith, named-there are peer number found, peers.len, get-past names' number none)) removed
 
     -- a store goes
-    module _ {held' : List S} {names' : List Peer} {order' : List (Peer × ℕ)} (stores : IsSwapped held held' number) (peers : IsSwapped names names' number)
+    module _ {held' : List S} {names' : List Peer} {order' : List (Peer × ℕ)} (stores : IsSwapRemoved held held' number) (peers : IsSwapRemoved names names' number)
         (new : IsRenumbered order order' peer (length names') number) where
       there-remove : (p : Peer) (n : ℕ) → lookup (same_peer p) order' ≡ Some n → slice_get names' n ≡ Some p
       there-remove p n is = at (same_peer peer p) refl (lookup (same_peer p) order) refl
@@ -280,7 +280,7 @@ module _ {S : Type 0} where
       numbered-remove : AreNumbered held' names' order'
       numbered-remove = record { there = there-remove; back = back-remove; even = omega (arith, are.even, stores.len, peers.len) }
 
-      pub stores-remove : AreNumbered held' names' order' × IsWritten (stores_of held order) (stores_of held' order') peer None
+      pub stores-remove : AreNumbered held' names' order' × IsUpdatedAt (stores_of held order) (stores_of held' order') peer None
       stores-remove = (
         numbered-remove,
         record {

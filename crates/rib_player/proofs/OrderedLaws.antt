@@ -49,7 +49,7 @@ found-dedup q (entry ∷ entries) = found_from q entry entries
 
 -- an entry of this pair, to compare others with
 abbrev entry_of : Pair → Entry
-entry_of q = record { pair = q; other = None; before = false; behind = false }
+entry_of q = record { pair = q; other = None; before = false; after = false }
 
 -- whether an entry ties with those of this pair
 abbrev tied : Pair → Entry → Bool

@@ -20,8 +20,8 @@ use Rattle.octet_forms.proofs.Options.{is_some-option_map}
 use Rattle.ip_prefix.specs.Network.{Address, Network, network_cmp}
 use Rattle.ip_prefix.specs.OrderLaws.{network_cmp_total, network_cmp-IsAntisymmetric}
 use Rattle.prefix_store.specs.Stored as stored
-use Rattle.prefix_store.specs.Stored.{counted}
-use Rattle.prefix_store.specs.Lookups.{above, pointed, IsLongest, is_higher}
+use Rattle.prefix_store.specs.Stored.{saturated_count}
+use Rattle.prefix_store.specs.Lookups.{above, dereferenced, IsLongestMatch, is_above_bound}
 use Rattle.prefix_store.proofs.AboveLaws.{take-nil, is_less, is_true, keys-in_order, higher-next}
 use Rattle.mrt_events.specs.declared.peer.Peer.{Peer}
 use Rattle.mrt_events.specs.declared.event.Route.{Route}
@@ -31,7 +31,7 @@ use Rattle.rib_player.specs.declared.pair.Pair.{Pair}
 use Rattle.rib_player.specs.History.{pair_cmp, pair_of}
 use Rattle.rib_player.specs.Tables.{Routes, Stores, store_at, routes_in, peer_routes, routed_peers}
 use Rattle.rib_player.specs.Lookups.{IsBest, pointed_routes, peers_above, value_of}
-use Rattle.rib_player.specs.Kept.{IsWritten, routed_stores, peer_count}
+use Rattle.rib_player.specs.Representation.{IsUpdatedAt, routed_stores, peer_count}
 use Rattle.rib_player.proofs.ListLaws.{all-then}
 use Rattle.rib_player.proofs.StoreLaws.{same_peer, one_peer, peer_symm, tied_parts, any-pairs, get-found, routes_in-other}
 
@@ -162,7 +162,7 @@ module _ (own : stored.Routes (Rc Route Global)) (all : Routes) (peer : Peer) (s
       at first = grind arith
 
   -- so are more
-  pub front-above : (low : Option Network) (room : ℕ) (found : List (Network × Bor (Rc Route Global))) → pointed found ≡ take room (above low (finite.entries own))
+  pub front-above : (low : Option Network) (room : ℕ) (found : List (Network × Bor (Rc Route Global))) → dereferenced found ≡ take room (above low (finite.entries own))
       → pointed_routes found ≡ take room (above low (finite.entries (peer_routes all peer)))
   front-above low room found is =
       at found
@@ -170,12 +170,12 @@ module _ (own : stored.Routes (Rc Route Global)) (all : Routes) (peer : Peer) (s
       ∙ sym (take-map (λ (f : Network × Rc Route Global). (f.0, f.1.value)) room (above low (finite.entries own)))
       ∙ ap (take room) (above-of_peer low)
     where
-      at : (found : List (Network × Bor (Rc Route Global))) → pointed_routes found ≡ valued (pointed found)
+      at : (found : List (Network × Bor (Rc Route Global))) → pointed_routes found ≡ valued (dereferenced found)
       at [] = refl
       at (f ∷ found) = grind (arith, at found)
 
   -- and the best one
-  pub best-of_peer : (address : Address) (best : Option (Network × Bor (Rc Route Global))) → IsLongest own address (option_map (λ b. (b.0, b.1.now)) best) → IsBest all peer address (option_map (λ b. (b.0, b.1.now.value)) best)
+  pub best-of_peer : (address : Address) (best : Option (Network × Bor (Rc Route Global))) → IsLongestMatch own address (option_map (λ b. (b.0, b.1.now)) best) → IsBest all peer address (option_map (λ b. (b.0, b.1.now.value)) best)
   best-of_peer address None longest = λ n within. sym (same n) ∙ ap (option_map value_of) (longest n within)
   best-of_peer address (Some best) longest = (
     longest.0,
@@ -206,7 +206,7 @@ module _ (all : Routes) (peer : Peer) (none : (n : Network) → finite.get all (
 
 -- ---- the routes once those of a peer are taken
 
-pub routes-taken : {S : Type 0} (routes : S → stored.Routes (Rc Route Global)) {old new : Stores S} {peer : Peer} {w : S} → IsWritten old new peer (Some w)
+pub routes-taken : {S : Type 0} (routes : S → stored.Routes (Rc Route Global)) {old new : Stores S} {peer : Peer} {w : S} → IsUpdatedAt old new peer (Some w)
     → routes w ≡ finite.empty → (q : Pair) → finite.get (routes_in routes new) q ≡ cond (same_peer q.peer peer) None (finite.get (routes_in routes old) q)
 routes-taken routes {old = old} {peer = peer} written none q =
     routes_in-other routes written q
@@ -353,44 +353,44 @@ module _ {S : Type 0} (routes : S → stored.Routes (Rc Route Global)) where
 
   -- the stores above a peer that have a route
   abbrev stores_above : Option Peer → Stores S → Stores S
-  stores_above low stores = filter (λ (entry : Peer × S). has_route entry && is_higher peer_cmp low entry.0) stores
+  stores_above low stores = filter (λ (entry : Peer × S). has_route entry && is_above_bound peer_cmp low entry.0) stores
 
-  shown-above : (low : Option Peer) (test : Peer → Bool) (stores : Stores S) → ((p : Peer) → test p ≡ is_higher peer_cmp low p)
+  shown-above : (low : Option Peer) (test : Peer → Bool) (stores : Stores S) → ((p : Peer) → test p ≡ is_above_bound peer_cmp low p)
       → routed_stores routes (filter (λ (entry : Peer × S). test entry.0) stores) ≡ stores_above low stores
   shown-above low test stores same =
       filter_twice has_route (λ (entry : Peer × S). test entry.0) stores
-      ∙ filter_agree (λ (entry : Peer × S). test entry.0 && has_route entry) (λ (entry : Peer × S). has_route entry && is_higher peer_cmp low entry.0)
-      (λ entry. ap (λ b. b && has_route entry) (same entry.0) ∙ and_comm (is_higher peer_cmp low entry.0) (has_route entry)) stores
+      ∙ filter_agree (λ (entry : Peer × S). test entry.0 && has_route entry) (λ (entry : Peer × S). has_route entry && is_above_bound peer_cmp low entry.0)
+      (λ entry. ap (λ b. b && has_route entry) (same entry.0) ∙ and_comm (is_above_bound peer_cmp low entry.0) (has_route entry)) stores
 
   keys-above : (low : Option Peer) (stores : Stores S) → keys_of (stores_above low stores) ≡ peers_above low (keys_of (routed_stores routes stores))
   keys-above low stores =
-      ap keys_of (sym (filter_twice (λ (entry : Peer × S). is_higher peer_cmp low entry.0) has_route stores))
-      ∙ keys-filter (is_higher peer_cmp low) (routed_stores routes stores)
+      ap keys_of (sym (filter_twice (λ (entry : Peer × S). is_above_bound peer_cmp low entry.0) has_route stores))
+      ∙ keys-filter (is_above_bound peer_cmp low) (routed_stores routes stores)
 
   -- the first of these, and its count
-  pub first_counted : (low : Option Peer) (test : Peer → Bool) (stores shown : Stores S) (all : Routes) → ((p : Peer) → test p ≡ is_higher peer_cmp low p)
+  pub first_counted : (low : Option Peer) (test : Peer → Bool) (stores shown : Stores S) (all : Routes) → ((p : Peer) → test p ≡ is_above_bound peer_cmp low p)
       → IsStrictlySortedBy peer_cmp (keys_of stores) → shown ≡ filter (λ (entry : Peer × S). test entry.0) stores → routes_in routes stores ≡ all
       → option_map (peer_count routes) (slice_get (routed_stores routes shown) 0)
-      ≡ option_map {U = Peer × ℕ} (λ p. (p, counted (finite.len (peer_routes all p)))) (slice_get (peers_above low (routed_peers all)) 0)
+      ≡ option_map {U = Peer × ℕ} (λ p. (p, saturated_count (finite.len (peer_routes all p)))) (slice_get (peers_above low (routed_peers all)) 0)
   first_counted low test stores shown all same sorted is e =
       ap (λ s. option_map (peer_count routes) (slice_get s 0)) (ap (routed_stores routes) is ∙ shown-above low test stores same)
       ∙ at (slice_get (stores_above low stores) 0) refl
-      ∙ ap (option_map {U = Peer × ℕ} (λ p. (p, counted (finite.len (peer_routes all p))))) (sym (slice_get-map (λ (entry : Peer × S). entry.0) (stores_above low stores) 0)
+      ∙ ap (option_map {U = Peer × ℕ} (λ p. (p, saturated_count (finite.len (peer_routes all p))))) (sym (slice_get-map (λ (entry : Peer × S). entry.0) (stores_above low stores) 0)
       ∙ ap (λ s. slice_get s 0) (keys-above low stores ∙ ap (peers_above low) (sym (keys-routed_stores stores all sorted e))))
     where
       at : (first : Option (Peer × S)) → slice_get (stores_above low stores) 0 ≡ first
-          → option_map (peer_count routes) first ≡ option_map {U = Peer × ℕ} (λ p. (p, counted (finite.len (peer_routes all p)))) (option_map {U = Peer} (λ (entry : Peer × S). entry.0) first)
+          → option_map (peer_count routes) first ≡ option_map {U = Peer × ℕ} (λ p. (p, saturated_count (finite.len (peer_routes all p)))) (option_map {U = Peer} (λ (entry : Peer × S). entry.0) first)
       at None f = refl
       at (Some entry) f =
-          ap (λ n. Some (entry.0, counted n)) (sym (len-of_peer (routes entry.1) all entry.0 (λ n. get-found routes stores all (pair_of entry.0 n) (Some entry.1)
-          (sym (first_found (λ (entry : Peer × S). has_route entry && is_higher peer_cmp low entry.0) stores entry sorted f)) e)))
+          ap (λ n. Some (entry.0, saturated_count n)) (sym (len-of_peer (routes entry.1) all entry.0 (λ n. get-found routes stores all (pair_of entry.0 n) (Some entry.1)
+          (sym (first_found (λ (entry : Peer × S). has_route entry && is_above_bound peer_cmp low entry.0) stores entry sorted f)) e)))
 
   -- a count of at least 1 is that of a store with a route
-  pub routed-more : (peer : Peer) (store : S) (rest : Stores S) (n : ℕ) → n ≡ counted (finite.len (routes store)) → 0 < n
+  pub routed-more : (peer : Peer) (store : S) (rest : Stores S) (n : ℕ) → n ≡ saturated_count (finite.len (routes store)) → 0 < n
       → routed_stores routes ((peer, store) ∷ rest) ≡ (peer, store) ∷ routed_stores routes rest
   routed-more peer store rest n is some = ap (λ b. cond b ((peer, store) ∷ routed_stores routes rest) (routed_stores routes rest)) (lt-ltb 0 (finite.len (routes store)) (omega (arith, is, some)))
 
-  pub routed-none : (peer : Peer) (store : S) (rest : Stores S) (n : ℕ) → n ≡ counted (finite.len (routes store)) → n ≤ 0
+  pub routed-none : (peer : Peer) (store : S) (rest : Stores S) (n : ℕ) → n ≡ saturated_count (finite.len (routes store)) → n ≤ 0
       → routed_stores routes ((peer, store) ∷ rest) ≡ routed_stores routes rest
   routed-none peer store rest n is none = ap (λ b. cond b ((peer, store) ∷ routed_stores routes rest) (routed_stores routes rest)) (le-ltb 0 (finite.len (routes store)) (omega (arith, is, none)))
 

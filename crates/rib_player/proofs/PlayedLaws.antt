@@ -12,24 +12,24 @@ use Rattle.std.proofs.Math.Bool.{or-true}
 use Rattle.mrt_events.specs.declared.event.Event.{Event}
 use Rattle.rib_player.specs.declared.pair.Pair.{Pair}
 use Rattle.rib_player.specs.declared.entry.Step.{Step}
-use Rattle.rib_player.specs.declared.entry.End.TheVariants.{First, Last}
+use Rattle.rib_player.specs.declared.entry.JournalEnd.TheVariants.{First, Last}
 use Rattle.rib_player.specs.History.{pair_cmp}
 use Rattle.rib_player.specs.Tables.{Routes, Pairs, table_after, named_pairs, Contents}
-use Rattle.rib_player.specs.Timeline.{Timeline, after_play, wanted, IsWellFormed}
+use Rattle.rib_player.specs.Timeline.{Timeline, after_play, needed_keys, IsWellFormed}
 use Rattle.rib_player.specs.Claims.{is_routed, one_if, brings, claims_along, held_claims, AreHeld}
 use Rattle.rib_player.specs.Journal.{Side, pairs_in, step_sides, steps_of, tables_over, timeline_of, routes_across}
-use Rattle.rib_player.specs.Marks.{sides_at, sides_across, IsKept, AreDistinct, IsStepFor, Mark, marks_by_step, step_marks, marks_across, gives_up_by, IsMarkOf, AreMarksOf, AreMarked}
-use Rattle.rib_player.specs.Calls.{IsPlayed, IsCrossed, AreClaimed, CanDrop}
+use Rattle.rib_player.specs.Sides.{sides_at, sides_across, AreDistinctKeys, AreDistinct, IsStepFor, Mark, marks_by_step, step_marks, marks_across, any_releases_claim_of, IsMarkOf, AreMarksOf, AreMarked}
+use Rattle.rib_player.specs.Calls.{IsConsistentJournal, IsStepSwapped, AreClaimed, CanDrop}
 use Rattle.octet_forms.proofs.Lists.{AllByRecursion-get_or, AllByRecursion-set, AllByRecursion-push, AllByRecursion-take}
 use Rattle.rib_player.proofs.PairLaws.{pair_cmp_total}
 use Rattle.rib_player.proofs.StoreLaws.{same_pairs}
 use Rattle.rib_player.proofs.JournalLaws.{pairs_in-sides_across, routes_across-step}
 use Rattle.rib_player.proofs.CursorLaws.{earlier, tables-behind, tables-added, tables-back, tables-on, length-earlier, length-tables, at-cursor, timeline-after_play, added}
 use Rattle.rib_player.proofs.ForgetLaws.{tables-forgotten}
-use Rattle.rib_player.proofs.KeyLaws.{any-take, none_from, wanted-kept}
+use Rattle.rib_player.proofs.KeyLaws.{any-take, none_from, needed_keys-kept}
 use Rattle.rib_player.proofs.MarkLaws.{tied, tied_itself, pairs_marked, gives-between, named-routed, marked-length, marked-take, marked-last, marked-push, marked-first, step-names}
 use Rattle.rib_player.proofs.HeldLaws.{held-key, some-key, one_true}
-use Rattle.rib_player.proofs.ClaimLaws.{NameFor, wanted-claimed, claimed-somewhere, few-claims, first-forgotten, last-claims, last-played, unclaimed, unclaimed-none, table-names}
+use Rattle.rib_player.proofs.ClaimLaws.{NameFor, needed_keys-claimed, claimed-somewhere, few-claims, first-forgotten, last-claims, last-played, unclaimed, unclaimed-none, table-names}
 
 -- ---- the keys are the wanted pairs
 
@@ -48,7 +48,7 @@ names-marked q (before ∷ after ∷ tables) (step ∷ steps) all = (
 )
 
 -- a player's steps, and the claims that it holds
-module _ {table : Contents} {beyond : Pair → ℕ} {cursor : ℕ} {steps : List Step} (played : IsPlayed table beyond cursor steps) where
+module _ {table : Contents} {beyond : Pair → ℕ} {cursor : ℕ} {steps : List Step} (played : IsConsistentJournal table beyond cursor steps) where
   -- its tables
   abbrev pub tables-played : List Routes
   tables-played = tables_over cursor (steps_of steps) table.routes
@@ -59,22 +59,22 @@ module _ {table : Contents} {beyond : Pair → ℕ} {cursor : ℕ} {steps : List
   as-many-played : length tables-played ≡ length (steps_of steps) + 1
   as-many-played = length-tables cursor (steps_of steps) table.routes within-played
 
-  pub played-wanted : (floor : ℕ) → table.keys ≡ wanted (timeline_of floor cursor (steps_of steps) table.routes)
-  played-wanted floor =
+  pub played-needed_keys : (floor : ℕ) → table.keys ≡ needed_keys (timeline_of floor cursor (steps_of steps) table.routes)
+  played-needed_keys floor =
       let t : Timeline = timeline_of floor cursor (steps_of steps) table.routes in
-      same_pairs table.keys (wanted t) (λ q.
+      same_pairs table.keys (needed_keys t) (λ q.
       held-key table.keys beyond q played.held ∙ ap (nat_lt 0) (played.claimed q)
-      ∙ sym (wanted-claimed t q (names-marked q tables-played steps played.marked) (omega (arith, within-played, as-many-played))))
+      ∙ sym (needed_keys-claimed t q (names-marked q tables-played steps played.marked) (omega (arith, within-played, as-many-played))))
 
   -- no more claims than positions are counted
   pub played-few : (q : Pair) → beyond q ≤ length steps + 1
   played-few q = omega (arith, played.claimed q, few-claims q tables-played, as-many-played, length-map steps step_sides)
 
   -- so its steps can be crossed
-  pub played-kept : (index : ℕ) → index < length steps → IsKept table.keys (sides_at (steps_of steps) index)
+  pub played-kept : (index : ℕ) → index < length steps → AreDistinctKeys table.keys (sides_at (steps_of steps) index)
   played-kept index within =
-      AllByRecursion-get_or (IsKept table.keys) (steps_of steps) index [] (omega (arith, within, length-map steps step_sides))
-      (wanted-kept table.keys (timeline_of 0 cursor (steps_of steps) table.routes) (steps_of steps) (played-wanted 0) refl played.distinct)
+      AllByRecursion-get_or (AreDistinctKeys table.keys) (steps_of steps) index [] (omega (arith, within, length-map steps step_sides))
+      (needed_keys-kept table.keys (timeline_of 0 cursor (steps_of steps) table.routes) (steps_of steps) (played-needed_keys 0) refl played.distinct)
 
   pub well_formed-played : (floor : ℕ) → IsWellFormed (timeline_of floor cursor (steps_of steps) table.routes)
   well_formed-played floor =
@@ -92,9 +92,9 @@ module _ {table : Contents} {beyond : Pair → ℕ} {cursor : ℕ} {steps : List
 
 -- ---- a new player
 
-pub played-new : (table : Contents) (beyond : Pair → ℕ) (steps : List Step) → table ≡ record { keys = names.empty; routes = finite.empty } → ((q : Pair) → beyond q ≡ 0) → steps ≡ [] → IsPlayed table beyond 0 steps
+pub played-new : (table : Contents) (beyond : Pair → ℕ) (steps : List Step) → table ≡ record { keys = names.empty; routes = finite.empty } → ((q : Pair) → beyond q ≡ 0) → steps ≡ [] → IsConsistentJournal table beyond 0 steps
 played-new table beyond steps e none f =
-    subst (λ t. IsPlayed t beyond 0 steps) (sym e) (subst (IsPlayed (record { keys = names.empty; routes = finite.empty }) beyond 0) (sym f) (record {
+    subst (λ t. IsConsistentJournal t beyond 0 steps) (sym e) (subst (IsConsistentJournal (record { keys = names.empty; routes = finite.empty }) beyond 0) (sym f) (record {
       within = omega arith;
       distinct = tt;
       marked = tt;
@@ -109,11 +109,11 @@ distinct-crossed steps index routes within all =
     AllByRecursion-set AreDistinct steps index (sides_across routes (sides_at steps index))
     (subst (IsDistinct (eq_by_cmp pair_cmp)) (sym (pairs_in-sides_across routes (sides_at steps index))) (AllByRecursion-get_or AreDistinct steps index [] within all)) all
 
-module _ {table table' : Contents} {beyond : Pair → ℕ} {cursor index : ℕ} {steps steps' : List Step} (played : IsPlayed table beyond cursor steps) (crossed : IsCrossed table table' steps steps' index) where
+module _ {table table' : Contents} {beyond : Pair → ℕ} {cursor index : ℕ} {steps steps' : List Step} (played : IsConsistentJournal table beyond cursor steps) (crossed : IsStepSwapped table table' steps steps' index) where
   -- the player elsewhere on the same tables
   crossed-played : (cursor' : ℕ) → index < length steps → cursor' ≤ length steps
       → tables_over cursor' (set (steps_of steps) index (sides_across table.routes (sides_at (steps_of steps) index))) (routes_across (sides_at (steps_of steps) index) table.routes) ≡ tables-played played
-      → IsPlayed table' beyond cursor' steps'
+      → IsConsistentJournal table' beyond cursor' steps'
   crossed-played cursor' there within same =
       let tables : tables_over cursor' (steps_of steps') table'.routes ≡ tables-played played = ap₂ (tables_over cursor') crossed.sides crossed.routes ∙ same in
       record {
@@ -129,14 +129,14 @@ module _ {table table' : Contents} {beyond : Pair → ℕ} {cursor index : ℕ} 
   length-crossed = omega (arith, ap length crossed.marks, length-map steps step_marks, length-map steps' step_marks)
 
   -- the step before the cursor was crossed
-  pub undone-played : index + 1 ≡ cursor → IsPlayed table' beyond index steps'
+  pub undone-played : index + 1 ≡ cursor → IsConsistentJournal table' beyond index steps'
   undone-played last =
       let within = within-played played in
       crossed-played index (omega (arith, last, played.within)) (omega (arith, last, played.within))
       (tables-back index (steps_of steps) table.routes (omega (arith, last, within)) ∙ ap (λ n. tables_over n (steps_of steps) table.routes) last)
 
   -- that behind it was
-  pub redone-played : index ≡ cursor → cursor < length steps → IsPlayed table' beyond (cursor + 1) steps'
+  pub redone-played : index ≡ cursor → cursor < length steps → IsConsistentJournal table' beyond (cursor + 1) steps'
   redone-played here ahead =
       crossed-played (cursor + 1) (omega (arith, here, ahead)) (omega (arith, ahead))
       (ap (λ n. tables_over (cursor + 1) (set (steps_of steps) n (sides_across table.routes (sides_at (steps_of steps) n))) (routes_across (sides_at (steps_of steps) n) table.routes)) here
@@ -144,13 +144,13 @@ module _ {table table' : Contents} {beyond : Pair → ℕ} {cursor index : ℕ} 
 
 -- ---- a step that is forgotten
 
-module _ {n : ℕ} {first : Step} {steps : List Step} {table : Contents} {beyond : Pair → ℕ} (played : IsPlayed table beyond (suc n) (first ∷ steps)) where
+module _ {n : ℕ} {first : Step} {steps : List Step} {table : Contents} {beyond : Pair → ℕ} (played : IsConsistentJournal table beyond (suc n) (first ∷ steps)) where
   -- the tables without that before it
   rest : drop 1 (tables-played played) ≡ tables_over n (steps_of steps) table.routes
   rest = tables-forgotten n (step_sides first) (steps_of steps) table.routes
 
   -- what is claimed besides the claims that go with it
-  forgotten : (q : Pair) → held_claims table.keys beyond q ≡ claims_along q (tables_over n (steps_of steps) table.routes) + one_if (gives_up_by First (step_marks first) q)
+  forgotten : (q : Pair) → held_claims table.keys beyond q ≡ claims_along q (tables_over n (steps_of steps) table.routes) + one_if (any_releases_claim_of First (step_marks first) q)
   forgotten q =
       let tables = tables-played played in
       played.claimed q ∙ first-forgotten q tables (omega (arith, marked-length tables (marks_by_step (first ∷ steps)) played.marked))
@@ -158,11 +158,11 @@ module _ {n : ℕ} {first : Step} {steps : List Step} {table : Contents} {beyond
       (sym (gives-between First (slice_index_or tables 0 finite.empty) (slice_index_or tables 1 finite.empty) (step_marks first) q (marked-first tables (step_marks first) (marks_by_step steps) played.marked).0))
 
   -- the pairs that it clears are keys
-  pub forgotten-keys : (q : Pair) → gives_up_by First (step_marks first) q ≡ true → names.contains table.keys q ≡ true
+  pub forgotten-keys : (q : Pair) → any_releases_claim_of First (step_marks first) q ≡ true → names.contains table.keys q ≡ true
   forgotten-keys q gives = some-key table.keys beyond q played.held (omega (arith, forgotten q, one_true _ gives))
 
   -- and have no route where nothing is claimed beyond them
-  pub forgotten-free : (q : Pair) → gives_up_by First (step_marks first) q ≡ true → beyond q ≡ 0 → finite.get table.routes q ≡ None
+  pub forgotten-free : (q : Pair) → any_releases_claim_of First (step_marks first) q ≡ true → beyond q ≡ 0 → finite.get table.routes q ≡ None
   forgotten-free q gives none =
       let within : n ≤ length (steps_of steps) = omega (arith, played.within, length-map steps step_sides) in
       let key = one_true _ (forgotten-keys q gives) in
@@ -172,7 +172,7 @@ module _ {n : ℕ} {first : Step} {steps : List Step} {table : Contents} {beyond
 
   -- the player without it
   pub forgotten-played : (table' : Contents) (beyond' : Pair → ℕ) → table'.routes ≡ table.routes → AreHeld table'.keys beyond'
-      → ((q : Pair) → held_claims table'.keys beyond' q + one_if (gives_up_by First (step_marks first) q) ≡ held_claims table.keys beyond q) → IsPlayed table' beyond' n steps
+      → ((q : Pair) → held_claims table'.keys beyond' q + one_if (any_releases_claim_of First (step_marks first) q) ≡ held_claims table.keys beyond q) → IsConsistentJournal table' beyond' n steps
   forgotten-played table' beyond' same held less = record {
     within = omega (arith, played.within);
     distinct = played.distinct.1;
@@ -186,7 +186,7 @@ module _ {n : ℕ} {first : Step} {steps : List Step} {table : Contents} {beyond
 
 -- what is claimed besides the claims that go with the last step
 dropped : (steps : List (List Mark)) (gone : List Mark) (held : Pair → ℕ) (tables : List Routes) (new : Pair → ℕ) (q : Pair) → AreClaimed (steps ++ gone ∷ []) held tables new
-    → held q ≡ claims_along q (take (length steps + 1) tables) + new q + one_if (gives_up_by Last gone q)
+    → held q ≡ claims_along q (take (length steps + 1) tables) + new q + one_if (any_releases_claim_of Last gone q)
 dropped steps gone held tables new q are =
     let n = length steps in
     let long : length tables ≡ suc (suc n) = marked-length tables (steps ++ gone ∷ []) are.marked ∙ omega (arith, length-append steps (gone ∷ [])) in
@@ -200,7 +200,7 @@ dropped steps gone held tables new q are =
 
 -- the claims without it
 pub claimed-dropped : (steps : List (List Mark)) (gone : List Mark) (held held' : Pair → ℕ) (tables : List Routes) (new : Pair → ℕ) → AreClaimed (steps ++ gone ∷ []) held tables new
-    → ((q : Pair) → held' q + one_if (gives_up_by Last gone q) ≡ held q) → AreClaimed steps held' (take (length steps + 1) tables) new
+    → ((q : Pair) → held' q + one_if (any_releases_claim_of Last gone q) ≡ held q) → AreClaimed steps held' (take (length steps + 1) tables) new
 claimed-dropped steps gone held held' tables new are less =
     let n = length steps in record {
       marked = subst (AreMarked (take (n + 1) tables)) (take_at steps (gone ∷ []) n refl)
@@ -215,13 +215,13 @@ none-before q n tables none =
 
 -- the pairs that it brings are keys
 pub dropped-keys : (steps : List (List Mark)) (gone : List Mark) (keys : Pairs) (beyond : Pair → ℕ) (cursor : ℕ) (routes : Routes) → AreHeld keys beyond
-    → CanDrop (steps ++ gone ∷ []) cursor (held_claims keys beyond) routes → (q : Pair) → gives_up_by Last gone q ≡ true → names.contains keys q ≡ true
+    → CanDrop (steps ++ gone ∷ []) cursor (held_claims keys beyond) routes → (q : Pair) → any_releases_claim_of Last gone q ≡ true → names.contains keys q ≡ true
 dropped-keys steps gone keys beyond cursor routes held can q gives =
     some-key keys beyond q held (omega (arith, dropped steps gone (held_claims keys beyond) can.tables can.new q can.are, one_true _ gives))
 
 -- and have no route where nothing is claimed beyond them
 pub dropped-free : (steps : List (List Mark)) (gone : List Mark) (keys : Pairs) (beyond : Pair → ℕ) (cursor : ℕ) (routes : Routes) → AreHeld keys beyond → cursor ≤ length steps
-    → CanDrop (steps ++ gone ∷ []) cursor (held_claims keys beyond) routes → (q : Pair) → gives_up_by Last gone q ≡ true → beyond q ≡ 0 → finite.get routes q ≡ None
+    → CanDrop (steps ++ gone ∷ []) cursor (held_claims keys beyond) routes → (q : Pair) → any_releases_claim_of Last gone q ≡ true → beyond q ≡ 0 → finite.get routes q ≡ None
 dropped-free steps gone keys beyond cursor routes held within can q gives none =
     let n = length steps in
     let all = dropped steps gone (held_claims keys beyond) can.tables can.new q can.are in
@@ -233,7 +233,7 @@ dropped-free steps gone keys beyond cursor routes held within can q gives none =
 
 -- so the next can be dropped
 pub can-dropped : (steps : List (List Mark)) (gone : List Mark) (held held' : Pair → ℕ) (cursor : ℕ) (routes routes' : Routes) → cursor ≤ length steps → routes' ≡ routes
-    → ((q : Pair) → held' q + one_if (gives_up_by Last gone q) ≡ held q) → CanDrop (steps ++ gone ∷ []) cursor held routes → CanDrop steps cursor held' routes'
+    → ((q : Pair) → held' q + one_if (any_releases_claim_of Last gone q) ≡ held q) → CanDrop (steps ++ gone ∷ []) cursor held routes → CanDrop steps cursor held' routes'
 can-dropped steps gone held held' cursor routes routes' within same less can = record {
   tables = take (length steps + 1) can.tables;
   new = can.new;
@@ -253,7 +253,7 @@ all-marks : (before after : Routes) (sides : List Side) → ((q : Pair) → list
     → AllByRecursion (IsMarkOf before after) (marks_across before (sides_across after sides))
 all-marks before after [] some = tt
 all-marks before after (side ∷ sides) some = (
-  record { mark_before = refl; mark_behind = refl; some = some side.0 (ap (λ b. b || list_any (tied side.0) (pairs_in sides)) (tied_itself side.0)) },
+  record { mark_before = refl; mark_after = refl; some = some side.0 (ap (λ b. b || list_any (tied side.0) (pairs_in sides)) (tied_itself side.0)) },
   all-marks before after sides (λ q there. some q (ap (λ b. tied q side.0 || b) there ∙ or-true (tied q side.0))),
 )
 
@@ -278,7 +278,7 @@ pub step-named : (routes : Routes) (event : Event) (sides : List Side) → IsSte
 step-named routes event sides step = some-marked routes (table_after routes event) sides (step-marked routes event sides step).right
 
 -- an event's step that is put
-module _ {table : Contents} {beyond : Pair → ℕ} {cursor : ℕ} {steps : List Step} {event : Event} {sides : List Side} (played : IsPlayed table beyond cursor steps) (step : IsStepFor table.routes event sides) where
+module _ {table : Contents} {beyond : Pair → ℕ} {cursor : ℕ} {steps : List Step} {event : Event} {sides : List Side} (played : IsConsistentJournal table beyond cursor steps) (step : IsStepFor table.routes event sides) where
   abbrev next : Routes
   next = table_after table.routes event
 
@@ -301,18 +301,18 @@ module _ {table : Contents} {beyond : Pair → ℕ} {cursor : ℕ} {steps : List
 
   -- the claims once it is put, and the steps ahead are still there
   pub can-play : (table' : Contents) (beyond' : Pair → ℕ) (marks : List Mark) → table'.routes ≡ routes_across sides table.routes → marks ≡ marks_across table.routes sides
-      → ((q : Pair) → held_claims table'.keys beyond' q ≡ held_claims table.keys beyond q + one_if (gives_up_by Last marks q)) → CanDrop (marks_by_step steps) cursor (held_claims table'.keys beyond') table'.routes
+      → ((q : Pair) → held_claims table'.keys beyond' q ≡ held_claims table.keys beyond q + one_if (any_releases_claim_of Last marks q)) → CanDrop (marks_by_step steps) cursor (held_claims table'.keys beyond') table'.routes
   can-play table' beyond' marks after is more = record {
     tables = tables-played played;
-    new = λ q. one_if (gives_up_by Last marks q);
-    are = record { marked = played.marked; claimed = λ q. more q ∙ ap (λ n. n + one_if (gives_up_by Last marks q)) (played.claimed q) };
+    new = λ q. one_if (any_releases_claim_of Last marks q);
+    are = record { marked = played.marked; claimed = λ q. more q ∙ ap (λ n. n + one_if (any_releases_claim_of Last marks q)) (played.claimed q) };
     free = λ q none.
         let here : finite.get table.routes q ≡ None =
         ap (λ r. finite.get r q) (sym behind-last) ∙ unclaimed q behind cursor (omega (arith, behind-long)) (omega (arith, none)) in
         ap (λ r. finite.get r q) (after ∙ routes_across-step table.routes event sides step)
         ∙ none_from (finite.get next q)
         (sym (ap (λ r. not (is_some r) && is_routed q next) here) ∙ sym (gives-between Last table.routes next marks q (right marks is))
-        ∙ no_claim (gives_up_by Last marks q) (omega (arith, none)));
+        ∙ no_claim (any_releases_claim_of Last marks q) (omega (arith, none)));
   }
     where
       no_claim : (b : Bool) → one_if b ≡ 0 → b ≡ false
@@ -329,7 +329,7 @@ module _ {table : Contents} {beyond : Pair → ℕ} {cursor : ℕ} {steps : List
         ap₂ (timeline_of floor (cursor + 1)) steps-play after ∙ timeline-after_play floor cursor (steps_of steps) sides table.routes event (within-played played) step
 
     pub played-on : step_marks new ≡ marks_across table.routes sides → AreHeld table'.keys beyond'
-        → AreClaimed (marks_by_step steps') (held_claims table'.keys beyond') (take (cursor + 1) (tables-played played)) (λ q. one_if (gives_up_by Last (step_marks new) q)) → IsPlayed table' beyond' (cursor + 1) (steps' ++ new ∷ [])
+        → AreClaimed (marks_by_step steps') (held_claims table'.keys beyond') (take (cursor + 1) (tables-played played)) (λ q. one_if (any_releases_claim_of Last (step_marks new) q)) → IsConsistentJournal table' beyond' (cursor + 1) (steps' ++ new ∷ [])
     played-on is held are =
         let tables : tables_over (cursor + 1) (steps_of (steps' ++ new ∷ [])) table'.routes ≡ behind ++ next ∷ [] =
         ap₂ (tables_over (cursor + 1)) steps-play after ∙ tables-added cursor (steps_of steps) sides table.routes (within-played played)

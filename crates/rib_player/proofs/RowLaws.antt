@@ -9,11 +9,11 @@ use Rattle.std.proofs.lemmas.List.{map-append, take_more}
 use Rattle.std.proofs.lemmas.Option.{slice_get-map}
 use Rattle.mrt_events.specs.declared.peer.Peer.{Peer}
 use Rattle.rib_player.specs.declared.pair.Pair.{Pair}
-use Rattle.rib_player.specs.declared.row_marks.Marks.{Marks}
+use Rattle.rib_player.specs.declared.seen_numbers.SeenNumbers.{SeenNumbers}
 use Rattle.rib_player.specs.Entries.{Entry}
 use Rattle.rib_player.specs.History.{pair_cmp}
 use Rattle.rib_player.specs.Journal.{side_of, sides_of}
-use Rattle.rib_player.specs.Numbered.{peers_in, is_marked}
+use Rattle.rib_player.specs.Numbered.{peers_in, was_seen}
 use Rattle.rib_player.proofs.PairLaws.{same_pair, pair_cmp_total}
 use Rattle.rib_player.proofs.StoreLaws.{same_peer}
 use Rattle.rib_player.proofs.ListLaws.{copied-at, all-then}
@@ -78,21 +78,21 @@ module _ {R : Type 0} (last : Pair) (s : Pair × R) (below : pair_cmp s.0 last �
 
 module _ {R : Type 0} (order : List (Peer × ℕ)) where
   -- the pair's peer has a number, which was seen
-  abbrev pub IsSeen : Marks → Pair × R → Type 0
-  IsSeen marks e = (n : ℕ) × (lookup (same_peer e.0.peer) order ≡ Some n) × (is_marked marks n ≡ true)
+  abbrev pub IsSeen : SeenNumbers → Pair × R → Type 0
+  IsSeen marks e = (n : ℕ) × (lookup (same_peer e.0.peer) order ≡ Some n) × (was_seen marks n ≡ true)
 
-  module _ (marks marks' : Marks) (s : Pair × R) (number : ℕ) (is : lookup (same_peer s.0.peer) order ≡ Some number) where
+  module _ (marks marks' : SeenNumbers) (s : Pair × R) (number : ℕ) (is : lookup (same_peer s.0.peer) order ≡ Some number) where
     -- a pair of a number that wasn't seen is another
-    apart : is_marked marks number ≡ false → (e : Pair × R) → IsSeen marks e → eq_by_cmp pair_cmp e.0 s.0 ≡ false
+    apart : was_seen marks number ≡ false → (e : Pair × R) → IsSeen marks e → eq_by_cmp pair_cmp e.0 s.0 ≡ false
     apart new e seen =
         let one = same_pair e.0 s.0 in
         grind (arith, is, seen.1, seen.2)
 
-    pub distinct-more : is_marked marks number ≡ false → (es : List (Pair × R)) → AllByRecursion (IsSeen marks) es
+    pub distinct-more : was_seen marks number ≡ false → (es : List (Pair × R)) → AllByRecursion (IsSeen marks) es
         → IsDistinct (eq_by_cmp pair_cmp) (keys_of es) → IsDistinct (eq_by_cmp pair_cmp) (keys_of (es ++ s ∷ []))
     distinct-more new es seen distinct = distinct-apart s es (all-then (IsSeen marks) (λ e. eq_by_cmp pair_cmp e.0 s.0 ≡ false) es (apart new) seen) distinct
 
-    pub seen-more : is_marked marks' number ≡ true → ((n : ℕ) → is_marked marks n ≡ true → is_marked marks' n ≡ true)
+    pub seen-more : was_seen marks' number ≡ true → ((n : ℕ) → was_seen marks n ≡ true → was_seen marks' n ≡ true)
         → (es : List (Pair × R)) → AllByRecursion (IsSeen marks) es → AllByRecursion (IsSeen marks') (es ++ s ∷ [])
     seen-more marked others [] seen = ((number, is, marked), tt)
     seen-more marked others (e ∷ es) seen = ((seen.0.0, seen.0.1, others seen.0.0 seen.0.2), seen-more marked others es seen.1)

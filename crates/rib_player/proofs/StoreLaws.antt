@@ -25,7 +25,7 @@ use Rattle.mrt_events.specs.Event.{peer_cmp}
 use Rattle.rib_player.specs.History.{pair_cmp, pair_of}
 use Rattle.prefix_store.specs.Stored.{put}
 use Rattle.rib_player.specs.Tables.{Routes, Pairs, Stores, store_at, has_key, stored_route, route_in, keys_in, routes_in}
-use Rattle.rib_player.specs.Kept.{IsHeld, IsWritten, have_route}
+use Rattle.rib_player.specs.Representation.{HaveKeys, IsUpdatedAt, route_presence}
 use Rattle.rib_player.specs.Lent.{IsLent}
 use Rattle.rib_player.specs.StoresByPeer.{stores_in}
 use Rattle.rib_player.specs.Noted.{routed_in}
@@ -84,7 +84,7 @@ any-pairs q peer [] = grind arith
 any-pairs q peer (n ∷ ns) = let parts = tied_parts q peer n in grind (arith, any-pairs q peer ns)
 
 -- what is read of each pair's store, where a peer's store is another
-module _ {S V : Type 0} (read : Option S → Network → V) {old new : Stores S} {peer : Peer} {w : Option S} (written : IsWritten old new peer w) where
+module _ {S V : Type 0} (read : Option S → Network → V) {old new : Stores S} {peer : Peer} {w : Option S} (written : IsUpdatedAt old new peer w) where
   read-other : (q : Pair) → read (store_at new q.peer) q.prefix ≡ cond (same_peer q.peer peer) (read w q.prefix) (read (store_at old q.peer) q.prefix)
   read-other q = let is = written.each q.peer in grind (arith, peer_symm peer q.peer)
 
@@ -134,7 +134,7 @@ module _ {S : Type 0} (keys : S → stored.Keys) where
       ∙ key_among stores q
 
   -- a peer's store is another, or goes
-  module _ {old new : Stores S} {peer : Peer} {w : Option S} (written : IsWritten old new peer w) where
+  module _ {old new : Stores S} {peer : Peer} {w : Option S} (written : IsUpdatedAt old new peer w) where
     pub keys_in-other : (q : Pair) → set.contains (keys_in keys new) q ≡ cond (same_peer q.peer peer) (has_key keys w q.prefix) (set.contains (keys_in keys old) q)
     keys_in-other q = contains-keys_in new q ∙ read-other (has_key keys) written q ∙ ap (cond (same_peer q.peer peer) (has_key keys w q.prefix)) (sym (contains-keys_in old q))
 
@@ -157,7 +157,7 @@ module _ {S : Type 0} (keys : S → stored.Keys) where
     keys_in-same is = same_pairs _ _ (λ q. keys_in-changed (λ x b. b) is q ∙ either_same (same_peer q.peer peer) _)
 
     -- no store without a key
-    pub held-other : IsHeld keys old → IfSome w (λ store. 0 < set.len (keys store)) → IsHeld keys new
+    pub held-other : HaveKeys keys old → IfSome w (λ store. 0 < set.len (keys store)) → HaveKeys keys new
     held-other held one p =
         subst (λ s. IfSome s (λ store. 0 < set.len (keys store))) (sym (written.each p))
         (elim (same_peer peer p) as (λ a. IfSome (cond a w (store_at old p)) (λ store. 0 < set.len (keys store))) [ true ↦ one | false ↦ held p ])
@@ -184,7 +184,7 @@ module _ {S : Type 0} (routes : S → stored.Routes (Rc Route Global)) where
       ∙ cond_untested (list_any (eq_by_cmp pair_cmp q) (route_pairs stores)) (stored_route routes (store_at stores q.peer) q.prefix) None (no_route stores q)
 
   -- a peer's store is another, or goes
-  module _ {old new : Stores S} {peer : Peer} {w : Option S} (written : IsWritten old new peer w) where
+  module _ {old new : Stores S} {peer : Peer} {w : Option S} (written : IsUpdatedAt old new peer w) where
     pub routes_in-other : (q : Pair) → finite.get (routes_in routes new) q ≡ cond (same_peer q.peer peer) (stored_route routes w q.prefix) (finite.get (routes_in routes old) q)
     routes_in-other q = get-routes_in new q ∙ read-other (stored_route routes) written q ∙ ap (cond (same_peer q.peer peer) (stored_route routes w q.prefix)) (sym (get-routes_in old q))
 
@@ -242,7 +242,7 @@ pub store-absent : {S : Type 0} (routes : S → stored.Routes (Rc Route Global))
 store-absent routes stores all peer None is e = λ n. sym (get-found routes stores all (pair_of peer n) None is e)
 store-absent routes stores all peer (Some store) is e = tt
 
-pub store-some : {S : Type 0} (keys : S → stored.Keys) (stores : Stores S) (peer : Peer) (found : Option (Bor S)) → option_copied found ≡ store_at stores peer → IsHeld keys stores
+pub store-some : {S : Type 0} (keys : S → stored.Keys) (stores : Stores S) (peer : Peer) (found : Option (Bor S)) → option_copied found ≡ store_at stores peer → HaveKeys keys stores
     → IfSome found (λ store. 0 < set.len (keys store.now))
 store-some keys stores peer None is held = tt
 store-some keys stores peer (Some store) is held = subst (λ s. IfSome s (λ store. 0 < set.len (keys store))) (sym is) (held peer)
@@ -297,7 +297,7 @@ no_value None e = refl
 no_value (Some shared) e = cc
 
 -- what was written and then written again
-pub written-twice : {A : Type 0} {old between new : List (Peer × A)} {peer : Peer} {v w : Option A} → IsWritten old between peer v → IsWritten between new peer w → IsWritten old new peer w
+pub written-twice : {A : Type 0} {old between new : List (Peer × A)} {peer : Peer} {v w : Option A} → IsUpdatedAt old between peer v → IsUpdatedAt between new peer w → IsUpdatedAt old new peer w
 written-twice {old = old} {peer = peer} {v = v} {w = w} first second = record { each = λ p. second.each p ∙ ap (cond (same_peer peer p) w) (first.each p) ∙ at (same_peer peer p) (store_at old p) }
   where
     at : (b : Bool) (x : Option _) → cond b w (cond b v x) ≡ cond b w x
@@ -307,7 +307,7 @@ written-twice {old = old} {peer = peer} {v = v} {w = w} first second = record { 
 -- a peer's store was written
 pub record IsStored {S : Type 0} (old new : Stores S) (peer : Peer) (before after : S) : Type 0 where
   pub found : Some before ≡ store_at old peer
-  pub written : IsWritten old new peer (Some after)
+  pub written : IsUpdatedAt old new peer (Some after)
 
 -- the store that is lent where a peer is looked for
 pub stored-lent : {S : Type 0} (old new : numbered.Stores S) {peer : Peer} {after : S} (lent : Option (MutBor S)) (x : MutBor S) → lent ≡ Some x → option_copied_mut lent ≡ store_at (stores_in old) peer
@@ -316,61 +316,61 @@ stored-lent old new lent x is value on = record { found = sym (ap option_copied_
 
 -- and what was noted
 abbrev pub AreNoted : {S : Type 0} → (S → stored.Routes (Rc Route Global)) → Stores S → List (Peer × Bool) → Type 0
-AreNoted routes stores routed = (p : Peer) → lookup (same_peer p) routed ≡ have_route routes (store_at stores p)
+AreNoted routes stores routed = (p : Peer) → lookup (same_peer p) routed ≡ route_presence routes (store_at stores p)
 
 -- a count that is more than none
-counted-some : (n : ℕ) → nat_lt 0 (stored.counted n) ≡ nat_lt 0 n
-counted-some zero = refl
-counted-some (suc n) = lt-ltb 0 (stored.counted (suc n)) (omega arith) ∙ sym (lt-ltb 0 (suc n) (omega arith))
+saturated_count-some : (n : ℕ) → nat_lt 0 (stored.saturated_count n) ≡ nat_lt 0 n
+saturated_count-some zero = refl
+saturated_count-some (suc n) = lt-ltb 0 (stored.saturated_count (suc n)) (omega arith) ∙ sym (lt-ltb 0 (suc n) (omega arith))
 
 module _ {S : Type 0} (routes : S → stored.Routes (Rc Route Global)) where
-  pub noted-other : {old new : Stores S} {routed routed' : List (Peer × Bool)} {peer : Peer} {w : Option S} {is : Option Bool} → IsWritten old new peer w → IsWritten routed routed' peer is
-      → is ≡ have_route routes w → AreNoted routes old routed → AreNoted routes new routed'
+  pub noted-other : {old new : Stores S} {routed routed' : List (Peer × Bool)} {peer : Peer} {w : Option S} {is : Option Bool} → IsUpdatedAt old new peer w → IsUpdatedAt routed routed' peer is
+      → is ≡ route_presence routes w → AreNoted routes old routed → AreNoted routes new routed'
   noted-other {old = old} {routed = routed} {peer = peer} {w = w} {is = is} written noted same all p =
-      noted.each p ∙ at (same_peer peer p) ∙ ap (have_route routes) (sym (written.each p))
+      noted.each p ∙ at (same_peer peer p) ∙ ap (route_presence routes) (sym (written.each p))
     where
-      at : (b : Bool) → cond b is (lookup (same_peer p) routed) ≡ have_route routes (cond b w (store_at old p))
+      at : (b : Bool) → cond b is (lookup (same_peer p) routed) ≡ route_presence routes (cond b w (store_at old p))
       at true = same
       at false = all p
 
   -- a store without routes
-  pub none-noted : (store : S) → routes store ≡ finite.empty → Some false ≡ have_route routes (Some store)
+  pub none-noted : (store : S) → routes store ≡ finite.empty → Some false ≡ route_presence routes (Some store)
   none-noted store none = ap (λ n. Some (nat_lt 0 n)) (sym (ap finite.len none ∙ finite.len-empty network_cmp (Rc Route Global)))
 
-  pub count-noted : (store : S) (n : ℕ) → n ≡ stored.counted (finite.len (routes store)) → Some (nat_lt 0 n) ≡ have_route routes (Some store)
-  count-noted store n is = ap (λ n. Some (nat_lt 0 n)) is ∙ ap Some (counted-some (finite.len (routes store)))
+  pub count-noted : (store : S) (n : ℕ) → n ≡ stored.saturated_count (finite.len (routes store)) → Some (nat_lt 0 n) ≡ route_presence routes (Some store)
+  count-noted store n is = ap (λ n. Some (nat_lt 0 n)) is ∙ ap Some (saturated_count-some (finite.len (routes store)))
 
   module _ (old between new : numbered.Stores S) {peer : Peer} {after : S} (lent : IsLent old between peer after) where
     -- what was noted of the store that was written
     pub noted-after : (number : ℕ) (has : Bool) → lookup (same_peer peer) old.order.entries ≡ Some number → stores_in new ≡ stores_in between
-        → ((p : Peer) → lookup (same_peer p) between.order.entries ≡ Some number → IsWritten (routed_in between) (routed_in new) p (Some has)) → Some has ≡ have_route routes (Some after)
+        → ((p : Peer) → lookup (same_peer p) between.order.entries ≡ Some number → IsUpdatedAt (routed_in between) (routed_in new) p (Some has)) → Some has ≡ route_presence routes (Some after)
         → AreNoted routes (stores_in old) (routed_in old) → AreNoted routes (stores_in new) (routed_in new)
     noted-after number has found same noted is all =
         subst (λ stores. AreNoted routes stores (routed_in new)) (sym same)
-        (noted-other lent.written (subst (λ routed. IsWritten routed (routed_in new) peer (Some has)) lent.routed (noted peer (ap (lookup (same_peer peer)) lent.order ∙ found))) is all)
+        (noted-other lent.written (subst (λ routed. IsUpdatedAt routed (routed_in new) peer (Some has)) lent.routed (noted peer (ap (lookup (same_peer peer)) lent.order ∙ found))) is all)
 
   -- it was written, and has the routes that it had
   pub noted-kept : (old new : numbered.Stores S) {peer : Peer} {before after : S} → IsLent old new peer after → Some before ≡ store_at (stores_in old) peer → routes after ≡ routes before
       → AreNoted routes (stores_in old) (routed_in old) → AreNoted routes (stores_in new) (routed_in new)
   noted-kept old new {peer = peer} {before = before} {after = after} lent found same all p =
-      ap (lookup (same_peer p)) lent.routed ∙ all p ∙ at (same_peer peer p) refl ∙ ap (have_route routes) (sym (lent.written.each p))
+      ap (lookup (same_peer p)) lent.routed ∙ all p ∙ at (same_peer peer p) refl ∙ ap (route_presence routes) (sym (lent.written.each p))
     where
-      at : (b : Bool) → same_peer peer p ≡ b → have_route routes (store_at (stores_in old) p) ≡ have_route routes (cond b (Some after) (store_at (stores_in old) p))
-      at true tied = ap (have_route routes) (ap (store_at (stores_in old)) (sym (one_peer peer p tied)) ∙ sym found) ∙ ap (λ r. Some (nat_lt 0 (finite.len r))) (sym same)
+      at : (b : Bool) → same_peer peer p ≡ b → route_presence routes (store_at (stores_in old) p) ≡ route_presence routes (cond b (Some after) (store_at (stores_in old) p))
+      at true tied = ap (route_presence routes) (ap (store_at (stores_in old)) (sym (one_peer peer p tied)) ∙ sym found) ∙ ap (λ r. Some (nat_lt 0 (finite.len r))) (sym same)
       at false tied = refl
 
 module _ {S : Type 0} (keys : S → stored.Keys) {old new : Stores S} {peer : Peer} {before after : S} (there : IsStored old new peer before after) where
   pub keys-kept : keys after ≡ keys before → keys_in keys new ≡ keys_in keys old
   keys-kept e = keys_in-same keys there.written (λ x. ap (λ k. set.contains k x) e ∙ ap (λ s. has_key keys s x) there.found)
 
-  pub held-kept : keys after ≡ keys before → IsHeld keys old → IsHeld keys new
+  pub held-kept : keys after ≡ keys before → HaveKeys keys old → HaveKeys keys new
   held-kept e held = held-other keys there.written held (subst (λ k. 0 < set.len k) (sym e) (subst (λ s. IfSome s (λ store. 0 < set.len (keys store))) (sym there.found) (held peer)))
 
   pub keys-more : (n : Network) → keys after ≡ set.insert (keys before) n → keys_in keys new ≡ set.insert (keys_in keys old) (pair_of peer n)
   keys-more n e = keys_in-insert keys there.written n (λ x.
       ap (λ k. set.contains k x) e ∙ contains-insert network_cmp_total (keys before) n x ∙ ap (λ s. same_network x n || has_key keys s x) there.found)
 
-  pub held-more : (n : Network) → keys after ≡ set.insert (keys before) n → IsHeld keys old → IsHeld keys new
+  pub held-more : (n : Network) → keys after ≡ set.insert (keys before) n → HaveKeys keys old → HaveKeys keys new
   held-more n e held = held-other keys there.written held (some-insert (keys before) (keys after) n e)
 
   pub keys-less : (n : Network) → keys after ≡ set.remove (keys before) n → keys_in keys new ≡ set.remove (keys_in keys old) (pair_of peer n)
@@ -389,20 +389,20 @@ module _ {S : Type 0} (routes : S → stored.Routes (Rc Route Global)) {old new 
 none-left : (keys : stored.Keys) (x : Network) → set.len keys ≡ 0 → set.contains keys x ≡ false
 none-left keys x none = ap (λ k. set.contains k x) (set.empty_of_len keys none) ∙ contains-empty network_cmp x
 
-module _ {S : Type 0} (keys : S → stored.Keys) (routes : S → stored.Routes (Rc Route Global)) {old between new : Stores S} {peer : Peer} {before after : S} (there : IsStored old between peer before after) (removed : IsWritten between new peer None) where
-  pub held-gone : IsHeld keys old → IsHeld keys new
+module _ {S : Type 0} (keys : S → stored.Keys) (routes : S → stored.Routes (Rc Route Global)) {old between new : Stores S} {peer : Peer} {before after : S} (there : IsStored old between peer before after) (removed : IsUpdatedAt between new peer None) where
+  pub held-gone : HaveKeys keys old → HaveKeys keys new
   held-gone held = held-other keys (written-twice there.written removed) held tt
 
   pub keys-gone : (n : Network) → set.len (keys after) ≡ 0 → keys after ≡ set.remove (keys before) n → keys_in keys new ≡ set.remove (keys_in keys old) (pair_of peer n)
   keys-gone n none e = keys_in-remove keys (written-twice there.written removed) n (λ x.
       sym (none-left (keys after) x none) ∙ ap (λ k. set.contains k x) e ∙ contains-remove network_cmp_total (keys before) n x ∙ ap (λ s. not (same_network x n) && has_key keys s x) there.found)
 
-  pub routes-gone : set.len (keys after) ≡ 0 → stored.AreAmong (keys after) (routes after) → routes after ≡ routes before → routes_in routes new ≡ routes_in routes old
+  pub routes-gone : set.len (keys after) ≡ 0 → stored.ContainsDomain (keys after) (routes after) → routes after ≡ routes before → routes_in routes new ≡ routes_in routes old
   routes-gone none among e = routes_in-same routes (written-twice there.written removed) (λ x.
       sym (ap (option_map value_of) (among x (none-left (keys after) x none))) ∙ ap (λ r. option_map value_of (finite.get r x)) e ∙ ap (λ s. stored_route routes s x) there.found)
 
 -- a store is added
-module _ {S : Type 0} {old new : Stores S} {peer : Peer} {store : S} (absent : None ≡ store_at old peer) (added : IsWritten old new peer (Some store)) where
+module _ {S : Type 0} {old new : Stores S} {peer : Peer} {store : S} (absent : None ≡ store_at old peer) (added : IsUpdatedAt old new peer (Some store)) where
   pub keys-added : (keys : S → stored.Keys) (n : Network) → keys store ≡ set.insert set.empty n → keys_in keys new ≡ set.insert (keys_in keys old) (pair_of peer n)
   keys-added keys n e = keys_in-insert keys added n (λ x.
       ap (λ k. set.contains k x) e ∙ contains-insert network_cmp_total set.empty n x

@@ -10,7 +10,7 @@ use Rattle.std.proofs.lemmas.Map.Views.{any-filter_same}
 use Rattle.prefix_store.proofs.PutLaws.{get-put}
 use Rattle.rib_player.specs.declared.pair.Pair.{Pair}
 use Rattle.mrt_events.specs.declared.event.Route.{Route}
-use Rattle.mrt_events.specs.Event.{Saying, Announced, Withdrawn, Changed}
+use Rattle.mrt_events.specs.Event.{ItemValue, Announced, Withdrawn, Changed}
 use Rattle.mrt_events.specs.declared.event.Event.{Event}
 use Rattle.rib_player.specs.History.{pair_cmp, Effect, item_effect, later, last_effect, effect, route_after, route}
 use Rattle.rib_player.specs.Tables.{Routes, tabulation, pairs_announced_by, announced_pairs, table, concerned_pairs, table_after, is_named, named_pairs}
@@ -37,7 +37,7 @@ pub route_after-later : (before : Option Route) (first second : Effect) → rout
 route_after-later before first second = grind arith
 
 -- an item leaves no route where it announces none and there was none
-unset_by_item : (q : Pair) (item : Saying) → among q (pairs_announced_by item) ≡ false → route_after None (item_effect q item) ≡ None
+unset_by_item : (q : Pair) (item : ItemValue) → among q (pairs_announced_by item) ≡ false → route_after None (item_effect q item) ≡ None
 unset_by_item q (Announced peer network new) e = grind arith
 unset_by_item q (Withdrawn peer network) e = grind arith
 unset_by_item q (Changed peer old new) e = grind arith

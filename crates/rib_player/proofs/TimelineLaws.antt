@@ -7,7 +7,7 @@ use Rattle.rib_player.specs.declared.pair.Pair.{Pair}
 use Rattle.mrt_events.specs.declared.event.Event.{Event}
 use Rattle.rib_player.specs.History.{route}
 use Rattle.rib_player.specs.Tables.{table, table_after, named_pairs}
-use Rattle.rib_player.specs.Timeline.{Timeline, end_of, behind, table_at, current, after_play, fresh, after_undo, after_redo, without_first, forgettable, after_forget}
+use Rattle.rib_player.specs.Timeline.{Timeline, end_of, undoable, table_at, current, after_play, fresh, after_undo, after_redo, without_first, forgettable, after_forget}
 use Rattle.rib_player.specs.Calls.{StandsFor, Call, Play, PlayRefused, Undo, Redo, Forget, Look, tables_along, steps_along, after_call, after_calls, history_after, history_after_calls}
 use Rattle.rib_player.proofs.TableLaws.{get-table}
 use Rattle.rib_player.proofs.HistoryLaws.{table-append}
@@ -77,8 +77,8 @@ StandsFor-after_play t history event stands =
     record {
       floor = omega (arith, stands.floor);
       cursor = omega (arith, length_push (take t.cursor history) event, length-take-le t.cursor history stands.cursor);
-      tables = ap₂ (λ ts r. take (behind t + 1) ts ++ table_after r event ∷ []) stands.tables now ∙ tables-after_play t.floor t.cursor history event stands.floor stands.cursor;
-      steps = ap₂ (λ ss r. take (behind t) ss ++ named_pairs r event ∷ []) stands.steps now ∙ steps-after_play t.floor t.cursor history event stands.floor stands.cursor;
+      tables = ap₂ (λ ts r. take (undoable t + 1) ts ++ table_after r event ∷ []) stands.tables now ∙ tables-after_play t.floor t.cursor history event stands.floor stands.cursor;
+      steps = ap₂ (λ ss r. take (undoable t) ss ++ named_pairs r event ∷ []) stands.steps now ∙ steps-after_play t.floor t.cursor history event stands.floor stands.cursor;
     }
 
 -- an undo keeps the history
@@ -96,7 +96,7 @@ StandsFor-after_redo t history stands =
     (λ e. stands)
 
 -- without the first steps a player stands for the same history, where the cursor is behind them
-pub StandsFor-without_first : (t : Timeline) (history : List Event) (count : ℕ) → count ≤ behind t → StandsFor t history → StandsFor (without_first count t) history
+pub StandsFor-without_first : (t : Timeline) (history : List Event) (count : ℕ) → count ≤ undoable t → StandsFor t history → StandsFor (without_first count t) history
 StandsFor-without_first t history count within stands =
     let taken : take t.floor history ++ take count (drop t.floor history) ≡ take (t.floor + count) history = sym (take-add t.floor count history) in
     let rest : drop count (drop t.floor history) ≡ drop (t.floor + count) history = drop-drop count t.floor history in

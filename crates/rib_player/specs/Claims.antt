@@ -1,9 +1,10 @@
 -- Private.
--- How often a player's timeline claims each pair.
+-- How many claims a pair has: one if it has a route at the floor, and one for each kept step that brings it,
+-- which are those before which it has no route and after which it has one.
 use Rattle.std.specs.Prelude.{◌≡◌, ℕ, ◌+◌, List, ◌++◌, length, refl, ◌-◌, ◌*◌, Bool, true, false, ◌&&◌, not, [], ◌∷◌, Option, is_some, take, replicate}
 use Rattle.std.specs.Coded.{Coded, code_by, coded×, coded_ℕ, coded_list}
 use Rattle.mrt_events.specs.Codes.{coded_route}
-use Rattle.rib_player.specs.Kept.{coded_pair}
+use Rattle.rib_player.specs.Representation.{coded_pair}
 use Rattle.rib_player.specs.Tables.{Routes, Pairs, table_after, Contents}
 use Rattle.rib_player.specs.Timeline.{Timeline, end_of, current, table_at}
 use Rattle.std.specs.Option.{option_map_or}
@@ -18,9 +19,9 @@ use Rattle.ip_prefix.specs.Network.{Network, network_cmp}
 use Rattle.mrt_events.specs.declared.event.Event.{Event}
 use Rattle.mrt_events.specs.Event.{peer_cmp}
 use Rattle.rib_player.specs.declared.claims.Claims.{Claims}
-use Rattle.rib_player.specs.declared.claims.Counts.{Counts}
+use Rattle.rib_player.specs.declared.claims.PeerClaims.{PeerClaims}
 use Rattle.rib_player.specs.declared.claims.TheConstants.{ADDRESSES}
-use Rattle.rib_player.specs.FewCounts.{count_at}
+use Rattle.rib_player.specs.KeyCounts.{count_at}
 use Rattle.rib_player.specs.declared.pair.Pair.{Pair}
 use Rattle.std.specs.FinMap as finite
 use Rattle.std.specs.FinSet as set
@@ -28,89 +29,99 @@ use Rattle.std.specs.BTreeMap as tree
 
 -- ---- a player as plain data
 
+-- timelines as plain data
 abbrev pub coded_timeline : Coded Timeline
 coded_timeline =
     code_by (ℕ × (ℕ × (List Routes × List Pairs)))
     (coded× coded_ℕ (coded× coded_ℕ (coded× (coded_list (finite.code coded_pair coded_route)) (coded_list (set.code coded_pair)))))
     (λ t. (t.floor, (t.cursor, (t.tables, t.steps)))) (λ p. record { floor = p.0; cursor = p.1.0; tables = p.1.1.0; steps = p.1.1.1 }) (λ _. refl)
 
--- ---- how often a player's timeline claims a pair: the pair is wanted exactly where it is claimed
+-- ---- how many claims a pair has in a timeline; it is a key of the table exactly if it has one
 
+-- 1 for true, 0 for false
 abbrev pub one_if : Bool → ℕ
 one_if true = 1
 one_if false = 0
 
--- the pair has a route
+-- whether a pair has a route in a table
 abbrev pub is_routed : Pair → Routes → Bool
 is_routed pair routes = is_some (finite.get routes pair)
 
--- a step brings the pair: it has no route before it and one behind it
+-- whether a step brings a pair, given the tables before and after it: the pair has no route before the step,
+-- and one after it
 abbrev pub brings : Pair → Routes → Routes → Bool
 brings pair before after = not (is_routed pair before) && is_routed pair after
 
--- a step clears the pair: it has a route before it and none behind it
+-- whether a step clears a pair, given the tables before and after it: the pair has a route before the step,
+-- and none after it
 abbrev pub clears : Pair → Routes → Routes → Bool
 clears pair before after = is_routed pair before && not (is_routed pair after)
 
--- how many steps bring the pair on the way over these tables
+-- how many steps bring a pair, given the table before the first step and those after each step
 abbrev pub brought_along : Pair → Routes → List Routes → ℕ
 brought_along pair before [] = 0
 brought_along pair before (after ∷ tables) = one_if (brings pair before after) + brought_along pair after tables
 
--- one claim if the pair has a route at the first of these positions, and one for each step that brings it
+-- how many claims a pair has over the tables at consecutive positions: one if it has a route in the first
+-- table, and one for each step that brings it
 abbrev pub claims_along : Pair → List Routes → ℕ
 claims_along pair [] = 0
 claims_along pair (first ∷ tables) = one_if (is_routed pair first) + brought_along pair first tables
 
--- how often a player claims the pair, over all positions that it keeps
+-- how many claims of a pair a player makes, over all positions from the floor to the end; it has some exactly
+-- if the pair is a key of the table
 abbrev pub claims : Timeline → Pair → ℕ
 claims t pair = claims_along pair t.tables
 
--- whether the first of the kept steps clears the pair, and whether the last brings it
+-- whether the first kept step of a player clears a pair
 abbrev pub first_clears : Timeline → Pair → Bool
 first_clears t pair = clears pair (table_at t t.floor) (table_at t (t.floor + 1))
 
+-- whether the last step of a player brings a pair
 abbrev pub last_brings : Timeline → Pair → Bool
 last_brings t pair = brings pair (table_at t (end_of t - 1)) (table_at t (end_of t))
 
--- whether an event that is played brings it
+-- whether an event, played at the cursor, brings a pair
 abbrev pub event_brings : Timeline → Event → Pair → Bool
 event_brings t event pair = brings pair (current t) (table_after (current t) event)
 
--- the last step is dropped
+-- a player whose last step is dropped
 abbrev pub without_last : Timeline → Timeline
 without_last t = record t {
   tables = take (length t.tables - 1) t.tables;
   steps = take (length t.steps - 1) t.steps;
 }
 
--- a prefix of IPv4 as a number: its bits, filled with zeros, and above them how many they are
-abbrev pub v4_key : Network → ℕ
-v4_key n = length n.bits * ADDRESSES + number_of (take V4_BITS (n.bits ++ replicate (V6_BITS - length n.bits) false))
+-- an IPv4 prefix as a number: its length times 2^32, plus its address, which is its bits filled up with zeros
+abbrev pub v4_prefix_number : Network → ℕ
+v4_prefix_number n = length n.bits * ADDRESSES + number_of (take V4_BITS (n.bits ++ replicate (V6_BITS - length n.bits) false))
 
+-- one of two values, by family: the first for IPv4, the second for IPv6
 abbrev pub by_family : {A : Type 0} → Family → A → A → A
 by_family V4 a b = a
 by_family V6 a b = b
 
--- how often a prefix is counted
-abbrev pub count_of : Counts → Network → ℕ
-count_of counts n = by_family n.family (count_at nat_cmp counts.v4 (v4_key n)) (count_at network_cmp counts.v6 n)
+-- how many claims of a prefix the counts of one peer have
+abbrev pub count_of : PeerClaims → Network → ℕ
+count_of counts n = by_family n.family (count_at nat_cmp counts.v4 (v4_prefix_number n)) (count_at network_cmp counts.v6 n)
 
-abbrev pub count_of_peer : Option (Box Counts Global) → Network → ℕ
+-- how many claims of a prefix the counts of a peer have; none if the peer has no counts
+abbrev pub count_of_peer : Option (Box PeerClaims Global) → Network → ℕ
 count_of_peer counts prefix = option_map_or (λ counts. count_of counts.value prefix) counts 0
 
--- how many claims of a pair are kept besides its key
+-- how many claims of a pair are counted beyond the first, for which the key stands
 abbrev pub claims_beyond : Claims → Pair → ℕ
 claims_beyond claims pair = count_of_peer (tree.get peer_cmp claims.peers pair.peer) pair.prefix
 
--- how many claims of a pair are held: the key, and those beyond it
+-- how many claims of a pair are held, given the keys and the number beyond them: one for the key, and those
+-- beyond it
 abbrev pub held_claims : Pairs → (Pair → ℕ) → Pair → ℕ
 held_claims keys beyond pair = one_if (set.contains keys pair) + beyond pair
 
--- the same, by a table and the claims that are counted beside it
+-- how many claims of a pair a table and the counts beside it hold
 abbrev pub claims_in : Contents → Claims → Pair → ℕ
 claims_in table claims = held_claims table.keys (claims_beyond claims)
 
--- no claim is held beyond a key that isn't there
+-- only keys have claims beyond the first
 abbrev pub AreHeld : Pairs → (Pair → ℕ) → Type 0
 AreHeld keys beyond = (pair : Pair) → set.contains keys pair ≡ false → beyond pair ≡ 0

@@ -1,13 +1,17 @@
--- What an entry of a step says, however it is kept.
+-- An entry of a step as contracts see it.
 use Rattle.std.specs.Prelude.{Bool, Option}
 use Rattle.std.specs.declared.alloc.Global.{Global}
 use Rattle.std.specs.declared.rc.Rc.{Rc}
 use Rattle.mrt_events.specs.declared.event.Route.{Route}
 use Rattle.rib_player.specs.declared.pair.Pair.{Pair}
 
--- a pair, its route on the other side of the step, and whether it has one before the step and behind it
+-- one pair of a step
 pub record Entry : Type 0 where
+  -- the pair
   pub pair : Pair
+  -- its route on the other side of the step, if any: before an applied step, after one that isn't applied
   pub other : Option (Rc Route Global)
+  -- whether the pair has a route before the step
   pub before : Bool
-  pub behind : Bool
+  -- whether the pair has a route after the step
+  pub after : Bool

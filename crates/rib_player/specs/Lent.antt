@@ -1,25 +1,26 @@
 -- Private.
--- A store that is lent to be written.
+-- What it means that a store of one peer is lent as a mutable reference.
 use Rattle.std.specs.Prelude.{◌≡◌, Option, Some, OnSome}
 use Rattle.std.specs.Borrow.{LendsSo, Fml, MutBor, RattleType}
 use Rattle.mrt_events.specs.declared.peer.Peer.{Peer}
-use Rattle.rib_player.specs.Kept.{IsWritten}
+use Rattle.rib_player.specs.Representation.{IsUpdatedAt}
 use Rattle.rib_player.specs.StoresByPeer.{stores_in}
 use Rattle.rib_player.specs.Noted.{routed_in}
 use Rattle.rib_player.specs.declared.stores.Stores as numbered
 use Rattle.rib_player.specs.contracts.stores.Stores.{the_row}
 
--- of a peer a store was written, and nothing else
+-- the stores were changed from old to new by giving a peer this store; nothing else changed
 pub record IsLent {S : Type 0} (old new : numbered.Stores S) (peer : Peer) (store : S) : Type 0 where
-  pub written : IsWritten (stores_in old) (stores_in new) peer (Some store)
+  pub written : IsUpdatedAt (stores_in old) (stores_in new) peer (Some store)
   pub routed : routed_in new ≡ routed_in old
   pub order : new.order.entries ≡ old.order.entries
 
--- nothing was written
-pub record IsKeptWhole {S : Type 0} (old new : numbered.Stores S) : Type 0 where
+-- the stores, and which of them are noted to have a route, are unchanged
+pub record IsUnchanged {S : Type 0} (old new : numbered.Stores S) : Type 0 where
   pub stores : stores_in new ≡ stores_in old
   pub routed : routed_in new ≡ routed_in old
 
--- the peer has the last store that was written through r, if it is a reference, and all others keep theirs
+-- if `r` is a reference, then once it ends the peer has the store last written through it, and all else is as
+-- before; if it is none, nothing changes
 abbrev pub lends_store : (S : RattleType) → MutBor (numbered.Stores S.Denot) → Peer → Option (MutBor S.Denot) → Fml
-lends_store S s peer r = LendsSo (the_row S) S s r (λ n w. OnSome r (IsLent s.now n peer w)) (λ n. IsKeptWhole s.now n)
+lends_store S s peer r = LendsSo (the_row S) S s r (λ n w. OnSome r (IsLent s.now n peer w)) (λ n. IsUnchanged s.now n)

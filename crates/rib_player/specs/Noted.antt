@@ -2,10 +2,10 @@
 -- What is noted of the stores of peers.
 use Rattle.std.specs.Prelude.{Bool, List}
 use Rattle.mrt_events.specs.declared.peer.Peer.{Peer}
-use Rattle.rib_player.specs.Chosen.{choices}
+use Rattle.rib_player.specs.SparseSet.{choices}
 use Rattle.rib_player.specs.StoresByPeer.{stores_of}
 use Rattle.rib_player.specs.declared.stores.Stores as numbered
 
--- which of the peers are noted to have a route
+-- each peer that has a store, and whether the store is noted to have a route
 abbrev pub routed_in : {S : Type 0} → numbered.Stores S → List (Peer × Bool)
 routed_in s = stores_of (choices s.routed) s.order.entries

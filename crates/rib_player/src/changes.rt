@@ -1,14 +1,14 @@
-//! The changes that an event makes to pairs of a peer and a prefix. `steps.rt` calls
-//! [`changes_of`], and makes the entries of a step from them. Read [`Changes`] first.
+//! The changes that the items of an event make to pairs of a peer and a prefix. `steps.rt` calls
+//! [`changes_of`], and makes the entries of a step from the result. Read [`Changes`] first.
 
 ghost use Rattle.std.specs.Prelude.{◌≡◌, [], ◌∷◌, ◌≢◌, IfOk, IfSome, IfNone, OnOk, map, slice_get};
 ghost use Rattle.std.specs.List.{AllByRecursion, list_any};
 ghost use Rattle.std.specs.Ordering.{eq_by_cmp};
-ghost use Rattle.mrt_events.specs.Event.{saying, peer_cmp};
-ghost use Rattle.mrt_events.specs.SharedRoute.{AreOfOneRoute};
+ghost use Rattle.mrt_events.specs.Event.{item_value, peer_cmp};
+ghost use Rattle.mrt_events.specs.SharedRoute.{AnnounceOneRoute};
 ghost use Rattle.rib_player.specs.declared.pair.Pair.{Pair};
 ghost use Rattle.mrt_events.specs.declared.peer.Peer.{Peer};
-ghost use Rattle.rib_player.specs.History.{pair_of, Clear, where_true, item_effect, later, effect};
+ghost use Rattle.rib_player.specs.History.{pair_of, Clear, effect_if, item_effect, later, effect};
 ghost use Rattle.rib_player.specs.Tables.{route_in};
 ghost use Rattle.rib_player.specs.Changes.{noted_effect, effect_at, items_effect, HasRoute};
 
@@ -16,37 +16,39 @@ use crate::entry::Entry;
 use crate::numbered_peer::{NO_NUMBER, NumberedPeer};
 use crate::table::Table;
 use ip_prefix::Prefix;
-use known_routes::KnownRoutes;
+use known_routes::RouteInterner;
 use mrt_events::{ESTABLISHED, Event, Item, Peer, Route, same_peer};
 use prefix_store::PrefixStore;
 use std::alloc::{AllocError, Global};
 use std::collections::BTreeSet;
 use std::rc::Rc;
 
-/// The changes of the last items of an event.
+/// What the last items of an event do: the announcements and withdrawals that no later loss of
+/// their peer's session undoes, and the lost sessions.
 #[derive(Drop)]
 pub(crate) struct Changes {
-    // Of the items of a pair the last one decides, so items are noted from the last to the first.
-    // Those before the loss of their peer aren't noted.
+    // The last item of a pair decides, so items are noted from the last to the first, and those
+    // before the loss of their peer's session aren't noted.
     pub(crate) alloc: Global,
-    /// An entry for each noted item that announces or withdraws, with the route that its pair has
-    /// after the item. Of the entries of a pair, the first counts.
+    /// An entry for each noted announcement and withdrawal, with the route that it gives the pair,
+    /// the last item first. Of the entries of a pair, the first counts.
     pub(crate) entries: Vec<Entry>,
-    /// The peers whose session is lost, before all items that `entries` has of them.
+    /// The peers whose session is lost. Their items in `entries` are after the loss.
     pub(crate) lost: BTreeSet<Peer>,
 }
 
 impl Changes {
-    /// Returns whether the peer is in `lost`.
+    /// Returns `true` if the session of `peer` is lost by a noted item.
     #[inline]
-    fn has_lost(&self, peer: &Peer) -> bool
+    fn is_peer_lost(&self, peer: &Peer) -> bool
         ensures { result ≡ list_any (eq_by_cmp peer_cmp peer.now) self.now.lost.keys }
     {
         !self.lost.is_empty() && self.lost.contains(peer)
     }
 
-    /// Notes that the pair of `peer` and `prefix` has this route after an item, or none. If a later
-    /// item loses the peer's session, nothing is noted.
+    /// Notes an item that gives the pair of `peer` and `prefix` this route, or withdraws it for
+    /// `None`. Does nothing if a later item loses the peer's session. On an error, which means that
+    /// memory allocation failed, nothing is noted.
     fn note_route<S: PrefixStore<Rc<Route>>>(
         &mut self,
         table: &Table<S>,
@@ -58,27 +60,27 @@ impl Changes {
             ≡ later (effect_at (pair_of peer.now prefix.now) (route_in route) q)
             (noted_effect self.old q)) }
     {
-        if self.has_lost(peer) {
+        if self.is_peer_lost(peer) {
             return Ok(());
         }
-        let shared = shared_peer(self.alloc, table, self.entries.last(), peer)?;
-        let entry = Entry::new(self.alloc, shared, prefix, route)?;
+        let shared = share_numbered_peer(self.alloc, table, self.entries.last(), peer)?;
+        let entry = Entry::unapplied(self.alloc, shared, prefix, route)?;
         self.entries.push(entry)?;
         Ok(())
     }
 
-    /// Notes what `items` do, all of which are before the items noted so far. If `shared` is there,
-    /// it is taken as the route of each announcement; else each route is looked up by
-    /// [`KnownRoutes::known_if_short`].
-    fn note_each<S: PrefixStore<Rc<Route>>>(
+    /// Notes all of `items`, the last first. They must be before the items noted so far. If
+    /// `shared` is given, it must equal the route of each announcement, and is taken for it; else
+    /// each route is replaced by an equal one of `known`, unless it is long and has many owners.
+    fn note_items<S: PrefixStore<Rc<Route>>>(
         &mut self,
         table: &Table<S>,
         items: &[Item],
-        known: &mut KnownRoutes,
+        known: &mut RouteInterner,
         shared: Option<&Rc<Route>>,
     ) -> Result<(), AllocError>
         requires { IfSome shared (λ route.
-            AllByRecursion (λ item. HasRoute route.now.value (saying item)) items.now) }
+            AllByRecursion (λ item. HasRoute route.now.value (item_value item)) items.now) }
         ensures { OnOk result ((q : Pair) → noted_effect self.new q
             ≡ later (items_effect q items.now) (noted_effect self.old q)) }
     {
@@ -89,7 +91,7 @@ impl Changes {
                 Item::Announce(peer, prefix, route) => {
                     let own = match shared {
                         Some(shared) => shared.clone()?,
-                        None => known.known_if_short(peer, route)?,
+                        None => known.intern_if_cheap(peer, route)?,
                     };
                     self.note_route(table, peer, prefix, Some(own))?;
                 }
@@ -104,32 +106,33 @@ impl Changes {
         Ok(())
     }
 
-    /// Notes what `items` do, which announce prefixes of one peer with one route, and are before
-    /// the items noted so far. The route is looked up in `known` once.
-    fn note_shared<S: PrefixStore<Rc<Route>>>(
+    /// Notes all of `items`, the last first. They must be before the items noted so far, and
+    /// announce prefixes of one peer with one route, which is looked up in `known` once.
+    fn note_items_of_one_route<S: PrefixStore<Rc<Route>>>(
         &mut self,
         table: &Table<S>,
         items: &[Item],
-        known: &mut KnownRoutes,
+        known: &mut RouteInterner,
     ) -> Result<(), AllocError>
-        requires { AreOfOneRoute (map saying items.now) }
+        requires { AnnounceOneRoute (map item_value items.now) }
         ensures { OnOk result ((q : Pair) → noted_effect self.new q
             ≡ later (items_effect q items.now) (noted_effect self.old q)) }
     {
         let Some(Item::Announce(peer, _, route)) = items.first() else {
-            return self.note_each(table, items, known, None);
+            return self.note_items(table, items, known, None);
         };
-        let route = known.known(peer, route)?;
-        self.note_each(table, items, known, Some(&route))
+        let route = known.intern(peer, route)?;
+        self.note_items(table, items, known, Some(&route))
     }
 }
 
-/// Returns the changes that the event makes, with routes of `known` in place of equal ones.
+/// Returns the changes that `event` makes. Its routes are replaced by equal ones of `known`, which
+/// gets those that it hasn't. An error means that memory allocation failed.
 pub(crate) fn changes_of<S: PrefixStore<Rc<Route>>>(
     alloc: Global,
     event: &Event,
     table: &Table<S>,
-    known: &mut KnownRoutes,
+    known: &mut RouteInterner,
 ) -> Result<Changes, AllocError>
     ensures { IfOk result (λ changes. (q : Pair) → noted_effect changes q ≡ effect q event.now) }
 {
@@ -140,19 +143,19 @@ pub(crate) fn changes_of<S: PrefixStore<Rc<Route>>>(
     };
     let items = event.items.as_slice();
     let shared = event.items.shared_ranges();
-    changes.note_each(table, &items[shared.end..], known, None)?;
-    changes.note_shared(table, &items[shared.middle..shared.end], known)?;
-    changes.note_shared(table, &items[shared.start..shared.middle], known)?;
-    changes.note_each(table, &items[..shared.start], known, None)?;
+    changes.note_items(table, &items[shared.end..], known, None)?;
+    changes.note_items_of_one_route(table, &items[shared.middle..shared.end], known)?;
+    changes.note_items_of_one_route(table, &items[shared.start..shared.middle], known)?;
+    changes.note_items(table, &items[..shared.start], known, None)?;
     if changes.entries.len() < items.len() {
-        known.note_unused();
+        known.release_added();
     }
     Ok(changes)
 }
 
-/// Returns a pointer to the peer: the one of the entry `last` if that is of this peer, or the one
-/// of the table, or else a new one.
-pub(crate) fn shared_peer<S: PrefixStore<Rc<Route>>>(
+/// Returns a pointer to `peer` with the number of its store, to be shared by entries: the one of
+/// the entry `last` if that is of this peer, else the one of the table, else a new one.
+pub(crate) fn share_numbered_peer<S: PrefixStore<Rc<Route>>>(
     alloc: Global,
     table: &Table<S>,
     last: Option<&Entry>,
@@ -170,7 +173,7 @@ pub(crate) fn shared_peer<S: PrefixStore<Rc<Route>>>(
         }
         number = before.number().wrapping_add(1);
     }
-    if let Some(shared) = table.stores.shared_peer(number, peer) {
+    if let Some(shared) = table.stores.find_numbered_peer(number, peer) {
         return shared.clone();
     }
     Ok(Rc::new(alloc, NumberedPeer::new(*peer, NO_NUMBER))?)

@@ -1,7 +1,8 @@
-//! The claims of pairs of a peer and a prefix; a pair is a key of the table while it has one. It has
-//! a claim if it has a route at the floor, before all kept steps, and one for each kept step that
-//! brings it: it has no route before the step and one after it. The key stands for the first claim,
-//! and the others are counted here. `journal.rt` calls [`put_entry`] and [`give_up_claims`].
+//! The claims of pairs of a peer and a prefix, which tell how long a pair stays a key of the table:
+//! as long as it has a claim. A pair has one claim if it has a route at the floor, before all kept
+//! steps, and one for each kept step before which it has no route and after which it has one. The
+//! key stands for the first claim; the others are counted here. `journal.rt` calls [`apply_entry`]
+//! and [`release_claims`].
 
 ghost use Rattle.std.specs.Prelude.{◌≡◌, ◌+◌, ◌<◌, ◌≤◌, ◌||◌, ◌&&◌, true, false, is_some, length, nat_lt, [], ◌∷◌, None, OnOk, OnErr};
 ghost use Rattle.std.specs.FinMap as finite;
@@ -10,19 +11,19 @@ ghost use Rattle.std.specs.Ordering.{eq_by_cmp};
 ghost use Rattle.ip_prefix.specs.Network.{Network, network_cmp};
 ghost use Rattle.ip_prefix.specs.declared.addr.Family.TheVariants.{V4};
 ghost use Rattle.ip_prefix.specs.declared.addr.TheConstants.{V4_BITS};
-ghost use Rattle.prefix_store.specs.Stored.{AreAmong};
+ghost use Rattle.prefix_store.specs.Stored.{ContainsDomain};
 ghost use Rattle.prefix_store.specs.declared.store.TheConstants.{GREATEST_COUNT};
 ghost use Rattle.rib_player.specs.declared.pair.Pair.{Pair};
-ghost use Rattle.rib_player.specs.declared.entry.End.TheVariants.{Last};
+ghost use Rattle.rib_player.specs.declared.entry.JournalEnd.TheVariants.{Last};
 ghost use Rattle.rib_player.specs.History.{pair_cmp};
 ghost use Rattle.rib_player.specs.Tables.{route_in};
 ghost use Rattle.rib_player.specs.Journal.{sides_of};
-ghost use Rattle.rib_player.specs.Marks.{AreDistinct, mark_of, marks_of, gives_up_at, gives_up_by};
-ghost use Rattle.rib_player.specs.Calls.{IsPut};
-ghost use Rattle.rib_player.specs.Claims.{one_if, count_of, v4_key, claims_beyond, claims_in, AreHeld};
+ghost use Rattle.rib_player.specs.Sides.{AreDistinct, mark_of, marks_of, releases_claim_of, any_releases_claim_of};
+ghost use Rattle.rib_player.specs.Calls.{AreApplied};
+ghost use Rattle.rib_player.specs.Claims.{one_if, count_of, v4_prefix_number, claims_beyond, claims_in, AreHeld};
 
-use crate::entry::{End, Entry};
-use crate::few_counts::FewCounts;
+use crate::entry::{Entry, JournalEnd};
+use crate::key_counts::KeyCounts;
 use crate::pair::Pair;
 use crate::table::Table;
 use ip_prefix::{Family, Prefix};
@@ -33,14 +34,14 @@ use std::collections::BTreeMap;
 use std::mem::size_of;
 use std::rc::Rc;
 
-/// The number of claims of pairs beyond the first, which the key stands for. Only pairs that were
-/// withdrawn and announced again in the kept steps have any.
+/// The number of claims of each pair beyond the first, for which the key stands. Only pairs that
+/// were withdrawn and announced again in the kept steps have any.
 #[derive(Drop)]
 pub(crate) struct Claims {
     // The counts of a peer are boxed, so that free slots of the map take little memory.
     alloc: Global,
     /// The counts of each peer that has any.
-    pub(crate) peers: BTreeMap<Peer, Box<Counts>>,
+    pub(crate) peers: BTreeMap<Peer, Box<PeerClaims>>,
 }
 
 impl Claims {
@@ -54,7 +55,8 @@ impl Claims {
         }
     }
 
-    /// Adds a claim of the pair. On an error, the counts are unchanged.
+    /// Adds a claim of `pair` to those counted here. On an error, which means that memory
+    /// allocation failed, the counts are unchanged.
     fn add(&mut self, pair: &Pair) -> Result<(), AllocError>
         requires { claims_beyond self.old pair.now < GREATEST_COUNT }
         ensures counted { OnOk result ((q : Pair) → claims_beyond self.new q
@@ -63,16 +65,17 @@ impl Claims {
             claims_beyond self.new q ≡ claims_beyond self.old q) }
     {
         if let Some(counts) = self.peers.get_mut(&pair.peer) {
-            return counts.more(self.alloc, &pair.prefix);
+            return counts.increment(self.alloc, &pair.prefix);
         }
-        let mut counts = Counts::new();
-        counts.more(self.alloc, &pair.prefix)?;
+        let mut counts = PeerClaims::new();
+        counts.increment(self.alloc, &pair.prefix)?;
         let counts = Box::new(self.alloc, counts)?;
         self.peers.insert(pair.peer, counts)?;
         Ok(())
     }
 
-    /// Gives up a claim of the pair that is counted here, and returns whether there was one.
+    /// Removes a claim of `pair`, if one is counted here, and returns `true` if it did. Allocates
+    /// no memory.
     fn take(&mut self, pair: &Pair) -> bool
         ensures some { result ≡ nat_lt 0 (claims_beyond self.old pair.now) }
         ensures counted { (q : Pair) → claims_beyond self.new q
@@ -81,7 +84,7 @@ impl Claims {
         let Some(counts) = self.peers.get_mut(&pair.peer) else {
             return false;
         };
-        let taken = counts.less(&pair.prefix);
+        let taken = counts.decrement(&pair.prefix);
         if counts.is_empty() {
             self.peers.remove(&pair.peer);
         }
@@ -89,16 +92,17 @@ impl Claims {
     }
 }
 
-/// Applies one entry of a new step to the table, and adds a claim if the step brings the pair: it
-/// becomes a key or, if it is one, gets a claim beyond the key. On an error, table and claims are
+/// Applies the entry of a new step to the table, and adds a claim if the step gives its pair a
+/// route and the pair had none: the pair becomes a key or, if it is one already, gets a claim
+/// beyond the key. On an error, which means that memory allocation failed, table and claims are
 /// unchanged, and the entry is unspecified.
-pub(crate) fn put_entry<S: PrefixStore<Rc<Route>>>(
+pub(crate) fn apply_entry<S: PrefixStore<Rc<Route>>>(
     table: &mut Table<S>,
     claims: &mut Claims,
     entry: &mut Entry,
 ) -> Result<(), AllocError>
     requires held { AreHeld table.old.keys (claims_beyond claims.old) }
-    requires among { AreAmong table.old.keys table.old.routes }
+    requires among { ContainsDomain table.old.keys table.old.routes }
     requires named { (is_some (finite.get table.old.routes entry.old.pair)
         || is_some (route_in entry.old.other)) ≡ true }
     requires few { claims_beyond claims.old entry.old.pair < GREATEST_COUNT }
@@ -106,14 +110,14 @@ pub(crate) fn put_entry<S: PrefixStore<Rc<Route>>>(
     ensures keys { OnOk result (table.new.keys ≡ set.insert table.old.keys entry.old.pair) }
     ensures claimed { OnOk result ((q : Pair) →
         claims_in table.new claims.new q ≡ claims_in table.old claims.old q
-        + one_if (gives_up_at Last (mark_of entry.new) q)) }
-    ensures put { OnOk result (IsPut table.old table.new (entry.old ∷ []) (entry.new ∷ [])) }
+        + one_if (releases_claim_of Last (mark_of entry.new) q)) }
+    ensures put { OnOk result (AreApplied table.old table.new (entry.old ∷ []) (entry.new ∷ [])) }
     ensures refused { OnErr result ((q : Pair) →
         claims_in table.new claims.new q ≡ claims_in table.old claims.old q) }
     ensures kept { OnErr result (table.new.routes ≡ table.old.routes) }
 {
     let made = entry.put(table)?;
-    if made || !entry.gives_up(End::Last) {
+    if made || !entry.releases_claim(JournalEnd::Last) {
         return Ok(());
     }
     if let Err(refused) = claims.add(&entry.pair()) {
@@ -123,28 +127,29 @@ pub(crate) fn put_entry<S: PrefixStore<Rc<Route>>>(
     Ok(())
 }
 
-/// Gives up the claims that go with a step at this end (`Entry::gives_up`): of each pair one beyond
-/// the key or, if there is none, the key. It allocates no memory.
-pub(crate) fn give_up_claims<S: PrefixStore<Rc<Route>>>(
+/// Releases the claims that go when a step with these entries is removed at `end`
+/// ([`Entry::releases_claim`]): for each such pair, one claim beyond the key or, if it has none,
+/// the key itself, which must have no route then. Allocates no memory.
+pub(crate) fn release_claims<S: PrefixStore<Rc<Route>>>(
     table: &mut Table<S>,
     claims: &mut Claims,
     entries: &[Entry],
-    end: End,
+    end: JournalEnd,
 )
     requires held { AreHeld table.old.keys (claims_beyond claims.old) }
     requires distinct { AreDistinct (sides_of entries.now) }
-    requires keys { (q : Pair) → gives_up_by end (marks_of entries.now) q ≡ true →
+    requires keys { (q : Pair) → any_releases_claim_of end (marks_of entries.now) q ≡ true →
         set.contains table.old.keys q ≡ true }
-    requires free { (q : Pair) → gives_up_by end (marks_of entries.now) q ≡ true →
+    requires free { (q : Pair) → any_releases_claim_of end (marks_of entries.now) q ≡ true →
         claims_beyond claims.old q ≡ 0 → finite.get table.old.routes q ≡ None }
     ensures held { AreHeld table.new.keys (claims_beyond claims.new) }
     ensures claimed { (q : Pair) → claims_in table.new claims.new q
-        + one_if (gives_up_by end (marks_of entries.now) q)
+        + one_if (any_releases_claim_of end (marks_of entries.now) q)
         ≡ claims_in table.old claims.old q }
     ensures routes { table.new.routes ≡ table.old.routes }
 {
     'entries: for entry in entries {
-        if entry.gives_up(end) {
+        if entry.releases_claim(end) {
             let pair = entry.pair();
             if !claims.take(&pair) {
                 table.discard(&pair);
@@ -153,57 +158,59 @@ pub(crate) fn give_up_claims<S: PrefixStore<Rc<Route>>>(
     }
 }
 
-/// The number of addresses of IPv4, so that each address is a number below it. One that were above
-/// it would be counted as one of the prefixes that are longer.
+/// The number of IPv4 addresses: each address, as a number, is below it. With a smaller one,
+/// prefixes of different lengths would get the same number.
 const ADDRESSES: u64 = 1 << 32;
 
-/// The number of bits after an address of IPv4 in the first half of a prefix, which begins with it.
+/// The number of bits below the IPv4 address in the high half of a prefix, of 64 bits.
 const BELOW: u32 = 32;
 
-/// The number of claims of the prefixes of a peer beyond the keys, for each family.
+/// The number of claims of each prefix of one peer beyond the key.
 #[derive(Drop)]
-pub(crate) struct Counts {
-    v4: FewCounts<u64>,
-    v6: FewCounts<Prefix>,
+pub(crate) struct PeerClaims {
+    /// The counts of IPv4 prefixes, each as a number ([`v4_prefix_number`]).
+    v4: KeyCounts<u64>,
+    /// The counts of IPv6 prefixes.
+    v6: KeyCounts<Prefix>,
 }
 
-/// The number of octets that the counts of a peer take at most, besides the lists and maps that a
-/// family gets once two of its prefixes are counted. With one octet more, the check of the crate
-/// fails.
+/// The largest size of [`PeerClaims`] in octets, without the lists and maps that a family gets once
+/// two of its prefixes are counted. A larger one fails the check of the crate, by the next line.
 const COUNTS_OCTETS: usize = 72;
 
-const _: () = prove!(size_of::<Counts>() <= COUNTS_OCTETS);
+const _: () = prove!(size_of::<PeerClaims>() <= COUNTS_OCTETS);
 
-/// Returns a prefix of IPv4 as a number: 2^32 times its length, plus its least address.
+/// Returns an IPv4 prefix as a number: 2^32 times its length, plus its address as a number.
 #[inline]
-fn v4_key(prefix: &Prefix) -> u64
+fn v4_prefix_number(prefix: &Prefix) -> u64
     requires { prefix.now.family ≡ V4 }
-    ensures key { result ≡ v4_key prefix.now }
+    ensures key { result ≡ v4_prefix_number prefix.now }
     ensures within { length prefix.now.bits ≤ V4_BITS }
 {
-    u64::from(prefix.len()) * ADDRESSES + (prefix.high_half() >> BELOW)
+    u64::from(prefix.len()) * ADDRESSES + (prefix.high_64_bits() >> BELOW)
 }
 
-impl Counts {
+impl PeerClaims {
     /// Returns counts that are all 0.
-    fn new() -> Counts
+    fn new() -> PeerClaims
         ensures { (n : Network) → count_of result n ≡ 0 }
     {
-        Counts {
-            v4: FewCounts::None,
-            v6: FewCounts::None,
+        PeerClaims {
+            v4: KeyCounts::None,
+            v6: KeyCounts::None,
         }
     }
 
-    /// Returns whether no prefix is counted.
+    /// Returns `true` if no prefix has a claim counted here.
     fn is_empty(&self) -> bool
         ensures { result ≡ true → (n : Network) → count_of self.now n ≡ 0 }
     {
         self.v4.is_empty() && self.v6.is_empty()
     }
 
-    /// Adds a claim of the prefix. On an error, the counts are unchanged.
-    fn more(&mut self, alloc: Global, prefix: &Prefix) -> Result<(), AllocError>
+    /// Adds a claim of `prefix`. On an error, which means that memory allocation failed, the counts
+    /// are unchanged.
+    fn increment(&mut self, alloc: Global, prefix: &Prefix) -> Result<(), AllocError>
         requires { count_of self.old prefix.now < GREATEST_COUNT }
         ensures counted { OnOk result ((n : Network) → count_of self.new n
             ≡ count_of self.old n + one_if (eq_by_cmp network_cmp n prefix.now)) }
@@ -211,20 +218,20 @@ impl Counts {
             count_of self.new n ≡ count_of self.old n) }
     {
         match prefix.family() {
-            Family::V4 => self.v4.more(alloc, v4_key(prefix)),
-            Family::V6 => self.v6.more(alloc, *prefix),
+            Family::V4 => self.v4.increment(alloc, v4_prefix_number(prefix)),
+            Family::V6 => self.v6.increment(alloc, *prefix),
         }
     }
 
-    /// Gives up a claim of the prefix that is counted here, and returns whether there was one.
-    fn less(&mut self, prefix: &Prefix) -> bool
+    /// Removes a claim of `prefix`, if one is counted here, and returns `true` if it did.
+    fn decrement(&mut self, prefix: &Prefix) -> bool
         ensures some { result ≡ nat_lt 0 (count_of self.old prefix.now) }
         ensures counted { (n : Network) → count_of self.new n
             + one_if (result && eq_by_cmp network_cmp n prefix.now) ≡ count_of self.old n }
     {
         match prefix.family() {
-            Family::V4 => self.v4.less(&v4_key(prefix)),
-            Family::V6 => self.v6.less(prefix),
+            Family::V4 => self.v4.decrement(&v4_prefix_number(prefix)),
+            Family::V6 => self.v6.decrement(prefix),
         }
     }
 }

@@ -1,66 +1,68 @@
-//! The entries of steps, in little memory. An entry has a pair of a peer and a prefix, the route
-//! that the pair has on the other side of the step, and two marks: whether the pair has a route
-//! before the step, and after it. `entry/crossing.rt` swaps the routes of entries and table. Read
-//! [`Entry`] first.
+//! The entries of steps, in three words each. An entry has a pair of a peer and a prefix, the route
+//! that the pair has on the other side of the step, and whether the pair has a route before the
+//! step and after it. `entry/swaps.rt` swaps the routes of entries and table. Read [`Entry`] first.
 
 ghost use Rattle.std.specs.Prelude.{◌≡◌, None, IfOk, option_copied};
 ghost use Rattle.rib_player.specs.History.{pair_of};
-ghost use Rattle.rib_player.specs.Kept.{new_entry, entry_kept, IsWhole};
-ghost use Rattle.rib_player.specs.Marks.{mark_of, gives_up};
+ghost use Rattle.rib_player.specs.Representation.{unapplied_entry, entry_of_repr, HasContents};
+ghost use Rattle.rib_player.specs.Sides.{mark_of, releases_claim};
 
-mod crossing;
+mod swaps;
 
 use crate::numbered_peer::NumberedPeer;
 use crate::pair::Pair;
 use ip_prefix::{Family, Prefix};
 use mrt_events::{Peer, Route};
-use prefix_store::{Packed, V4Prefix};
+use prefix_store::{PackedPrefix, V4Prefix};
 use std::alloc::{AllocError, Global};
 use std::marker::Model;
 use std::mem::size_of;
 use std::rc::Rc;
 
-/// An entry of a step: a pair that the step names, and its route on the other side of the step, or
-/// none. That side is before the step while it is applied, and after it while it is undone.
+/// What one step does to one pair of a peer and a prefix: the pair, and its route on the other side
+/// of the step, if any. While the step is applied, that is the route before it; while it isn't, the
+/// route after it. The table has the route on this side.
 #[derive(Drop)]
 pub(crate) struct Entry {
-    kept: Kept,
+    kept: EntryRepr,
 }
 
-/// The marks of an entry: whether its pair has a route before the step, and after it.
+/// Whether the pair of an entry has a route before the step, and after it. Set when the step is
+/// first applied; false before.
 #[derive(Clone, Copy)]
-struct Marks {
+struct RoutedSides {
     /// Whether the pair has a route before the step.
     before: bool,
     /// Whether the pair has a route after the step.
-    behind: bool,
+    after: bool,
 }
 
-/// A step: one entry for each pair that it names.
+/// A step of the journal, which one event made.
 #[derive(Drop)]
 pub(crate) struct Step {
+    /// One entry for each pair that the step names, in unspecified order.
     pub(crate) entries: Vec<Entry>,
 }
 
-/// An end of the list of kept steps, at which one of them goes.
+/// The end of the journal at which a step is removed.
 #[derive(Clone, Copy)]
-pub(crate) enum End {
-    /// The end of the first step, which is forgotten.
+pub(crate) enum JournalEnd {
+    /// The oldest step is removed: it is forgotten, while it is applied.
     First,
-    /// The end of the last step, which is dropped.
+    /// The newest step is removed: it is dropped, while it isn't applied.
     Last,
 }
 
-/// The contents of an entry: its marks, its pair, and its route if there is one.
+/// The memory layout of an entry, by the family of its prefix and by whether it has a route.
 #[derive(Drop)]
-enum Kept {
-    // An IPv4 prefix is beside the marks, so that an entry takes three words; an IPv6 prefix is
-    // boxed with its peer. The entries of a peer share it.
-    V4Absent(Marks, V4Prefix, Rc<NumberedPeer>),
-    V4Present(Marks, V4Prefix, Rc<NumberedPeer>, Rc<Route>),
-    V6Absent(Marks, Box<V6Pair>),
-    V6Present(Marks, Box<V6Pair>, Rc<Route>),
-    /// No contents, while an entry is changed. No caller finds an entry so.
+enum EntryRepr {
+    // An IPv4 prefix is stored beside the two flags, so that an entry takes three words; an IPv6
+    // prefix is boxed with its peer. The entries of a peer share the peer.
+    V4Absent(RoutedSides, V4Prefix, Rc<NumberedPeer>),
+    V4Present(RoutedSides, V4Prefix, Rc<NumberedPeer>, Rc<Route>),
+    V6Absent(RoutedSides, Box<V6Pair>),
+    V6Present(RoutedSides, Box<V6Pair>, Rc<Route>),
+    /// No contents. Only in use while an entry is changed.
     Taken,
 }
 
@@ -71,47 +73,48 @@ struct V6Pair {
     peer: Rc<NumberedPeer>,
 }
 
-/// The number of octets that an entry takes at most, besides an IPv6 prefix. With one octet more,
-/// the check of the crate fails.
+/// The largest size of an [`Entry`] in octets, without the box of an IPv6 prefix. A larger one
+/// fails the check of the crate, by the next line.
 const ENTRY_OCTETS: usize = 24;
 
 const _: () = prove!(size_of::<Entry>() <= ENTRY_OCTETS);
 
 impl Model for Entry {
     ghost use Rattle.rib_player.specs.Entries.{Entry};
-    ghost use Rattle.rib_player.specs.Kept.{entry_kept, IsWhole};
+    ghost use Rattle.rib_player.specs.Representation.{entry_of_repr, HasContents};
 
     ghost Value = { Entry };
 
-    ghost view = { λ e. entry_kept e.kept };
+    ghost view = { λ e. entry_of_repr e.kept };
 
-    ghost invariant = { λ e. IsWhole e.kept };
+    ghost invariant = { λ e. HasContents e.kept };
 }
 
 impl Entry {
-    /// Returns an entry of a step that isn't applied yet. `other` is the route that the pair has
-    /// after the step.
-    pub(crate) fn new(
+    /// Returns an entry of a step that isn't applied yet, for the pair of `peer` and `prefix`.
+    /// `other` is the route that the step gives the pair, or `None` if it clears the pair. An error
+    /// means that memory allocation failed, as it may for IPv6.
+    pub(crate) fn unapplied(
         alloc: Global,
         peer: Rc<NumberedPeer>,
         prefix: &Prefix,
         other: Option<Rc<Route>>,
     ) -> Result<Entry, AllocError>
         ensures { IfOk result (λ entry.
-            entry ≡ new_entry (pair_of peer.value prefix.now) other) }
+            entry ≡ unapplied_entry (pair_of peer.value prefix.now) other) }
     {
-        let marks = Marks {
+        let marks = RoutedSides {
             before: false,
-            behind: false,
+            after: false,
         };
         let absent = match prefix.family() {
-            Family::V4 => Kept::V4Absent(marks, V4Prefix::of(prefix), peer),
+            Family::V4 => EntryRepr::V4Absent(marks, V4Prefix::pack(prefix), peer),
             Family::V6 => {
                 let pair = V6Pair {
                     prefix: *prefix,
                     peer,
                 };
-                Kept::V6Absent(marks, Box::new(alloc, pair)?)
+                EntryRepr::V6Absent(marks, Box::new(alloc, pair)?)
             }
         };
         Ok(Entry {
@@ -119,18 +122,18 @@ impl Entry {
         })
     }
 
-    /// Returns the peer and the prefix of the pair.
+    /// Returns the peer and the prefix of the entry's pair.
     #[inline]
-    fn parts(&self) -> (&Rc<NumberedPeer>, Prefix)
+    fn peer_and_prefix(&self) -> (&Rc<NumberedPeer>, Prefix)
         ensures peer { result.0.now.value ≡ self.now.pair.peer }
         ensures prefix { result.1 ≡ self.now.pair.prefix }
     {
         match &self.kept {
-            Kept::V4Absent(_, prefix, peer) => (peer, prefix.wide()),
-            Kept::V4Present(_, prefix, peer, _) => (peer, prefix.wide()),
-            Kept::V6Absent(_, pair) => (&pair.peer, pair.prefix),
-            Kept::V6Present(_, pair, _) => (&pair.peer, pair.prefix),
-            Kept::Taken => unreachable!(),
+            EntryRepr::V4Absent(_, prefix, peer) => (peer, prefix.unpack()),
+            EntryRepr::V4Present(_, prefix, peer, _) => (peer, prefix.unpack()),
+            EntryRepr::V6Absent(_, pair) => (&pair.peer, pair.prefix),
+            EntryRepr::V6Present(_, pair, _) => (&pair.peer, pair.prefix),
+            EntryRepr::Taken => unreachable!(),
         }
     }
 
@@ -139,19 +142,20 @@ impl Entry {
     pub(crate) fn pair(&self) -> Pair
         ensures { result ≡ self.now.pair }
     {
-        let (peer, prefix) = self.parts();
+        let (peer, prefix) = self.peer_and_prefix();
         Pair {
             peer: *peer.peer(),
             prefix,
         }
     }
 
-    /// Returns a pointer to the peer of the pair, which other entries may share.
+    /// Returns the peer of the pair with the number of its store, as the pointer that entries
+    /// share.
     #[inline]
     pub(crate) fn shared_peer(&self) -> &Rc<NumberedPeer>
         ensures { result.now.value ≡ self.now.pair.peer }
     {
-        self.parts().0
+        self.peer_and_prefix().0
     }
 
     /// Returns the peer of the pair.
@@ -167,93 +171,101 @@ impl Entry {
     pub(crate) fn prefix(&self) -> Prefix
         ensures { result ≡ self.now.pair.prefix }
     {
-        self.parts().1
+        self.peer_and_prefix().1
     }
 
-    /// Returns the route on the other side of the step, or `None` if the pair has none there.
+    /// Returns the route that the pair has on the other side of the step, or `None` if it has none
+    /// there: before the step while it is applied, after it while it isn't.
     #[inline]
     pub(crate) fn route(&self) -> Option<&Rc<Route>>
         ensures { option_copied result ≡ self.now.other }
     {
         match &self.kept {
-            Kept::V4Present(_, _, _, route) => Some(route),
-            Kept::V6Present(_, _, route) => Some(route),
+            EntryRepr::V4Present(_, _, _, route) => Some(route),
+            EntryRepr::V6Present(_, _, route) => Some(route),
             _ => None,
         }
     }
 
-    /// Returns whether a claim of the pair is given up as the step goes at this end: at the first
-    /// end if the step clears the pair, which has a route before it and none after it; at the last
-    /// end if the step brings the pair, which has none before it and one after it.
+    /// Returns `true` if removing the step at `end` releases a claim of the pair (`claims.rt`): at
+    /// the first end if the step clears the pair, so that it has a route before the step and none
+    /// after it; at the last end if it has none before the step and one after it.
     #[inline]
-    pub(crate) fn gives_up(&self, end: End) -> bool
-        ensures { result ≡ gives_up end (mark_of self.now) }
+    pub(crate) fn releases_claim(&self, end: JournalEnd) -> bool
+        ensures { result ≡ releases_claim end (mark_of self.now) }
     {
         let marks = match &self.kept {
-            Kept::V4Absent(marks, _, _) => marks,
-            Kept::V4Present(marks, _, _, _) => marks,
-            Kept::V6Absent(marks, _) => marks,
-            Kept::V6Present(marks, _, _) => marks,
-            Kept::Taken => unreachable!(),
+            EntryRepr::V4Absent(marks, _, _) => marks,
+            EntryRepr::V4Present(marks, _, _, _) => marks,
+            EntryRepr::V6Absent(marks, _) => marks,
+            EntryRepr::V6Present(marks, _, _) => marks,
+            EntryRepr::Taken => unreachable!(),
         };
         match end {
-            End::First => marks.before && !marks.behind,
-            End::Last => !marks.before && marks.behind,
+            JournalEnd::First => marks.before && !marks.after,
+            JournalEnd::Last => !marks.before && marks.after,
         }
     }
 
-    /// Sets the marks: whether the pair has a route before the step, and after it.
+    /// Sets whether the pair has a route before the step, and after it.
     #[inline]
-    fn set_marks(&mut self, new: Marks)
+    fn set_routed_sides(&mut self, new: RoutedSides)
         ensures { self.new ≡ record {
           pair = self.old.pair;
           other = self.old.other;
           before = new.before;
-          behind = new.behind;
+          after = new.after;
         } }
     {
         match &mut self.kept {
-            Kept::V4Absent(marks, _, _) => *marks = new,
-            Kept::V4Present(marks, _, _, _) => *marks = new,
-            Kept::V6Absent(marks, _) => *marks = new,
-            Kept::V6Present(marks, _, _) => *marks = new,
-            Kept::Taken => unreachable!(),
+            EntryRepr::V4Absent(marks, _, _) => *marks = new,
+            EntryRepr::V4Present(marks, _, _, _) => *marks = new,
+            EntryRepr::V6Absent(marks, _) => *marks = new,
+            EntryRepr::V6Present(marks, _, _) => *marks = new,
+            EntryRepr::Taken => unreachable!(),
         }
     }
 }
 
-impl Kept {
-    /// Splits contents into those without a route, and the route if there is one.
+impl EntryRepr {
+    /// Splits contents into those without a route, and the route, if there is one. `self` must not
+    /// be `Taken`.
     #[inline]
-    fn without_route(self) -> (Kept, Option<Rc<Route>>)
-        requires { IsWhole self }
-        ensures whole { IsWhole result.0 }
-        ensures kept { entry_kept result.0 ≡ record (entry_kept self) { other = None } }
-        ensures other { result.1 ≡ (entry_kept self).other }
+    fn split_off_route(self) -> (EntryRepr, Option<Rc<Route>>)
+        requires { HasContents self }
+        ensures whole { HasContents result.0 }
+        ensures kept { entry_of_repr result.0 ≡ record (entry_of_repr self) { other = None } }
+        ensures other { result.1 ≡ (entry_of_repr self).other }
     {
         match self {
-            Kept::V4Present(marks, prefix, peer, route) => {
-                (Kept::V4Absent(marks, prefix, peer), Some(route))
+            EntryRepr::V4Present(marks, prefix, peer, route) => {
+                (EntryRepr::V4Absent(marks, prefix, peer), Some(route))
             }
-            Kept::V6Present(marks, pair, route) => (Kept::V6Absent(marks, pair), Some(route)),
+            EntryRepr::V6Present(marks, pair, route) => (
+                EntryRepr::V6Absent(marks, pair),
+                Some(route),
+            ),
             absent => (absent, None),
         }
     }
 
-    /// Returns the contents with `other` as their route. They must have none.
+    /// Returns the contents with `other` as their route. `self` must have no route, and not be
+    /// `Taken`.
     #[inline]
-    fn with_route(self, other: Option<Rc<Route>>) -> Kept
-        requires whole { IsWhole self }
-        requires absent { (entry_kept self).other ≡ None }
-        ensures whole { IsWhole result }
-        ensures kept { entry_kept result ≡ record (entry_kept self) { other = other } }
+    fn with_route(self, other: Option<Rc<Route>>) -> EntryRepr
+        requires whole { HasContents self }
+        requires absent { (entry_of_repr self).other ≡ None }
+        ensures whole { HasContents result }
+        ensures kept { entry_of_repr result ≡ record (entry_of_repr self) { other = other } }
     {
         let Some(route) = other else {
             return self;
         };
         match self {
-            Kept::V4Absent(marks, prefix, peer) => Kept::V4Present(marks, prefix, peer, route),
-            Kept::V6Absent(marks, pair) => Kept::V6Present(marks, pair, route),
+            EntryRepr::V4Absent(marks, prefix, peer) => EntryRepr::V4Present(
+                marks, prefix, peer, route,
+            ),
+            EntryRepr::V6Absent(marks, pair) => EntryRepr::V6Present(marks, pair, route),
             _ => unreachable!(),
         }
     }

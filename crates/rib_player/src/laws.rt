@@ -1,6 +1,7 @@
-//! Theorems about the definitions that the contracts of the player and its table cite. The
-//! functions have no code and nothing calls them: what they state is proved as the crate is
-//! checked. `docs/proved.md` names them.
+//! Theorems about the definitions that the contracts of [`Player`](crate::Player) and
+//! [`Table`](crate::Table) cite. The functions here have no code and nothing calls them: each is a
+//! statement, its `ensures` clauses, that is proved when the crate is checked. Read
+//! [`law_tables_by_position`] first; `docs/proved.md` names them all.
 #![tactic(auto, using(crate::proofs::LawRules::law_lemmas))]
 
 ghost use Rattle.std.specs.Prelude.{◌≡◌, ℕ, ◌≤◌, ◌<◌, ◌+◌, ◌-◌, ◌++◌, ◌∷◌, ◌||◌, [], List, is_some, length, take, slice_get, nat_lt, min, Option, Some, None};
@@ -20,25 +21,26 @@ ghost use Rattle.mrt_events.specs.declared.event.TheConstants.{ESTABLISHED};
 ghost use Rattle.rib_player.specs.History.{pair_cmp, pair_of, effect, route_after, route};
 ghost use Rattle.rib_player.specs.Tables.{Routes, table, table_after, is_named, named_pairs, peer_routes, routed_peers};
 ghost use Rattle.rib_player.specs.Lookups.{routed_above};
-ghost use Rattle.rib_player.specs.Timeline.{Timeline, end_of, table_at, current, after_play, forgettable, after_forget, fresh, after_undo, after_redo, without_first, wanted, IsWellFormed};
-ghost use Rattle.rib_player.specs.Calls.{Call, StandsFor, names_at, undone, redone, after_call, after_calls, history_after, history_after_calls};
+ghost use Rattle.rib_player.specs.Timeline.{Timeline, end_of, table_at, current, after_play, forgettable, after_forget, fresh, after_undo, after_redo, without_first, needed_keys, IsWellFormed};
+ghost use Rattle.rib_player.specs.Calls.{Call, StandsFor, named_pairs_at, play_undo_calls, play_undo_redo_calls, after_call, after_calls, history_after, history_after_calls};
 ghost use Rattle.rib_player.specs.Claims.{one_if, claims, first_clears, last_brings, event_brings, without_last};
 
-/// Proves the value of the number that the definitions name: the session state Established (RFC
-/// 6396, section 4.4.1).
-pub fn state_numbers()
+/// States the number of the session state Established, which the definitions name: 6 (RFC 6396,
+/// section 4.4.1).
+pub fn law_state_numbers()
     ensures established { ESTABLISHED ≡ 6 }
 {}
 
-/// Proves that the order of pairs is total, and that only equal pairs compare equal.
-pub fn pair_order()
+/// States that the order of pairs of peer and prefix is total, and that only equal pairs compare
+/// equal.
+pub fn law_pair_order()
     ensures total { IsTotalOrder pair_cmp }
     ensures ties { IsAntisymmetric pair_cmp }
 {}
 
-/// Proves what is at each pair of the table of a history and of a table after an event, and which
-/// pairs an event names.
-pub fn routes_at_pairs()
+/// States which route the table of a history of events has at each pair, which one the table after
+/// an event has, and which pairs an event names.
+pub fn law_routes_at_pairs()
     ensures table { (history : List Event) (pair : Pair) →
         finite.get (table history) pair ≡ route pair history }
     ensures table_after { (routes : Routes) (event : Event) (pair : Pair) →
@@ -49,9 +51,9 @@ pub fn routes_at_pairs()
         ≡ is_named (finite.get routes pair) (effect pair event) }
 {}
 
-/// Proves that the routes of a peer are those at its pairs, and that the list of peers that have a
-/// route has each of them once, in order.
-pub fn routes_of_peers()
+/// States that the routes of a peer are those at its pairs, and that the list of the peers that
+/// have a route has each of them once, in order.
+pub fn law_routes_of_peers()
     ensures routes { (routes : Routes) (peer : Peer) (prefix : Network) →
         finite.get (peer_routes routes peer) prefix ≡ finite.get routes (pair_of peer prefix) }
     ensures peers { (routes : Routes) (peer : Peer) →
@@ -60,9 +62,10 @@ pub fn routes_of_peers()
     ensures order { (routes : Routes) → IsStrictlySortedBy peer_cmp (routed_peers routes) }
 {}
 
-/// Proves that a walk from the least peer that has a route to the next greater one, and so on,
-/// meets all peers that have a route, in order, and then ends.
-pub fn walk_over_peers()
+/// States that a walk by [`Table::peer_after`](crate::Table::peer_after), from the least peer that
+/// has a route to the next greater one and so on, meets each peer that has a route, in order, and
+/// then ends.
+pub fn law_walk_over_peers()
     ensures all { (routes : Routes) →
         routed_above routes None ≡ routed_peers routes }
     ensures next { (routes : Routes) (low : Option Peer) (p : Peer)
@@ -73,20 +76,21 @@ pub fn walk_over_peers()
         → routed_above routes low ≡ [] }
 {}
 
-/// Proves which pairs are wanted, and so are the keys of a player's table: those that have a route
-/// at the cursor, or that a kept step names, before or after the cursor.
-pub fn wanted_pairs()
-    ensures { (t : Timeline) (pair : Pair) → set.contains (wanted t) pair
+/// States which pairs are keys of a player's table: those that have a route at the cursor, and
+/// those that a kept step names, before or after the cursor.
+pub fn law_needed_keys()
+    ensures { (t : Timeline) (pair : Pair) → set.contains (needed_keys t) pair
         ≡ (is_some (finite.get (current t) pair)
         || list_any (λ step. set.contains step pair) t.steps) }
 {}
 
-/// Proves that the wanted pairs are those with a claim (`claims.rt`), and how these change:
-/// forgetting the first step takes one from each pair that it clears, dropping the last step takes
-/// one from each pair that it brings, and playing an event adds one for each pair that it brings.
-pub fn claimed_pairs()
-    ensures wanted { (t : Timeline) (history : List Event) (pair : Pair) → StandsFor t history →
-        set.contains (wanted t) pair ≡ nat_lt 0 (claims t pair) }
+/// States that the keys of a player's table are the pairs with a claim (`claims.rt`), and how
+/// claims change: forgetting the first step takes one from each pair that the step clears, dropping
+/// the last step takes one from each pair that it brings (that has no route before it and one after
+/// it), and playing an event adds one to each pair that the event brings.
+pub fn law_claimed_pairs()
+    ensures needed_keys { (t : Timeline) (history : List Event) (pair : Pair) → StandsFor t history →
+        set.contains (needed_keys t) pair ≡ nat_lt 0 (claims t pair) }
     ensures forgotten { (t : Timeline) (pair : Pair) → IsWellFormed t → 0 < length t.steps →
         claims t pair ≡ claims (without_first 1 t) pair
         + one_if (first_clears t pair) }
@@ -98,54 +102,56 @@ pub fn claimed_pairs()
         claims (after_play t e) pair ≡ claims t pair + one_if (event_brings t e pair) }
 {}
 
-/// Proves that the table of a history with one event more is the history's table after that event.
-pub fn one_event_more()
+/// States that the table of a history with one more event is the history's table after that event.
+pub fn law_one_event_more()
     ensures { (history : List Event) (event : Event) →
         table (history ++ event ∷ []) ≡ table_after (table history) event }
 {}
 
-/// Proves that a player that stands for a history has, at each kept position, the table of the
-/// events before it, and that each kept step names the pairs of its event.
-pub fn tables_by_position()
+/// States what it means that a player stands for a history of events: at each kept position, its
+/// table is that of the events before the position; each kept step names the pairs of its event;
+/// the last position is the history's length; and at the cursor, each pair has the route that the
+/// events before it leave there.
+pub fn law_tables_by_position()
     ensures tables { (t : Timeline) (history : List Event) → StandsFor t history →
         (i : ℕ) → t.floor ≤ i → i ≤ length history → table_at t i ≡ table (take i history) }
     ensures steps { (t : Timeline) (history : List Event) → StandsFor t history →
         (i : ℕ) → t.floor ≤ i →
-        slice_get t.steps (i - t.floor) ≡ names_at history i }
+        slice_get t.steps (i - t.floor) ≡ named_pairs_at history i }
     ensures end { (t : Timeline) (history : List Event) → StandsFor t history →
         end_of t ≡ length history }
     ensures routes { (t : Timeline) (history : List Event) → StandsFor t history →
         (pair : Pair) → finite.get (current t) pair ≡ route pair (take t.cursor history) }
 {}
 
-/// Proves which history a player stands for after a call, where it stood for one before.
-pub fn history_after_one_call()
+/// States which history a player stands for after a call, given the one before it.
+pub fn law_history_after_one_call()
     ensures { (t : Timeline) (history : List Event) (call : Call) → StandsFor t history →
         StandsFor (after_call t call) (history_after t.cursor history call) }
 {}
 
-/// Proves which history a new player, or one that stood for a history, stands for after a list of
-/// calls, failed ones among them.
-pub fn history_after_all_calls()
+/// States which history a player stands for after a list of calls, failed ones among them: a new
+/// player, and one that stood for a history before.
+pub fn law_history_after_all_calls()
     ensures new { (calls : List Call) →
         StandsFor (after_calls fresh calls) (history_after_calls fresh [] calls) }
     ensures any { (t : Timeline) (history : List Event) (calls : List Call) → StandsFor t history →
         StandsFor (after_calls t calls) (history_after_calls t history calls) }
 {}
 
-/// Proves that undoing a played step restores the table before it, and that redoing an undone one
-/// restores the player.
-pub fn one_step_back()
+/// States that undoing a step just played restores the table before it, and that redoing a step
+/// just undone restores the player.
+pub fn law_one_step_back()
     ensures undo { (t : Timeline) (history : List Event) (event : Event) → StandsFor t history →
         current (after_undo (after_play t event)) ≡ current t }
     ensures redo { (t : Timeline) (history : List Event) → StandsFor t history →
         t.floor < t.cursor → after_redo (after_undo t) ≡ t }
 {}
 
-/// Proves that forgetting keeps the table at each position that is left, and at the cursor; that it
-/// changes nothing if no step is to go; and that forgetting twice is forgetting to the smaller
-/// number.
-pub fn forgotten_steps()
+/// States that forgetting keeps the table at the cursor and at each position that is left, that it
+/// changes nothing if no step is to be forgotten, and that forgetting twice is forgetting once with
+/// the smaller number of steps to keep.
+pub fn law_forgotten_steps()
     ensures tables { (t : Timeline) (keep : ℕ) → (i : ℕ) → (after_forget t keep).floor ≤ i →
         table_at (after_forget t keep) i ≡ table_at t i }
     ensures current { (t : Timeline) (keep : ℕ) → t.floor ≤ t.cursor →
@@ -155,11 +161,11 @@ pub fn forgotten_steps()
         after_forget (after_forget t keep) less ≡ after_forget t (min keep less) }
 {}
 
-/// Proves that playing events and undoing them leaves the table as it was, and that redoing them
-/// leads to the table of the history with these events.
-pub fn steps_back_and_forth()
+/// States that playing a list of events and undoing all of them restores the table, and that
+/// redoing them then gives the table of the history with these events.
+pub fn law_steps_back_and_forth()
     ensures back { (t : Timeline) (history events : List Event) → StandsFor t history →
-        current (after_calls t (undone events)) ≡ current t }
+        current (after_calls t (play_undo_calls events)) ≡ current t }
     ensures forth { (t : Timeline) (history events : List Event) → StandsFor t history →
-        current (after_calls t (redone events)) ≡ table (take t.cursor history ++ events) }
+        current (after_calls t (play_undo_redo_calls events)) ≡ table (take t.cursor history ++ events) }
 {}

@@ -1,29 +1,31 @@
-//! A table of routes for each peer of a collector, on which events are played, undone and redone. A
-//! [`Player`] has the table and the steps, and a [`Table`] answers look-ups; `bgpdump_tool` runs
-//! scripts by them. Read `player.rt` first, then `journal.rt`, `steps.rt` and `claims.rt`.
+//! Plays the events of an MRT file on a table of routes for each peer, and undoes and redoes them.
+//! `bgpdump_tool` runs the commands of a script on a [`Player`], which has the steps and the
+//! cursor; its [`Table`] answers look-ups. Read `player.rt` first, then `journal.rt`, `steps.rt`
+//! and `claims.rt`.
 #![tactic(auto)]
 
 mod changes;
-mod chosen;
 mod claims;
 mod entry;
-mod few_counts;
 mod journal;
+mod key_counts;
 mod laws;
 mod numbered_peer;
 mod pair;
 mod player;
-mod reaching;
-mod room;
-mod row_marks;
+mod prefetching;
+mod seen_numbers;
+mod spare_capacity;
+mod sparse_set;
 mod steps;
 mod stores;
 mod table;
 
 pub use laws::{
-    claimed_pairs, forgotten_steps, history_after_all_calls, history_after_one_call,
-    one_event_more, one_step_back, pair_order, routes_at_pairs, routes_of_peers, state_numbers,
-    steps_back_and_forth, tables_by_position, walk_over_peers, wanted_pairs,
+    law_claimed_pairs, law_forgotten_steps, law_history_after_all_calls,
+    law_history_after_one_call, law_needed_keys, law_one_event_more, law_one_step_back,
+    law_pair_order, law_routes_at_pairs, law_routes_of_peers, law_state_numbers,
+    law_steps_back_and_forth, law_tables_by_position, law_walk_over_peers,
 };
 pub use player::{Nothing, PlayFault, Player};
 pub use table::Table;

@@ -1,17 +1,18 @@
-//! A peer with the number of its store, which the entries of the peer share. By the number,
-//! `stores.rt` finds the store without a search.
+//! A peer with the number of its store. The entries of a step share one such value for each peer,
+//! and `stores.rt` finds the peer's store by the number, without a search.
 
 ghost use Rattle.std.specs.Prelude.{◌≡◌};
 
 use mrt_events::Peer;
 use std::marker::Model;
 
-/// The number of a peer that has no store. No store has it, and no number is above it.
+/// The number in a [`NumberedPeer`] whose peer has no store, and the hint of a caller that has
+/// none. It is never the number of a store, all of which are below it.
 pub(crate) const NO_NUMBER: usize = usize::MAX;
 
-/// A peer, and the number that its store had when this value was made. The store may have gone
-/// since, or have another number, so whoever uses the number compares the peer that has it now. In
-/// contracts it is the peer.
+/// A peer, and the number of its store at the time when this value was made. The number is a hint:
+/// the store may have been removed or renumbered since, so a caller checks which peer has the
+/// number now. Contracts see only the peer.
 #[derive(Drop)]
 pub(crate) struct NumberedPeer {
     peer: Peer,
@@ -27,7 +28,7 @@ impl Model for NumberedPeer {
 }
 
 impl NumberedPeer {
-    /// Returns the peer with this number of its store.
+    /// Returns `peer` with `number`, the number of its store, or [`NO_NUMBER`] if it has none.
     pub(crate) fn new(peer: Peer, number: usize) -> NumberedPeer
         ensures { result ≡ peer }
     {
@@ -42,7 +43,8 @@ impl NumberedPeer {
         &self.peer
     }
 
-    /// Returns the number, which another peer's store may have by now.
+    /// Returns the number that the peer's store had when this value was made. By now it may be
+    /// another peer's, or nobody's.
     #[inline]
     pub(crate) fn number(&self) -> usize {
         self.number

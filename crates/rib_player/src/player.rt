@@ -1,21 +1,23 @@
-//! The player: a table of routes for each peer, on which events are played one step each, and from
-//! which the steps are undone and redone. `bgpdump_tool` runs the commands of a script on it. Read
+//! The player: a table of routes for each peer, on which events are played as steps, and from which
+//! the steps are undone and redone. `bgpdump_tool` runs the commands of a script on it. Read
 //! [`Player`] and [`Player::play`] first, then `journal.rt`.
 
 ghost use Rattle.std.specs.Prelude.{◌≡◌, ◌<◌, ◌↔◌, IfOk, OnOk, OnErr, IsOk, sum_by};
 ghost use Rattle.std.specs.FinSet as set;
-ghost use Rattle.prefix_store.specs.Stored.{counted};
+ghost use Rattle.prefix_store.specs.Stored.{saturated_count};
 ghost use Rattle.prefix_store.specs.declared.store.TheConstants.{GREATEST_COUNT};
-ghost use Rattle.rib_player.specs.Timeline.{ahead_of, end_of, current, after_play, fresh, after_undo, after_redo, without_first, forgettable, after_forget, wanted, IsWellFormed};
+ghost use Rattle.rib_player.specs.Timeline.{ahead_of, end_of, current, after_play, fresh, after_undo, after_redo, without_first, forgettable, after_forget, needed_keys, IsWellFormed};
 
-use crate::claims::{Claims, give_up_claims};
-use crate::entry::{End, Step};
-use crate::journal::{Journal, cross_step, drop_ahead, let_go_of, make_room, put_entries};
-use crate::reaching::{Reached, STEPS_TOGETHER};
-use crate::row_marks::Marks;
-use crate::steps::step_for;
+use crate::claims::{Claims, release_claims};
+use crate::entry::{JournalEnd, Step};
+use crate::journal::{
+    Journal, apply_entries, apply_or_undo_step, drop_step, drop_steps_ahead, reserve_step,
+};
+use crate::prefetching::{Prefetched, STEPS_TOGETHER};
+use crate::seen_numbers::SeenNumbers;
+use crate::steps::entries_for_event;
 use crate::table::Table;
-use known_routes::KnownRoutes;
+use known_routes::RouteInterner;
 use mrt_events::{Event, Route};
 use prefix_store::PrefixStore;
 use std::alloc::{AllocError, Global};
@@ -32,27 +34,31 @@ pub enum PlayFault {
     Memory,
 }
 
-/// The error of [`Player::undo`] and [`Player::redo`]: there is no step on that side of the cursor.
+/// The error of [`Player::undo`] and [`Player::redo`]: no step can be undone, or redone.
 #[derive(Clone, Copy, Debug, PartialEq, Eq)]
 pub struct Nothing;
 
-/// A table of routes on which events are played, one step each, and a cursor that moves back and
-/// forth over these steps. Between the calls, the table is the one after the steps before the
-/// cursor. The oldest steps can be forgotten: what they did stays, and their memory is freed.
+/// A routing table for each peer, the steps that led to it, and a cursor among the steps. Each
+/// event that is played is one step. The table is the one after all steps before the cursor;
+/// [`undo`](Player::undo) and [`redo`](Player::redo) move the cursor by one step. The oldest steps
+/// can be forgotten: their effect stays, but they can't be undone any more, and their memory is
+/// freed.
 #[derive(Drop)]
 pub struct Player<S: PrefixStore<Rc<Route>>> {
     alloc: Global,
+    /// The table after the steps before the cursor.
     table: Table<S>,
-    /// The kept steps, and the cursor.
+    /// The steps that aren't forgotten, and the cursor.
     journal: Journal,
-    /// The claims of pairs, besides those that the table's keys stand for.
+    /// The claims of pairs beyond the first, for which the pair's key stands (`claims.rt`).
     claims: Claims,
-    /// The routes that were played, by which equal ones become one.
-    known: KnownRoutes,
-    /// The numbers of the peers of a table's record that is being played.
-    marks: Marks,
-    /// The groups of steps that were prefetched last.
-    reached: Reached,
+    /// The routes that were played, so that equal routes share memory.
+    known: RouteInterner,
+    /// The numbers of the peers seen in the event that is being played. Kept so that its memory is
+    /// used again.
+    marks: SeenNumbers,
+    /// The groups of steps whose nodes were prefetched last.
+    prefetched: Prefetched,
 }
 
 impl<S: PrefixStore<Rc<Route>>> Model for Player<S> {
@@ -66,19 +72,19 @@ impl<S: PrefixStore<Rc<Route>>> Model for Player<S> {
     ghost use Rattle.std.specs.Prelude.{◌+◌, ◌≤◌, length};
     ghost use Rattle.prefix_store.specs.declared.store.TheConstants.{GREATEST_COUNT};
     ghost use Rattle.rib_player.specs.Journal.{timeline_of, steps_of};
-    ghost use Rattle.rib_player.specs.Calls.{IsPlayed};
+    ghost use Rattle.rib_player.specs.Calls.{IsConsistentJournal};
 
     ghost view = { λ a. timeline_of a.journal.floor a.journal.cursor
         (steps_of a.journal.steps.items) a.table.routes };
 
     ghost invariant = { λ a. record {
-      played : IsPlayed a.table (claims_beyond a.claims) a.journal.cursor a.journal.steps.items;
-      counted : a.journal.floor + length a.journal.steps.items ≤ GREATEST_COUNT;
+      played : IsConsistentJournal a.table (claims_beyond a.claims) a.journal.cursor a.journal.steps.items;
+      saturated_count : a.journal.floor + length a.journal.steps.items ≤ GREATEST_COUNT;
     } };
 }
 
 impl<S: PrefixStore<Rc<Route>>> Player<S> {
-    /// Returns a player with an empty table and no steps.
+    /// Returns a player with an empty table and no steps, without allocating memory.
     pub fn new(alloc: Global) -> Self
         ensures { result ≡ fresh }
     {
@@ -91,17 +97,16 @@ impl<S: PrefixStore<Rc<Route>>> Player<S> {
                 floor: 0,
             },
             claims: Claims::new(alloc),
-            known: KnownRoutes::new(alloc),
-            marks: Marks::new(alloc),
-            reached: Reached {
+            known: RouteInterner::new(alloc),
+            marks: SeenNumbers::new(alloc),
+            prefetched: Prefetched {
                 last: usize::MAX,
                 before: usize::MAX,
             },
         }
     }
 
-    /// Returns the position of the cursor: the number of steps before it, including the forgotten
-    /// ones.
+    /// Returns the position of the cursor: the number of steps before it, including forgotten ones.
     pub fn at(&self) -> u64
         ensures cursor { result ≡ self.now.cursor }
         ensures well_formed { IsWellFormed self.now }
@@ -109,25 +114,27 @@ impl<S: PrefixStore<Rc<Route>>> Player<S> {
         self.journal.floor + self.journal.cursor as u64
     }
 
-    /// Returns the lowest position that the cursor can go back to: the number of steps that were
-    /// forgotten.
+    /// Returns the number of steps that were forgotten, which is the lowest position that
+    /// [`undo`](Player::undo) can bring the cursor to.
     pub fn floor(&self) -> u64
         ensures { result ≡ self.now.floor }
     {
         self.journal.floor
     }
 
-    /// Returns the number of steps after the cursor.
+    /// Returns the number of steps after the cursor, which can be redone.
     pub fn ahead(&self) -> u64
         ensures { result ≡ ahead_of self.now }
     {
         (self.journal.steps.len() - self.journal.cursor) as u64
     }
 
-    /// Returns the number of pairs of a peer and a prefix that each kept step names, added up, or
-    /// `u64::MAX` if it is larger.
+    /// Returns the total number of pairs of peer and prefix that the kept steps name, or `u64::MAX`
+    /// if it is larger. A step names each pair that it sets or clears and that has a route before
+    /// or after it; a pair counts once for each such step. Takes time linear in the number of
+    /// steps.
     pub fn named(&self) -> u64
-        ensures { result ≡ counted (sum_by set.len self.now.steps) }
+        ensures { result ≡ saturated_count (sum_by set.len self.now.steps) }
     {
         let steps = &self.journal.steps;
         let mut total = 0u64;
@@ -137,33 +144,35 @@ impl<S: PrefixStore<Rc<Route>>> Player<S> {
         total
     }
 
-    /// Returns the table at the cursor.
+    /// Returns the table after the steps before the cursor.
     pub fn table(&self) -> &Table<S>
-        ensures keys { result.now.keys ≡ wanted self.now }
+        ensures keys { result.now.keys ≡ needed_keys self.now }
         ensures routes { result.now.routes ≡ current self.now }
     {
         &self.table
     }
 
-    /// Drops the steps after the cursor, plays the event as the next step, and returns the number
-    /// of steps dropped. The cursor must be below `u64::MAX`. On an error, the player is unchanged.
+    /// Drops the steps after the cursor, plays `event` as the next step, and returns the number of
+    /// steps dropped. The position must be below `u64::MAX`. On an error, the player is unchanged,
+    /// including the steps after the cursor.
     pub fn play(&mut self, event: &Event) -> Result<u64, PlayFault>
         requires { self.old.cursor < GREATEST_COUNT }
         ensures after_play { OnOk result (self.new ≡ after_play self.old event.now) }
         ensures dropped { IfOk result (λ dropped. dropped ≡ ahead_of self.old) }
         ensures refused { OnErr result (self.new ≡ self.old) }
     {
-        self.known.begin();
-        self.table.give_back_room();
+        self.known.begin_play();
+        self.table.shrink_if_sparse();
         let played = self.play_step(event);
         if played.is_err() {
-            self.known.note_unused();
+            self.known.release_added();
         }
         played
     }
 
-    /// Undoes the step before the cursor, without allocating memory. Fails, and changes nothing, if
-    /// no kept step is there.
+    /// Undoes the step before the cursor, and moves the cursor before it, without allocating
+    /// memory. An error means that the cursor is at the [`floor`](Player::floor); nothing changes
+    /// then.
     pub fn undo(&mut self) -> Result<(), Nothing>
         ensures after_undo { self.new ≡ after_undo self.old }
         ensures can { IsOk result ↔ (self.old.floor < self.old.cursor) }
@@ -172,18 +181,18 @@ impl<S: PrefixStore<Rc<Route>>> Player<S> {
             return Err(Nothing);
         }
         self.journal.cursor -= 1;
-        cross_step(
+        apply_or_undo_step(
             &mut self.table,
             &mut self.journal.steps,
-            &mut self.reached,
+            &mut self.prefetched,
             self.journal.cursor,
             STEPS_TOGETHER - 1,
         );
         Ok(())
     }
 
-    /// Redoes the step after the cursor, without allocating memory. Fails, and changes nothing, if
-    /// no step is there.
+    /// Redoes the step after the cursor, and moves the cursor after it, without allocating memory.
+    /// An error means that there is no such step; nothing changes then.
     pub fn redo(&mut self) -> Result<(), Nothing>
         ensures after_redo { self.new ≡ after_redo self.old }
         ensures can { IsOk result ↔ (self.old.cursor < end_of self.old) }
@@ -191,10 +200,10 @@ impl<S: PrefixStore<Rc<Route>>> Player<S> {
         if self.journal.cursor == self.journal.steps.len() {
             return Err(Nothing);
         }
-        cross_step(
+        apply_or_undo_step(
             &mut self.table,
             &mut self.journal.steps,
-            &mut self.reached,
+            &mut self.prefetched,
             self.journal.cursor,
             0,
         );
@@ -204,32 +213,33 @@ impl<S: PrefixStore<Rc<Route>>> Player<S> {
 }
 
 impl<S: PrefixStore<Rc<Route>>> Player<S> {
-    /// Plays the event as the next step, and returns the number of steps that were dropped. On an
-    /// error, the player is unchanged, and the caller has to call [`KnownRoutes::note_unused`].
+    /// Plays `event` as the next step, and returns the number of steps dropped. [`Player::play`]
+    /// calls it after freeing spare memory. On an error, the player is unchanged, and the caller
+    /// has to call [`RouteInterner::release_added`].
     fn play_step(&mut self, event: &Event) -> Result<u64, PlayFault>
         requires { self.old.cursor < GREATEST_COUNT }
         ensures after_play { OnOk result (self.new ≡ after_play self.old event.now) }
         ensures dropped { IfOk result (λ dropped. dropped ≡ ahead_of self.old) }
         ensures refused { OnErr result (self.new ≡ self.old) }
     {
-        let (mut entries, lost) = step_for(
+        let (mut entries, lost) = entries_for_event(
             self.alloc,
             event,
             &self.table,
             &mut self.known,
             &mut self.marks,
         )?;
-        make_room(&mut self.journal.steps)?;
+        reserve_step(&mut self.journal.steps)?;
         let cursor = self.journal.cursor;
         let dropped = self.journal.steps.len() - cursor;
-        put_entries(
+        apply_entries(
             self.alloc,
             &mut self.table,
             &mut self.claims,
             lost.as_ref(),
             entries.as_mut_slice(),
         )?;
-        drop_ahead(
+        drop_steps_ahead(
             &mut self.journal.steps,
             cursor,
             &mut self.table,
@@ -241,39 +251,46 @@ impl<S: PrefixStore<Rc<Route>>> Player<S> {
         Ok(dropped as u64)
     }
 
-    /// Forgets the first of the kept steps. There must be one before the cursor.
-    fn forget_first(&mut self)
+    /// Forgets the oldest step that isn't forgotten yet, which must be before the cursor. The
+    /// routes and the position stay.
+    fn forget_oldest(&mut self)
         requires { self.old.floor < self.old.cursor }
         ensures { self.new ≡ without_first 1 self.old }
     {
         if let Some(step) = self.journal.steps.pop_front() {
-            give_up_claims(&mut self.table, &mut self.claims, &step.entries, End::First);
+            release_claims(
+                &mut self.table,
+                &mut self.claims,
+                &step.entries,
+                JournalEnd::First,
+            );
             self.journal.cursor -= 1;
             self.journal.floor += 1;
-            let_go_of(&mut self.known, step);
+            drop_step(&mut self.known, step);
         }
     }
 
-    /// Drops the routes that nothing but the table of known routes owns, if they take much memory.
-    /// Call it once the event of a play was dropped, or these routes stay until the next play or
-    /// [`Player::forget`].
-    pub fn give_back_routes(&mut self)
+    /// Drops the routes that are kept only to be shared with equal ones, if they take much memory.
+    /// Call it after the event of a [`play`](Player::play) was dropped; without it these routes
+    /// stay until the next play or [`forget`](Player::forget).
+    pub fn drop_unused_routes(&mut self)
         ensures { self.new ≡ self.old }
     {
-        self.known.let_go();
+        self.known.sweep_if_due();
     }
 
-    /// Forgets the oldest steps, so that at most `keep` are kept before the cursor, and returns the
-    /// number of steps forgotten. The steps after the cursor stay.
+    /// Forgets the oldest steps, so that at most `keep` are left before the cursor, and returns how
+    /// many it forgot. The steps after the cursor, the position and the routes stay. Allocates no
+    /// memory.
     pub fn forget(&mut self, keep: u64) -> u64
         ensures after_forget { self.new ≡ after_forget self.old keep }
         ensures forgotten { result ≡ forgettable self.old keep }
     {
         let count = (self.journal.cursor as u64).saturating_sub(keep);
         'steps: for _ in 0..count {
-            self.forget_first();
+            self.forget_oldest();
         }
-        self.known.let_go();
+        self.known.sweep_if_due();
         count
     }
 }

@@ -1,33 +1,35 @@
-//! The entries of a step: one for each pair that has a route before or after the event. `player.rt`
-//! calls [`step_for`]; read that first, then `changes.rt`.
+//! The entries of the step that an event makes: one for each pair that the event sets or clears and
+//! that has a route before or after it. `player.rt` calls [`entries_for_event`]; read that first,
+//! then `changes.rt`.
 
 ghost use Rattle.std.specs.Prelude.{◌≡◌, ◌++◌, IsTrue, IfOk, OnOk, IfSome, None, false, map};
 ghost use Rattle.std.specs.List.{AllByRecursion};
 ghost use Rattle.std.specs.Ordering.{eq_by_cmp};
 ghost use Rattle.rib_player.specs.declared.pair.Pair.{Pair};
 ghost use Rattle.rib_player.specs.History.{pair_cmp};
-ghost use Rattle.rib_player.specs.Changes.{found, found_then};
+ghost use Rattle.rib_player.specs.Changes.{found, found_with_lost};
 ghost use Rattle.rib_player.specs.Journal.{sides_of};
-ghost use Rattle.rib_player.specs.Marks.{cleared_side, ClearAllOf, AreDistinct, IsStepFor};
+ghost use Rattle.rib_player.specs.Sides.{cleared_side, ClearAllOf, AreDistinct, IsStepFor};
 
-use crate::changes::{Changes, changes_of, shared_peer};
+use crate::changes::{Changes, changes_of, share_numbered_peer};
 use crate::entry::Entry;
 use crate::numbered_peer::NumberedPeer;
-use crate::row_marks::Marks;
+use crate::seen_numbers::SeenNumbers;
 use crate::table::Table;
 use ip_prefix::Prefix;
-use known_routes::KnownRoutes;
+use known_routes::RouteInterner;
 use mrt_events::{Event, Peer, Route, same_peer, same_prefix};
 use prefix_store::PrefixStore;
 use std::alloc::{AllocError, Global};
 use std::rc::Rc;
 
-/// The number of routes of a lost session that are read from the store at once. One more is read
-/// with the next ones.
+/// The largest number of routes of a lost session that are read from the store in one call.
 const MANY: usize = 64;
 
-/// Appends an entry, with no route after the step, for each prefix of `found` and the peer.
-fn add_cleared(
+/// Appends, for each prefix of `found`, an entry of the pair of `peer` and this prefix, which has
+/// no route after the step. The routes of `found` aren't used. An error means that memory
+/// allocation failed; `entries` is unspecified then.
+fn push_cleared_entries(
     alloc: Global,
     peer: &Rc<NumberedPeer>,
     found: &[(Prefix, &Rc<Route>)],
@@ -37,14 +39,15 @@ fn add_cleared(
         ++ map (λ f. cleared_side peer.now.value f.0) found.now) }
 {
     'routes: for entry in found {
-        entries.push(Entry::new(alloc, peer.clone()?, &entry.0, None)?)?;
+        entries.push(Entry::unapplied(alloc, peer.clone()?, &entry.0, None)?)?;
     }
     Ok(())
 }
 
-/// Returns an entry, with no route after the step, for each prefix to which the peer has a route,
-/// in order. The routes are read from the store, [`MANY`] at a time.
-fn lost_entries<S: PrefixStore<Rc<Route>>>(
+/// Returns the entries of a step that clears all routes of `peer`: one for each prefix to which it
+/// has a route, in their order. The table isn't changed. An error means that memory allocation
+/// failed.
+fn session_loss_entries<S: PrefixStore<Rc<Route>>>(
     alloc: Global,
     peer: &Peer,
     table: &Table<S>,
@@ -55,7 +58,7 @@ fn lost_entries<S: PrefixStore<Rc<Route>>>(
     let Some(store) = table.store(peer) else {
         return Ok(Vec::new(alloc));
     };
-    let shared = shared_peer(alloc, table, None, peer)?;
+    let shared = share_numbered_peer(alloc, table, None, peer)?;
     let count = store.route_count() as usize;
     let mut entries = Vec::with_capacity(alloc, count)?;
     let mut found = Vec::with_capacity(alloc, count.min(MANY).max(1))?;
@@ -66,18 +69,18 @@ fn lost_entries<S: PrefixStore<Rc<Route>>>(
             return Ok(entries);
         };
         last = Some(end.0);
-        add_cleared(alloc, &shared, &found, &mut entries)?;
+        push_cleared_entries(alloc, &shared, &found, &mut entries)?;
     }
 }
 
-/// Returns the entries of the pairs that the event may name, with the route after it: those of the
-/// changes, then those of lost peers. Of the entries of a pair, the first counts.
-fn entries_then<S: PrefixStore<Rc<Route>>>(
+/// Returns the entries of `changes`, followed by those that clear the routes of each lost peer. Of
+/// the entries of a pair, the first counts. An error means that memory allocation failed.
+fn with_lost_entries<S: PrefixStore<Rc<Route>>>(
     changes: Changes,
     table: &Table<S>,
 ) -> Result<Vec<Entry>, AllocError>
     ensures { IfOk result (λ entries. (q : Pair) →
-        found (sides_of entries.items) q ≡ found_then changes table.now.routes q) }
+        found (sides_of entries.items) q ≡ found_with_lost changes table.now.routes q) }
 {
     let Changes {
         alloc,
@@ -88,17 +91,17 @@ fn entries_then<S: PrefixStore<Rc<Route>>>(
         return Ok(entries);
     }
     'peers: for peer in lost {
-        let mut absent = lost_entries(alloc, &peer, table)?;
+        let mut absent = session_loss_entries(alloc, &peer, table)?;
         entries.append(&mut absent)?;
     }
     Ok(entries)
 }
 
-/// The number of entries that are compared with each other at most. With one more they are sorted.
+/// The largest number of entries that are compared each with each for equal pairs. More are sorted.
 const FEW: usize = 8;
 
-/// Returns whether one of the entries is of the pair of `entry`.
-fn has_pair(entries: &[Entry], entry: &Entry) -> bool
+/// Returns `true` if one of `entries` is of the pair of `entry`.
+fn contains_pair(entries: &[Entry], entry: &Entry) -> bool
     ensures { result ≡ false → AllByRecursion
         (λ side. eq_by_cmp pair_cmp side.0 entry.now.pair ≡ false) (sides_of entries.now) }
 {
@@ -110,24 +113,24 @@ fn has_pair(entries: &[Entry], entry: &Entry) -> bool
     false
 }
 
-/// Returns whether all entries are of different pairs.
-fn are_different(entries: &[Entry]) -> bool
+/// Returns `true` if no two entries are of one pair. Takes time quadratic in their number.
+fn have_distinct_pairs(entries: &[Entry]) -> bool
     ensures { IsTrue result → AreDistinct (sides_of entries.now) }
 {
     'entries: for index in 0..entries.len() {
-        if has_pair(&entries[..index], &entries[index]) {
+        if contains_pair(&entries[..index], &entries[index]) {
             return false;
         }
     }
     true
 }
 
-/// Returns whether all entries are of one peer, each of a lesser prefix than the one before.
-fn are_falling(entries: &[Entry]) -> bool
+/// Returns `true` if all entries are of one peer, and each is of a lesser prefix than the one
+/// before it.
+fn are_descending(entries: &[Entry]) -> bool
     ensures { IsTrue result → AreDistinct (sides_of entries.now) }
 {
-    // The entries of a message whose prefixes are in order are so, since the last item is noted
-    // first.
+    // This holds of a message whose prefixes are in order, since the last item is noted first.
     let Some((first, rest)) = entries.split_first() else {
         return true;
     };
@@ -141,25 +144,26 @@ fn are_falling(entries: &[Entry]) -> bool
     true
 }
 
-/// Returns the first entry of each pair, in unspecified order.
-fn each_once<S: PrefixStore<Rc<Route>>>(
+/// Returns the first entry of each pair, in unspecified order, and drops the others. `marks` is
+/// memory for the numbers of peers seen. An error means that memory allocation failed.
+fn one_entry_per_pair<S: PrefixStore<Rc<Route>>>(
     entries: Vec<Entry>,
     table: &Table<S>,
-    marks: &mut Marks,
+    marks: &mut SeenNumbers,
 ) -> Result<Vec<Entry>, AllocError>
     ensures distinct { IfOk result (λ once. AreDistinct (sides_of once.items)) }
     ensures found { IfOk result (λ once. (q : Pair) →
         found (sides_of once.items) q ≡ found (sides_of entries.items) q) }
 {
-    // They are sorted where two may be of one pair. In a table's record mostly no peer comes twice;
+    // The entries are sorted if two may be of one pair. In a RIB record mostly no peer comes twice;
     // in a message, whose first and last entry are of one peer, mostly no prefix does.
     let is_known = match (entries.first(), entries.last()) {
         (Some(first), Some(last)) if entries.len() == 1 || same_peer(first.peer(), last.peer()) => {
-            are_falling(&entries)
+            are_descending(&entries)
         }
-        _ => table.stores.are_of_different_peers(&entries, marks)?,
+        _ => table.stores.have_distinct_stores(&entries, marks)?,
     };
-    if is_known || (entries.len() <= FEW && are_different(&entries)) {
+    if is_known || (entries.len() <= FEW && have_distinct_pairs(&entries)) {
         return Ok(entries);
     }
     let mut ordered = entries;
@@ -168,37 +172,39 @@ fn each_once<S: PrefixStore<Rc<Route>>>(
     Ok(ordered)
 }
 
-/// Returns the entries of the event's step on the table: one for each pair that it sets or clears
-/// and that has a route before or after it. Returns a peer if clearing its routes is all that the
-/// step does.
-pub(crate) fn step_for<S: PrefixStore<Rc<Route>>>(
+/// Returns the entries of the step that `event` makes on `table`, which aren't applied yet: one for
+/// each pair that the event sets or clears and that has a route before or after it. Returns a peer
+/// with them if all that the step does is to clear that peer's routes. Equal routes are shared by
+/// `known`; `marks` is memory for the numbers of peers seen. An error means that memory allocation
+/// failed.
+pub(crate) fn entries_for_event<S: PrefixStore<Rc<Route>>>(
     alloc: Global,
     event: &Event,
     table: &Table<S>,
-    known: &mut KnownRoutes,
-    marks: &mut Marks,
+    known: &mut RouteInterner,
+    marks: &mut SeenNumbers,
 ) -> Result<(Vec<Entry>, Option<Peer>), AllocError>
     ensures step { IfOk result (λ new.
         IsStepFor table.now.routes event.now (sides_of new.0.items)) }
     ensures cleared { IfOk result (λ new. IfSome new.1 (λ peer.
         ClearAllOf table.now.routes peer (sides_of new.0.items))) }
 {
-    // The entries of such a step, which may be many, are read from the peer's store, and aren't
+    // The entries of a lost session, which may be many, are read from the peer's store and aren't
     // copied.
     let changes = changes_of(alloc, event, table, known)?;
     if changes.entries.is_empty() && changes.lost.len() == 1 {
         if let Some(peer) = changes.lost.first().copied() {
-            let entries = lost_entries(alloc, &peer, table)?;
+            let entries = session_loss_entries(alloc, &peer, table)?;
             return Ok((entries, Some(peer)));
         }
     }
-    let then = entries_then(changes, table)?;
+    let then = with_lost_entries(changes, table)?;
     let noted = then.len();
-    let mut routed = each_once(then, table, marks)?;
+    let mut routed = one_entry_per_pair(then, table, marks)?;
     if routed.len() < noted {
-        known.note_unused();
+        known.release_added();
     }
-    routed.retain(|entry| entry.route().is_some() || entry.is_routed(table));
+    routed.retain(|entry| entry.route().is_some() || entry.has_route_in(table));
     routed.shrink_to_fit();
     Ok((routed, None))
 }

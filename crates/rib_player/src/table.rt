@@ -1,5 +1,5 @@
-//! The table of the routes of all peers, which the player changes and lends for look-ups. Read
-//! [`Table`] first, then `stores.rt`.
+//! The routing tables of all peers, which the player changes and lends for look-ups. Read [`Table`]
+//! first, then `stores.rt`.
 
 ghost use Rattle.std.specs.Prelude.{◌≡◌, ◌<◌, ◌≤◌, cond, Some, true, false, not, slice_get, Option, None, if◌then◌else◌, map, IfSome, IfNone, IfOk, OnOk, OnErr, take, vec_capacity, option_map, option_copied};
 ghost use Rattle.std.specs.Ordering.{eq_by_cmp};
@@ -10,11 +10,11 @@ ghost use Rattle.rib_player.specs.declared.pair.Pair.{Pair};
 ghost use Rattle.mrt_events.specs.declared.peer.Peer.{Peer};
 ghost use Rattle.mrt_events.specs.Event.{peer_cmp};
 ghost use Rattle.rib_player.specs.History.{pair_of};
-ghost use Rattle.prefix_store.specs.Stored.{put, counted};
+ghost use Rattle.prefix_store.specs.Stored.{put, saturated_count};
 ghost use Rattle.rib_player.specs.Tables.{route_in, peer_routes};
 ghost use Rattle.rib_player.specs.StoresByPeer.{stores_of};
 ghost use Rattle.rib_player.specs.Lookups.{IsBest, counted_peers, pointed_routes, routes_above, routed_above, value_of};
-ghost use Rattle.rib_player.specs.Kept.{routed_stores, peer_count};
+ghost use Rattle.rib_player.specs.Representation.{routed_stores, peer_count};
 
 use crate::numbered_peer::NO_NUMBER;
 use crate::pair::Pair;
@@ -28,29 +28,32 @@ use std::marker::Model;
 use std::ops::Bound;
 use std::rc::Rc;
 
-/// The number of peers with a key, at least, for which [`Table::few_peers`] lists those that have a
-/// route. With one peer less it lists none.
+/// The smallest number of peers with a key for which [`Table::few_peers`] returns a list. With
+/// one peer less it returns `None`.
 const LEAST_PEERS: usize = 64;
 
-/// The ratio of the peers with a key to the most peers with a route that [`Table::few_peers`]
-/// lists. If one more has a route, it lists none.
+/// The smallest ratio of the peers with a key to those with a route for which
+/// [`Table::few_peers`] returns a list. If one more peer has a route, it returns `None`.
 const FEW_OF: usize = 4;
 
-/// The routes of all peers, at most one for each peer and prefix, and the keys: pairs of peer and
-/// prefix that have room for a route. Each peer that has a key has a store of its own.
+/// A routing table for each peer: at most one route for each pair of a peer and a prefix. Some
+/// pairs are keys, which have memory for a route; a pair with a route is one. Each peer that has a
+/// key has a store of its own.
 #[derive(Drop)]
 pub struct Table<S: PrefixStore<Rc<Route>>> {
     alloc: Global,
+    /// The stores of the peers that have a key.
     pub(crate) stores: Stores<S>,
-    /// The number of nodes passed by prefetches. It is unread; a compiler keeps these for it.
-    passed: u64,
+    /// The number of nodes visited by prefetches, modulo 2^64. Nobody reads it; without it a
+    /// compiler would remove the prefetches.
+    visited: u64,
 }
 
 impl<S: PrefixStore<Rc<Route>>> Model for Table<S> {
     ghost use Rattle.rib_player.specs.Tables.{Contents, keys_in, routes_in};
     ghost use Rattle.rib_player.specs.StoresByPeer.{stores_in};
     ghost use Rattle.rib_player.specs.Noted.{routed_in};
-    ghost use Rattle.rib_player.specs.Kept.{coded_contents, IsHeldWhole};
+    ghost use Rattle.rib_player.specs.Representation.{coded_contents, AreConsistentStores};
 
     ghost Value = { Contents };
 
@@ -61,7 +64,7 @@ impl<S: PrefixStore<Rc<Route>>> Model for Table<S> {
       routes = routes_in S.routes (stores_in a.stores);
     } };
 
-    ghost invariant = { λ a. IsHeldWhole S.keys S.routes (stores_in a.stores) (routed_in a.stores) };
+    ghost invariant = { λ a. AreConsistentStores S.keys S.routes (stores_in a.stores) (routed_in a.stores) };
 }
 
 impl<S: PrefixStore<Rc<Route>>> Table<S> {
@@ -72,31 +75,32 @@ impl<S: PrefixStore<Rc<Route>>> Table<S> {
         Table {
             alloc,
             stores: Stores::new(alloc),
-            passed: 0,
+            visited: 0,
         }
     }
 
-    /// Adds to the number of nodes passed by prefetches.
-    pub(crate) fn note_passed(&mut self, passed: u64)
+    /// Adds `visited` to the number of nodes visited by prefetches.
+    pub(crate) fn add_prefetched_nodes(&mut self, visited: u64)
         ensures { self.new ≡ self.old }
     {
-        self.passed = self.passed.wrapping_add(passed);
+        self.visited = self.visited.wrapping_add(visited);
     }
 
-    /// Shrinks the lists of stores if they have far more capacity than stores (`room.rt`).
-    pub(crate) fn give_back_room(&mut self)
+    /// Shrinks the lists of stores if they have far more capacity than stores
+    /// (`spare_capacity.rt`).
+    pub(crate) fn shrink_if_sparse(&mut self)
         ensures { self.new ≡ self.old }
     {
-        self.stores.give_back_room();
+        self.stores.shrink_if_sparse();
     }
 
-    /// Swaps the route of the pair in the table with `route`, either of which may be none. The pair
-    /// must be a key. `number` is tried first for the peer's store.
+    /// Swaps the table's route of `pair` and `route`, either of which may be none. The pair must be
+    /// a key. `number` is a hint of the number of the peer's store ([`NO_NUMBER`] for none).
     pub(crate) fn exchange(&mut self, pair: &Pair, number: usize, route: &mut Option<Rc<Route>>)
         requires { set.contains self.old.keys pair.now ≡ true }
         ensures keys { self.new.keys ≡ self.old.keys }
         ensures routes { self.new.routes ≡ put self.old.routes pair.now (route_in route.old) }
-        ensures given { route_in route.new ≡ finite.get self.old.routes pair.now }
+        ensures taken_out { route_in route.new ≡ finite.get self.old.routes pair.now }
     {
         let mut number = number;
         let Some(store) = self.stores.get_mut(&mut number, &pair.peer) else {
@@ -104,12 +108,12 @@ impl<S: PrefixStore<Rc<Route>>> Table<S> {
         };
         store.exchange(&pair.prefix, route);
         let count = store.route_count();
-        self.stores.note_count(number, count);
+        self.stores.update_routed(number, count);
     }
 
-    /// Makes the pair a key if it is none, and swaps its route in the table with `route`. Returns
-    /// whether the key is new. `number` is tried first for the peer's store. On an error, table and
-    /// `route` are unchanged.
+    /// Makes `pair` a key, swaps the table's route of it and `route`, either of which may be none,
+    /// and returns `true` if the key is new. `number` is a hint of the number of the peer's store.
+    /// On an error, which means that memory allocation failed, table and `route` are unchanged.
     pub(crate) fn put(
         &mut self,
         pair: &Pair,
@@ -120,7 +124,7 @@ impl<S: PrefixStore<Rc<Route>>> Table<S> {
         ensures made { IfOk result (λ made. made ≡ not (set.contains self.old.keys pair.now)) }
         ensures routes { OnOk result
             (self.new.routes ≡ put self.old.routes pair.now (route_in route.old)) }
-        ensures given { OnOk result (route_in route.new ≡ finite.get self.old.routes pair.now) }
+        ensures taken_out { OnOk result (route_in route.new ≡ finite.get self.old.routes pair.now) }
         ensures refused { OnErr result (self.new.keys ≡ self.old.keys) }
         ensures held { OnErr result (self.new.routes ≡ self.old.routes) }
         ensures kept { OnErr result (route.new ≡ route.old) }
@@ -130,7 +134,7 @@ impl<S: PrefixStore<Rc<Route>>> Table<S> {
         if let Some(store) = self.stores.get_mut(&mut number, &pair.peer) {
             let made = store.put(&pair.prefix, route);
             let count = store.route_count();
-            self.stores.note_count(number, count);
+            self.stores.update_routed(number, count);
             return made;
         }
         let mut store = S::new(self.alloc);
@@ -140,7 +144,8 @@ impl<S: PrefixStore<Rc<Route>>> Table<S> {
         Ok(true)
     }
 
-    /// Removes a key that has no route, and drops the store of the peer with its last key.
+    /// Removes the key `pair`, which must have no route. With the last key of a peer, drops its
+    /// store.
     pub(crate) fn discard(&mut self, pair: &Pair)
         requires key { set.contains self.old.keys pair.now ≡ true }
         requires free { finite.get self.old.routes pair.now ≡ None }
@@ -157,9 +162,9 @@ impl<S: PrefixStore<Rc<Route>>> Table<S> {
         }
     }
 
-    /// Moves all routes of the peer to `taken`, in the order of their prefixes; the keys stay.
-    /// `taken` is cleared first, and must have capacity for them.
-    pub(crate) fn take_routes(&mut self, peer: &Peer, taken: &mut Vec<Rc<Route>>)
+    /// Moves all routes of the peer into `taken`, in the order of their prefixes, in place of its
+    /// elements. The keys stay. `taken` must have capacity for all of them.
+    pub(crate) fn drain_routes(&mut self, peer: &Peer, taken: &mut Vec<Rc<Route>>)
         requires { finite.len (peer_routes self.old.routes peer.now) ≤ vec_capacity taken.old }
         ensures keys { self.new.keys ≡ self.old.keys }
         ensures routes { (q : Pair) → finite.get self.new.routes q
@@ -172,8 +177,8 @@ impl<S: PrefixStore<Rc<Route>>> Table<S> {
             taken.clear();
             return;
         };
-        store.take_routes(taken);
-        self.stores.note_routes(number, false);
+        store.drain_routes(taken);
+        self.stores.set_routed(number, false);
     }
 
     /// Returns the route of the peer to exactly this prefix, or `None` if it has none.
@@ -184,7 +189,8 @@ impl<S: PrefixStore<Rc<Route>>> Table<S> {
         self.find_route(NO_NUMBER, peer, prefix)
     }
 
-    /// Returns the route of the peer to exactly this prefix. `number` is tried first for its store.
+    /// Returns the route of the peer to exactly this prefix, or `None` if it has none. `number` is
+    /// a hint of the number of the peer's store.
     #[inline]
     pub(crate) fn find_route(
         &self,
@@ -198,9 +204,9 @@ impl<S: PrefixStore<Rc<Route>>> Table<S> {
         self.find_store(number, peer)?.get(prefix)
     }
 
-    /// Returns the longest prefix to which the peer has a route and that contains the address, and
-    /// its route, or `None` if none does. By it a router forwards that has the peer's routes alone
-    /// (RFC 1812, section 5.2.4.3).
+    /// Returns the peer's route to the longest prefix that contains `addr`, with that prefix, or
+    /// `None` if no prefix that the peer has a route to contains it. By this route a router
+    /// forwards that has the peer's routes alone (RFC 1812, section 5.2.4.3).
     pub fn longest(&self, peer: &Peer, addr: &Addr) -> Option<(Prefix, &Rc<Route>)>
         ensures { IsBest self.now.routes peer.now addr.now
             (option_map (λ found. (found.0, found.1.now.value)) result) }
@@ -208,8 +214,8 @@ impl<S: PrefixStore<Rc<Route>>> Table<S> {
         self.store(peer)?.longest(addr)
     }
 
-    /// Returns the least prefix above `prefix`, or of all for `None`, to which the peer has a
-    /// route, and its route. `None` means that there is none.
+    /// Returns the peer's route to the least prefix that is greater than `prefix`, or to the least
+    /// prefix if `prefix` is `None`, with that prefix. Returns `None` if there is no such route.
     pub fn after(&self, peer: &Peer, prefix: Option<&Prefix>) -> Option<(Prefix, &Rc<Route>)>
         ensures { option_map (λ found. (found.0, found.1.now.value)) result ≡
             slice_get (routes_above self.now.routes peer.now (option_copied prefix.entry)) 0 }
@@ -217,9 +223,9 @@ impl<S: PrefixStore<Rc<Route>>> Table<S> {
         self.store(peer)?.after(prefix)
     }
 
-    /// Fills `found` with the next prefixes above `prefix`, or of all for `None`, to which the peer
-    /// has a route, in order, and their routes: as many as it has capacity for, or all that are
-    /// left. `found` is cleared first, and keeps its capacity.
+    /// Replaces the elements of `found` by the next routes that [`Table::after`] would return for
+    /// the peer, with their prefixes and in their order, up to the capacity of `found`, which
+    /// stays. Allocates no memory.
     pub fn next_routes<'a>(
         &'a self,
         peer: &Peer,
@@ -236,11 +242,12 @@ impl<S: PrefixStore<Rc<Route>>> Table<S> {
         }
     }
 
-    /// Returns the least peer above `peer`, or of all for `None`, that has a route, and the number
-    /// of its routes (`u64::MAX` if it is larger). `None` means that there is none.
+    /// Returns the least peer that is greater than `peer`, or the least of all if `peer` is `None`,
+    /// among the peers that have a route, and the number of its routes (`u64::MAX` if that is
+    /// larger). Returns `None` if there is no such peer.
     pub fn peer_after(&self, peer: Option<&Peer>) -> Option<(Peer, u64)>
         ensures { result ≡
-            option_map (λ p. (p, counted (finite.len (peer_routes self.now.routes p))))
+            option_map (λ p. (p, saturated_count (finite.len (peer_routes self.now.routes p))))
             (slice_get (routed_above self.now.routes (option_copied peer.entry)) 0) }
     {
         let low = match peer {
@@ -259,10 +266,10 @@ impl<S: PrefixStore<Rc<Route>>> Table<S> {
         None
     }
 
-    /// Returns the peers that have a route, in order, and the number of routes of each (`u64::MAX`
-    /// if it is larger). `Ok(None)` means that they aren't listed, since they are more than a
-    /// quarter of the peers with a key, or these are fewer than 64: then [`Table::peer_after`]
-    /// steps over few others. On an error, memory allocation for the list failed.
+    /// Returns the peers that have a route, in order, each with the number of its routes
+    /// (`u64::MAX` if it is larger). Returns `Ok(None)` if fewer than 64 peers have a key, or more
+    /// than a quarter of them have a route; a walk by [`Table::peer_after`] then passes over few
+    /// others. An error means that memory allocation for the list failed.
     pub fn few_peers(&self) -> Result<Option<BTreeMap<Peer, u64>>, AllocError>
         ensures { IfOk result (λ few. IfSome few (λ peers.
             peers.entries ≡ counted_peers self.now.routes)) }
@@ -274,7 +281,7 @@ impl<S: PrefixStore<Rc<Route>>> Table<S> {
         }
         let mut found = BTreeMap::new(self.alloc);
         'numbers: for number in numbers {
-            if let Some(named) = self.stores.named_at(*number) {
+            if let Some(named) = self.stores.peer_and_store_at(*number) {
                 let count = named.1.route_count();
                 if count > 0 {
                     found.insert(*named.0, count)?;
@@ -301,7 +308,8 @@ impl<S: PrefixStore<Rc<Route>>> Table<S> {
         self.find_store(NO_NUMBER, peer)
     }
 
-    /// Returns the store of the peer, or `None` if it has no key. `number` is tried first for it.
+    /// Returns the store of the peer, or `None` if the peer has no key. `number` is a hint of its
+    /// number.
     #[inline]
     fn find_store(&self, number: usize, peer: &Peer) -> Option<&S>
         ensures keys { IfSome result (λ store. (n : Network) →

@@ -5,14 +5,14 @@ use Rattle.std.specs.FinSet as set
 use Rattle.std.specs.FinMap.{get, len, len-empty}
 use Rattle.ip_prefix.specs.Network.{Network, network_cmp}
 use Rattle.ip_prefix.specs.OrderLaws.{network_cmp_total}
-use Rattle.prefix_store.specs.Stored.{Keys, Routes, put, counted}
+use Rattle.prefix_store.specs.Stored.{Keys, Routes, put, saturated_count}
 use Rattle.prefix_store.proofs.PutLaws.{len-put}
 use Rattle.rib_store.specs.Slots.{Slots, routes_in}
 
 -- how many routes there are once one slot is written
-pub len-exchanged : {R : Type 0} (old new : Routes R) (prefix : Network) (brought given : Option R) → new ≡ put old prefix brought → given ≡ get old prefix
-    → len new + bool_byte (is_some given) ≡ len old + bool_byte (is_some brought)
-len-exchanged old new prefix brought given is found = rw (is, found) (len-put network_cmp_total old prefix brought)
+pub len-exchanged : {R : Type 0} (old new : Routes R) (prefix : Network) (brought taken_out : Option R) → new ≡ put old prefix brought → taken_out ≡ get old prefix
+    → len new + bool_byte (is_some taken_out) ≡ len old + bool_byte (is_some brought)
+len-exchanged old new prefix brought taken_out is found = rw (is, found) (len-put network_cmp_total old prefix brought)
 
 -- a set with a key isn't empty
 len-some : (keys : Keys) (prefix : Network) → set.contains keys prefix ≡ true → 1 ≤ set.len keys
@@ -41,5 +41,5 @@ few_routes (slot ∷ slots) =
     grind arith
 
 -- what a count answers that fits
-pub counted-small : (size : ℕ) → size < 2 ^ 64 → counted size ≡ size
-counted-small size small = omega (arith, small)
+pub saturated_count-small : (size : ℕ) → size < 2 ^ 64 → saturated_count size ≡ size
+saturated_count-small size small = omega (arith, small)

@@ -7,11 +7,11 @@ use Rattle.ip_prefix.specs.Network.{Address, Network, begin_with, contains}
 use Rattle.ip_prefix.specs.Turns.{way, turn_of, side}
 use Rattle.ip_prefix.proofs.Containing.{contains_parts}
 use Rattle.ip_prefix.proofs.Turns.{covers-way, here_only, here_from}
-use Rattle.rib_store.specs.Tree.{Shape, Empty, Rooted, at, slot_of, chosen, IsOn, IsShaped}
-use Rattle.prefix_store.specs.Lookups.{IsLongest, IsLongestOf}
-use Rattle.rib_store.specs.Slots.{route_found, routes_in}
-use Rattle.rib_store.specs.Walks.{either_of, routed_at, deepest}
-use Rattle.rib_store.specs.Store.{Trees, slots_in, tree_of, IsPlanted}
+use Rattle.rib_store.specs.Tree.{Shape, Empty, Rooted, at, slot_of, select_by_turn, IsOnSide, IsRadixTree}
+use Rattle.prefix_store.specs.Lookups.{IsLongestMatch, IsLongestMatchOf}
+use Rattle.rib_store.specs.Slots.{route_of_slot, routes_in}
+use Rattle.rib_store.specs.Walks.{first_some, routed_at, deepest_route}
+use Rattle.rib_store.specs.Store.{Trees, slots_in, tree_of, AreRadixTrees}
 use Rattle.rib_store.proofs.WayLaws.{beyond, begin_outside, begin_side, begin_in, turn_longer, length-way}
 use Rattle.rib_store.proofs.SlotLaws.{get-routes_in}
 use Rattle.rib_store.proofs.StoreLaws.{slot_at-tree_of, shaped-family}
@@ -37,7 +37,7 @@ on_way : {R : Type 0} (prefix : Network) (slot : Option (Option R)) (low : List 
     → ((x : List Bool) → turn_of (way prefix) x ≡ Here → slots x ≡ slot) → ((x : List Bool) → turn_of (way prefix) x ≡ side s → slots x ≡ low x)
     → ((x : List Bool) (route : R) → low x ≡ Some (Some route) → turn_of (way prefix) x ≡ side s)
     → ((x : List Bool) (route : R) → Holds slots key x route → (turn_of (way prefix) x ≡ Here) ⊎ (turn_of (way prefix) x ≡ side s))
-    → IsDeepest low key o → IsDeepest slots key (either_of o (routed_at prefix slot))
+    → IsDeepest low key o → IsDeepest slots key (first_some o (routed_at prefix slot))
 on_way prefix slot low slots key s (Some found) there here below lies whence is =
     let side_is = lies (way found.0) found.1 is.0.1 in (
       (is.0.0, below (way found.0) side_is ∙ is.0.1),
@@ -71,16 +71,16 @@ at_way prefix (Some (Some found)) slots key there here only =
     ((there, here), λ x route h. let e = ap length (only x route h) in omega (arith, e))
 
 -- what a tree on a side has lies there
-lies : {R : Type 0} (b x : List Bool) (s : Bool) (t : Shape R) (route : R) → IsOn b s t → at t x ≡ Some (Some route) → turn_of b x ≡ side s
+lies : {R : Type 0} (b x : List Bool) (s : Bool) (t : Shape R) (route : R) → IsOnSide b s t → at t x ≡ Some (Some route) → turn_of b x ≡ side s
 lies b x s Empty route on h = cc
 lies b x s (Rooted prefix slot l r) route on h =
     elim (beyond b (way prefix) x s on) [
-      | inl out ↦ absurd (none_some _ route (ap (λ t. chosen t None (slot_of slot) (at l x) (at r x)) out) h)
+      | inl out ↦ absurd (none_some _ route (ap (λ t. select_by_turn t None (slot_of slot) (at l x) (at r x)) out) h)
       | inr there ↦ there
     ]
 
 -- what is found on the way to a key is the deepest
-pub deepest_is : {R : Type 0} (t : Shape R) (key : List Bool) → IsShaped t → IsDeepest (at t) key (deepest t key)
+pub deepest_is : {R : Type 0} (t : Shape R) (key : List Bool) → IsRadixTree t → IsDeepest (at t) key (deepest_route t key)
 deepest_is {R} Empty key shaped = λ x route h. none_some {R = R} None route refl h.1
 deepest_is {R} (Rooted prefix slot l r) key shaped =
     turns (turn_of (way prefix) key) refl (deepest_is l key shaped.2) (deepest_is r key shaped.3)
@@ -89,8 +89,8 @@ deepest_is {R} (Rooted prefix slot l r) key shaped =
     whole = Rooted prefix slot l r
 
     -- by where a way lies that the key's begins with
-    seen : (x : List Bool) (j : Turn) → turn_of (way prefix) x ≡ j → at whole x ≡ chosen j None (slot_of slot) (at l x) (at r x)
-    seen x j y = ap (λ t. chosen t None (slot_of slot) (at l x) (at r x)) y
+    seen : (x : List Bool) (j : Turn) → turn_of (way prefix) x ≡ j → at whole x ≡ select_by_turn j None (slot_of slot) (at l x) (at r x)
+    seen x j y = ap (λ t. select_by_turn t None (slot_of slot) (at l x) (at r x)) y
 
     away : (x : List Bool) (s : Bool) → turn_of (way prefix) x ≡ side s → (turn_of (way prefix) key ≡ side s → ⊥) → begin_with x key ≡ true → ⊥
     away x s y none b = false_true (begin_with x key) (begin_side (way prefix) x key s y none) b
@@ -114,16 +114,16 @@ deepest_is {R} (Rooted prefix slot l r) key shaped =
         let right = begin_side (way prefix) x key true in
         grind (arith, h.0, h.1)
 
-    turns : (k : Turn) → turn_of (way prefix) key ≡ k → IsDeepest (at l) key (deepest l key) → IsDeepest (at r) key (deepest r key)
-        → IsDeepest (at whole) key (chosen k None (routed_at prefix (slot_of slot)) (either_of (deepest l key) (routed_at prefix (slot_of slot))) (either_of (deepest r key) (routed_at prefix (slot_of slot))))
+    turns : (k : Turn) → turn_of (way prefix) key ≡ k → IsDeepest (at l) key (deepest_route l key) → IsDeepest (at r) key (deepest_route r key)
+        → IsDeepest (at whole) key (select_by_turn k None (routed_at prefix (slot_of slot)) (first_some (deepest_route l key) (routed_at prefix (slot_of slot))) (first_some (deepest_route r key) (routed_at prefix (slot_of slot))))
     turns Outside e f g = outside e
     turns Here e f g =
         at_way prefix (slot_of slot) (at whole) key (begin_in (way prefix) key (λ z. cc)) (seen (way prefix) Here (here_from (way prefix))) (only e)
     turns Left e f g =
-        on_way prefix (slot_of slot) (at l) (at whole) key false (deepest l key) e (λ x. seen x Here) (λ x. seen x Left)
+        on_way prefix (slot_of slot) (at l) (at whole) key false (deepest_route l key) e (λ x. seen x Here) (λ x. seen x Left)
         (λ x route h. lies (way prefix) x false l route shaped.0.left h) (λ x route h. whence false e x route h (turn_of (way prefix) x) refl) f
     turns Right e f g =
-        on_way prefix (slot_of slot) (at r) (at whole) key true (deepest r key) e (λ x. seen x Here) (λ x. seen x Right)
+        on_way prefix (slot_of slot) (at r) (at whole) key true (deepest_route r key) e (λ x. seen x Here) (λ x. seen x Right)
         (λ x route h. lies (way prefix) x true r route shaped.0.right h) (λ x route h. whence true e x route h (turn_of (way prefix) x) refl) g
 
 -- ---- over all routes
@@ -137,23 +137,23 @@ pub contains-way : (n : Network) (address : Address) → contains n address ≡ 
 contains-way n address = covers-way n (host address)
 
 -- a route that is in a slot
-in_slot : {R : Type 0} (slot : Option (Option R)) → is_some (route_found slot) ≡ true → (route : R) × (slot ≡ Some (Some route))
+in_slot : {R : Type 0} (slot : Option (Option R)) → is_some (route_of_slot slot) ≡ true → (route : R) × (slot ≡ Some (Some route))
 in_slot None e = cc
 in_slot (Some None) e = cc
 in_slot (Some (Some route)) e = (route, refl)
 
-no_route : {R : Type 0} (slot : Option (Option R)) → ((route : R) → slot ≡ Some (Some route) → ⊥) → route_found slot ≡ None
+no_route : {R : Type 0} (slot : Option (Option R)) → ((route : R) → slot ≡ Some (Some route) → ⊥) → route_of_slot slot ≡ None
 no_route None none = refl
 no_route (Some None) none = refl
 no_route (Some (Some route)) none = absurd (none route refl)
 
 -- the deepest is the longest that contains the address
 longest_of : {R : Type 0} (slots : List Bool → Option (Option R)) (address : Address) (found : Option (Network × R)) → IsDeepest slots (way (host address)) found
-    → IsLongestOf (λ n. route_found (slots (way n))) address found
+    → IsLongestMatchOf (λ n. route_of_slot (slots (way n))) address found
 longest_of slots address None is = λ n within. no_route (slots (way n)) (λ route e. is (way n) route (sym (contains-way n address) ∙ within, e))
 longest_of slots address (Some found) is = (
   contains-way found.0 address ∙ is.0.0,
-  ap route_found is.0.1,
+  ap route_of_slot is.0.1,
   λ n within some.
       let there = in_slot (slots (way n)) some in
       let shorter = is.1 (way n) there.0 (sym (contains-way n address) ∙ within, there.1) in
@@ -162,14 +162,14 @@ longest_of slots address (Some found) is = (
 
 -- by what the prefixes that contain the address have
 longest-same : {R : Type 0} (one other : Network → Option R) (address : Address) (found : Option (Network × R)) → ((n : Network) → contains n address ≡ true → one n ≡ other n)
-    → IsLongestOf one address found → IsLongestOf other address found
+    → IsLongestMatchOf one address found → IsLongestMatchOf other address found
 longest-same one other address None same is = λ n within. sym (same n within) ∙ is n within
 longest-same one other address (Some found) same is =
     (is.0, sym (same found.0 is.0) ∙ is.1, λ n within some. is.2 n within (ap is_some (same n within) ∙ some))
 
 -- that is found in the tree of the address's family
-pub longest-is : {R : Type 0} (f : Trees R) → IsPlanted f → (address : Address) → IsLongest (routes_in (slots_in f)) address (deepest (tree_of address.family f) (way (host address)))
+pub longest-is : {R : Type 0} (f : Trees R) → AreRadixTrees f → (address : Address) → IsLongestMatch (routes_in (slots_in f)) address (deepest_route (tree_of address.family f) (way (host address)))
 longest-is f planted address =
-    longest-same (λ n. route_found (at (tree_of address.family f) (way n))) (finite.get (routes_in (slots_in f))) address (deepest (tree_of address.family f) (way (host address)))
-    (λ n within. sym (get-routes_in (slots_in f) n ∙ ap route_found (slot_at-tree_of f planted n address.family (contains_parts n address within).0)))
-    (longest_of (at (tree_of address.family f)) address (deepest (tree_of address.family f) (way (host address))) (deepest_is (tree_of address.family f) (way (host address)) (shaped-family f planted address.family)))
+    longest-same (λ n. route_of_slot (at (tree_of address.family f) (way n))) (finite.get (routes_in (slots_in f))) address (deepest_route (tree_of address.family f) (way (host address)))
+    (λ n within. sym (get-routes_in (slots_in f) n ∙ ap route_of_slot (slot_at-tree_of f planted n address.family (contains_parts n address within).0)))
+    (longest_of (at (tree_of address.family f)) address (deepest_route (tree_of address.family f) (way (host address))) (deepest_is (tree_of address.family f) (way (host address)) (shaped-family f planted address.family)))

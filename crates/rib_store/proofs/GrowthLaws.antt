@@ -4,35 +4,35 @@ use Rattle.ip_prefix.specs.declared.turn.Turn.{Turn}
 use Rattle.ip_prefix.specs.declared.turn.Turn.TheVariants.{Outside, Here, Left, Right}
 use Rattle.ip_prefix.specs.Network.{Network}
 use Rattle.ip_prefix.specs.Turns.{way, turn_of, shared, side}
-use Rattle.rib_store.specs.Tree.{Shape, Empty, Rooted, at, slot_of, chosen, root, joined, IsOn, IsRooted, IsShaped, IsPut, IsPlaced, Stands}
+use Rattle.rib_store.specs.Tree.{Shape, Empty, Rooted, at, slot_of, select_by_turn, root, root_with_key, IsOnSide, IsRooted, IsRadixTree, IsUpdatedAt, IsInserted, IsKeyOrFork}
 use Rattle.rib_store.proofs.WayLaws.{turn_shared, shared_inside, parts}
 use Rattle.std.specs.Prelude.{IsSome}
-use Rattle.rib_store.specs.declared.tree.Slot.TheVariants.{Branch}
+use Rattle.rib_store.specs.declared.tree.Slot.TheVariants.{NoKey}
 use Rattle.rib_store.proofs.TreeLaws.{ShapedParts, at_left, at_right, at_rooted, rooted_shaped, shaped_rooted, root_rooted, some_is, on_side}
 use Rattle.rib_store.proofs.ChangeLaws.{fork_left, fork_right, fork_here, put_from}
 
 -- a child with one more key is on its side still
-pub on_placed : {R : Type 0} (key : List Bool) (v : Option (Option R)) (l m : Shape R) (b : List Bool) (bit : Bool) → IsPlaced key v l m → IsOn b bit l → turn_of b key ≡ side bit → IsOn b bit m
+pub on_placed : {R : Type 0} (key : List Bool) (v : Option (Option R)) (l m : Shape R) (b : List Bool) (bit : Bool) → IsInserted key v l m → IsOnSide b bit l → turn_of b key ≡ side bit → IsOnSide b bit m
 on_placed key v Empty m b bit placed on there = on_side m b key bit placed.roots there
 on_placed key v (Rooted prefix slot l r) m b bit placed on there = on_side m b (shared (way prefix) key) bit placed.roots (turn_shared b (way prefix) key bit on there)
 
 -- and stands where it stood
-stands_left : {R : Type 0} (slot : Option (Option R)) (l r m : Shape R) (x : List Bool) → root m ≡ Some x → Stands slot l r → Stands slot m r
+stands_left : {R : Type 0} (slot : Option (Option R)) (l r m : Shape R) (x : List Bool) → root m ≡ Some x → IsKeyOrFork slot l r → IsKeyOrFork slot m r
 stands_left None l r m x e h = (some_is (root m) x e, h.1)
 stands_left (Some route) l r m x e h = tt
 
-stands_right : {R : Type 0} (slot : Option (Option R)) (l r m : Shape R) (x : List Bool) → root m ≡ Some x → Stands slot l r → Stands slot l m
+stands_right : {R : Type 0} (slot : Option (Option R)) (l r m : Shape R) (x : List Bool) → root m ≡ Some x → IsKeyOrFork slot l r → IsKeyOrFork slot l m
 stands_right None l r m x e h = (h.0, some_is (root m) x e)
 stands_right (Some route) l r m x e h = tt
 
 not_outside : (t : Turn) (bit : Bool) → t ≡ side bit → t ≡ Outside → ⊥
 not_outside t bit e h = grind arith
 
-chosen_at : {A : Type 0} (t : Turn) (none here left right x : A) (u : Turn) → t ≡ u → chosen u none here left right ≡ x → chosen t none here left right ≡ x
-chosen_at t none here left right x u e h = ap (λ w. chosen w none here left right) e ∙ h
+chosen_at : {A : Type 0} (t : Turn) (none here left right x : A) (u : Turn) → t ≡ u → select_by_turn u none here left right ≡ x → select_by_turn t none here left right ≡ x
+chosen_at t none here left right x u e h = ap (λ w. select_by_turn w none here left right) e ∙ h
 
 pub placed_left : {R : Type 0} {old new : Shape R} (key : List Bool) (prefix : Network) (slot v : Option (Option R)) (l r m : Shape R) → IsRooted prefix slot l r old → IsRooted prefix slot m r new
-    → turn_of (way prefix) key ≡ Left → IsShaped old → IsPlaced key v l m → IsPlaced key v old new
+    → turn_of (way prefix) key ≡ Left → IsRadixTree old → IsInserted key v l m → IsInserted key v old new
 placed_left {R} {old} {new} key prefix slot v l r m was is there shaped placed =
     let s = rooted_shaped old prefix slot l r was shaped in
     record {
@@ -46,11 +46,11 @@ placed_left {R} {old} {new} key prefix slot v l r m was is there shaped placed =
         s.3,
       );
       slots = fork_left old new prefix slot v l r m key was is there placed.slots;
-      roots = root_rooted new prefix slot m r is ∙ sym (ap Some (shared_inside (way prefix) key (not_outside _ false there))) ∙ sym (ap (λ o. Some (joined o key)) (root_rooted old prefix slot l r was));
+      roots = root_rooted new prefix slot m r is ∙ sym (ap Some (shared_inside (way prefix) key (not_outside _ false there))) ∙ sym (ap (λ o. Some (root_with_key o key)) (root_rooted old prefix slot l r was));
     }
 
 pub placed_right : {R : Type 0} {old new : Shape R} (key : List Bool) (prefix : Network) (slot v : Option (Option R)) (l r m : Shape R) → IsRooted prefix slot l r old → IsRooted prefix slot l m new
-    → turn_of (way prefix) key ≡ Right → IsShaped old → IsPlaced key v r m → IsPlaced key v old new
+    → turn_of (way prefix) key ≡ Right → IsRadixTree old → IsInserted key v r m → IsInserted key v old new
 placed_right {R} {old} {new} key prefix slot v l r m was is there shaped placed =
     let s = rooted_shaped old prefix slot l r was shaped in
     record {
@@ -64,7 +64,7 @@ placed_right {R} {old} {new} key prefix slot v l r m was is there shaped placed 
         placed.shaped,
       );
       slots = fork_right old new prefix slot v l r m key was is there placed.slots;
-      roots = root_rooted new prefix slot l m is ∙ sym (ap Some (shared_inside (way prefix) key (not_outside _ true there))) ∙ sym (ap (λ o. Some (joined o key)) (root_rooted old prefix slot l r was));
+      roots = root_rooted new prefix slot l m is ∙ sym (ap Some (shared_inside (way prefix) key (not_outside _ true there))) ∙ sym (ap (λ o. Some (root_with_key o key)) (root_rooted old prefix slot l r was));
     }
 
 here_inside : (t : Turn) → t ≡ Here → t ≡ Outside → ⊥
@@ -72,24 +72,24 @@ here_inside t e h = cc
 
 -- the node itself is the key from now on, if it wasn't
 pub placed_here : {R : Type 0} {old new : Shape R} (key : List Bool) (prefix : Network) (slot v : Option (Option R)) (l r : Shape R) → IsRooted prefix slot l r old → IsRooted prefix v l r new
-    → turn_of (way prefix) key ≡ Here → IsShaped old → Stands v l r → IsPlaced key v old new
+    → turn_of (way prefix) key ≡ Here → IsRadixTree old → IsKeyOrFork v l r → IsInserted key v old new
 placed_here {R} {old} {new} key prefix slot v l r was is there shaped stands =
     let s = rooted_shaped old prefix slot l r was shaped in
     record {
       shaped = shaped_rooted new prefix v l r is (s.0, stands, s.2, s.3);
       slots = fork_here old new prefix slot v l r key was is there;
-      roots = root_rooted new prefix v l r is ∙ sym (ap Some (shared_inside (way prefix) key (here_inside _ there))) ∙ sym (ap (λ o. Some (joined o key)) (root_rooted old prefix slot l r was));
+      roots = root_rooted new prefix v l r is ∙ sym (ap Some (shared_inside (way prefix) key (here_inside _ there))) ∙ sym (ap (λ o. Some (root_with_key o key)) (root_rooted old prefix slot l r was));
     }
 
 -- ---- a leaf, and a node above
 
-put_leaf : {A : Type 0} (t : Turn) (none v : A) → chosen t none v none none ≡ cond (chosen t false true false false) v none
+put_leaf : {A : Type 0} (t : Turn) (none v : A) → select_by_turn t none v none none ≡ cond (select_by_turn t false true false false) v none
 put_leaf t none v = grind arith
 
-pub leaf_slots : {R : Type 0} (key : Network) (route : Option R) (t : Shape R) → IsRooted key (Some route) Empty Empty t → IsPut (λ q. None) (way key) (Some route) (at t)
+pub leaf_slots : {R : Type 0} (key : Network) (route : Option R) (t : Shape R) → IsRooted key (Some route) Empty Empty t → IsUpdatedAt (λ q. None) (way key) (Some route) (at t)
 leaf_slots key route t is q = at_rooted t key (Some route) Empty Empty is q ∙ put_leaf (turn_of (way key) q) None (Some route)
 
-pub leaf_shaped : {R : Type 0} (key : Network) (route : Option R) (t : Shape R) → IsRooted key (Some route) Empty Empty t → IsShaped t
+pub leaf_shaped : {R : Type 0} (key : Network) (route : Option R) (t : Shape R) → IsRooted key (Some route) Empty Empty t → IsRadixTree t
 leaf_shaped key route t is = shaped_rooted t key (Some route) Empty Empty is (record { left = tt; right = tt }, tt, tt, tt)
 
 -- nothing is at a key outside of the way to the root
@@ -112,17 +112,17 @@ pub data Beside {R : Type 0} (key above : Network) (route : Option R) (slot : Op
 
 -- the key is above the tree, or a branch is
 over_side : {R : Type 0} {old new : Shape R} (key above : Network) (b : List Bool) (route : Option R) (slot : Option (Option R)) (beside : Shape R) (bit : Bool)
-    → at old (way key) ≡ None → root old ≡ Some b → IsShaped old → way above ≡ shared b (way key) → turn_of (way above) b ≡ side bit
+    → at old (way key) ≡ None → root old ≡ Some b → IsRadixTree old → way above ≡ shared b (way key) → turn_of (way above) b ≡ side bit
     → (turn_of (way above) (way key) ≡ Here) ⊎ (turn_of (way above) (way key) ≡ side (not bit))
-    → IsRooted above slot (cond bit beside old) (cond bit old beside) new → Beside key above route slot beside → IsPlaced (way key) (Some route) old new
+    → IsRooted above slot (cond bit beside old) (cond bit old beside) new → Beside key above route slot beside → IsInserted (way key) (Some route) old new
 over_side {R} {old} {new} key above b route slot beside bit none e shaped bits below parts is other =
     record {
       shaped = shaped_rooted new above slot (cond bit beside old) (cond bit old beside) is (stands bit below parts other);
       slots = put bit below parts is other;
-      roots = root_rooted new above slot (cond bit beside old) (cond bit old beside) is ∙ ap Some bits ∙ sym (ap (λ o. Some (joined o (way key))) e);
+      roots = root_rooted new above slot (cond bit beside old) (cond bit old beside) is ∙ ap Some bits ∙ sym (ap (λ o. Some (root_with_key o (way key))) e);
     }
   where
-    on : (bit : Bool) → turn_of (way above) b ≡ side bit → IsOn (way above) bit old
+    on : (bit : Bool) → turn_of (way above) b ≡ side bit → IsOnSide (way above) bit old
     on bit below = on_side old (way above) b bit e below
 
     there : {s : Turn} → (turn_of (way above) (way key) ≡ Here) ⊎ (turn_of (way above) (way key) ≡ s) → (turn_of (way above) (way key) ≡ Here → ⊥) → turn_of (way above) (way key) ≡ s
@@ -149,27 +149,27 @@ over_side {R} {old} {new} key above b route slot beside bit none e shaped bits b
         (record { left = on_side beside (way above) (way key) false (top leaf) (there parts apart); right = on true below }, ((two leaf).1, (two leaf).0), leaf_shaped key route beside leaf, shaped)
 
     put : (bit : Bool) → turn_of (way above) b ≡ side bit → (turn_of (way above) (way key) ≡ Here) ⊎ (turn_of (way above) (way key) ≡ side (not bit))
-        → IsRooted above slot (cond bit beside old) (cond bit old beside) new → Beside key above route slot beside → IsPut (at old) (way key) (Some route) (at new)
+        → IsRooted above slot (cond bit beside old) (cond bit old beside) new → Beside key above route slot beside → IsUpdatedAt (at old) (way key) (Some route) (at new)
     put false below parts is (is_key here slot_is empty) =
-        put_from _ _ (at new) (way key) _ (at_left (way above) old (on false below)) (fork_here (Rooted above Branch old Empty) new above None (Some route) old Empty (way key) (refl, refl, refl, refl)
+        put_from _ _ (at new) (way key) _ (at_left (way above) old (on false below)) (fork_here (Rooted above NoKey old Empty) new above None (Some route) old Empty (way key) (refl, refl, refl, refl)
         (subst (λ (x : Option (Option R) × Shape R). IsRooted above x.0 old x.1 new) (λ i. (slot_is i, empty i)) is) here)
     put true below parts is (is_key here slot_is empty) =
-        put_from _ _ (at new) (way key) _ (at_right (way above) old (on true below)) (fork_here (Rooted above Branch Empty old) new above None (Some route) Empty old (way key) (refl, refl, refl, refl)
+        put_from _ _ (at new) (way key) _ (at_right (way above) old (on true below)) (fork_here (Rooted above NoKey Empty old) new above None (Some route) Empty old (way key) (refl, refl, refl, refl)
         (subst (λ (x : Option (Option R) × Shape R). IsRooted above x.0 x.1 old new) (λ i. (slot_is i, empty i)) is) here)
     put false below parts is (is_branch apart slot_is leaf) =
-        put_from _ _ (at new) (way key) _ (at_left (way above) old (on false below)) (fork_right (Rooted above Branch old Empty) new above None (Some route) old Empty beside (way key) (refl, refl, refl, refl)
+        put_from _ _ (at new) (way key) _ (at_left (way above) old (on false below)) (fork_right (Rooted above NoKey old Empty) new above None (Some route) old Empty beside (way key) (refl, refl, refl, refl)
         (subst (λ x. IsRooted above x old beside new) slot_is is) (there parts apart) (leaf_slots key route beside leaf))
     put true below parts is (is_branch apart slot_is leaf) =
-        put_from _ _ (at new) (way key) _ (at_right (way above) old (on true below)) (fork_left (Rooted above Branch Empty old) new above None (Some route) Empty old beside (way key) (refl, refl, refl, refl)
+        put_from _ _ (at new) (way key) _ (at_right (way above) old (on true below)) (fork_left (Rooted above NoKey Empty old) new above None (Some route) Empty old beside (way key) (refl, refl, refl, refl)
         (subst (λ x. IsRooted above x beside old new) slot_is is) (there parts apart) (leaf_slots key route beside leaf))
 
 -- the turn of a side chooses by the side's bit
-by_side : {A : Type 0} (t : Turn) (bit : Bool) (x y : A) → t ≡ side bit → (chosen t x x y x ≡ cond bit x y) × (chosen t y y x y ≡ cond bit y x)
+by_side : {A : Type 0} (t : Turn) (bit : Bool) (x y : A) → t ≡ side bit → (select_by_turn t x x y x ≡ cond bit x y) × (select_by_turn t y y x y ≡ cond bit y x)
 by_side t bit x y e = (grind arith, grind arith)
 
 pub placed_over : {R : Type 0} {old new : Shape R} (key above : Network) (b : List Bool) (route : Option R) (slot : Option (Option R)) (beside : Shape R) (t : Turn)
-    → turn_of b (way key) ≡ Outside → root old ≡ Some b → IsShaped old → way above ≡ shared b (way key) → t ≡ turn_of (way above) b
-    → IsRooted above slot (chosen t beside beside old beside) (chosen t old old beside old) new → Beside key above route slot beside → IsPlaced (way key) (Some route) old new
+    → turn_of b (way key) ≡ Outside → root old ≡ Some b → IsRadixTree old → way above ≡ shared b (way key) → t ≡ turn_of (way above) b
+    → IsRooted above slot (select_by_turn t beside beside old beside) (select_by_turn t old old beside old) new → Beside key above route slot beside → IsInserted (way key) (Some route) old new
 placed_over {R} {old} {new} key above b route slot beside t out e shaped bits turn is beside_is =
     let p = parts b (way key) out in
     let below : turn_of (way above) b ≡ side p.bit = ap (λ x. turn_of x b) bits ∙ p.below in

@@ -7,15 +7,15 @@ use Rattle.ip_prefix.specs.Network.{Network}
 use Rattle.ip_prefix.specs.Turns.{way, turn_of, side}
 use Rattle.ip_prefix.proofs.Turns.{here_only, here_from}
 use Rattle.rib_store.specs.declared.tree.Slot.{Slot}
-use Rattle.rib_store.specs.declared.tree.Slot.TheVariants.{Branch, Vacant, Filled}
-use Rattle.rib_store.specs.Tree.{Shape, Empty, Rooted, slot_of, chosen, root, IsOn, IsShaped, Stands}
+use Rattle.rib_store.specs.declared.tree.Slot.TheVariants.{NoKey, Vacant, Filled}
+use Rattle.rib_store.specs.Tree.{Shape, Empty, Rooted, slot_of, select_by_turn, root, IsOnSide, IsRadixTree, IsKeyOrFork}
 use Rattle.rib_store.proofs.WayLaws.{turn_through, outside_across, outside_above, outside_below}
 use Rattle.rib_store.proofs.TreeLaws.{on_below}
 
 -- whether a node stands at a way
 abbrev pub node_at : {R : Type 0} → Shape R → List Bool → Bool
 node_at Empty q = false
-node_at (Rooted prefix slot l r) q = chosen (turn_of (way prefix) q) false true (node_at l q) (node_at r q)
+node_at (Rooted prefix slot l r) q = select_by_turn (turn_of (way prefix) q) false true (node_at l q) (node_at r q)
 
 -- whether some key passes a test of its way
 abbrev pub any_key : {R : Type 0} → (List Bool → Bool) → Shape R → Bool
@@ -23,7 +23,7 @@ any_key test Empty = false
 any_key test (Rooted prefix slot l r) = (is_some (slot_of slot) && test (way prefix)) || (any_key test l || any_key test r)
 
 -- no key passes what none on the side does
-pub any_none : {R : Type 0} (test : List Bool → Bool) (b : List Bool) (bit : Bool) (t : Shape R) → IsOn b bit t → IsShaped t
+pub any_none : {R : Type 0} (test : List Bool → Bool) (b : List Bool) (bit : Bool) (t : Shape R) → IsOnSide b bit t → IsRadixTree t
     → ((k : List Bool) → turn_of b k ≡ side bit → test k ≡ false) → any_key test t ≡ false
 any_none test b bit Empty on shaped h = refl
 any_none test b bit (Rooted prefix slot l r) on shaped h =
@@ -33,10 +33,10 @@ any_none test b bit (Rooted prefix slot l r) on shaped h =
     grind arith
 
 -- some key passes what each on the side does
-pub any_some : {R : Type 0} (test : List Bool → Bool) (b : List Bool) (bit : Bool) (t : Shape R) → IsOn b bit t → IsShaped t → IsSome (root t)
+pub any_some : {R : Type 0} (test : List Bool → Bool) (b : List Bool) (bit : Bool) (t : Shape R) → IsOnSide b bit t → IsRadixTree t → IsSome (root t)
     → ((k : List Bool) → turn_of b k ≡ side bit → test k ≡ true) → any_key test t ≡ true
 any_some test b bit Empty on shaped some h = cc
-any_some test b bit (Rooted prefix Branch l r) on shaped some h =
+any_some test b bit (Rooted prefix NoKey l r) on shaped some h =
     ap (λ x. x || any_key test r) (any_some test b bit l (on_below l b (way prefix) bit false on shaped.0.left) shaped.2 shaped.1.0 h)
 any_some test b bit (Rooted prefix Vacant l r) on shaped some h = ap (λ x. x || (any_key test l || any_key test r)) (h (way prefix) on)
 any_some test b bit (Rooted prefix (Filled route) l r) on shaped some h = ap (λ x. x || (any_key test l || any_key test r)) (h (way prefix) on)
@@ -48,24 +48,24 @@ abbrev pub by_turn : (Turn → Bool) → List Bool → List Bool → Bool
 by_turn w q k = w (turn_of q k)
 
 abbrev pub at_here : Turn → Bool
-at_here t = chosen t false true false false
+at_here t = select_by_turn t false true false false
 
 abbrev pub at_side : Bool → Turn → Bool
-at_side bit t = chosen t false false (not bit) bit
+at_side bit t = select_by_turn t false false (not bit) bit
 
 -- what is told of a node by the tests of its keys
 abbrev pub Told : {R : Type 0} → Shape R → List Bool → Type 0
 Told t q = node_at t q ≡ (any_key (by_turn at_here q) t || (any_key (by_turn (at_side false) q) t && any_key (by_turn (at_side true) q) t))
 
 -- where a key parts from all others below the node
-pub told_left : {R : Type 0} (b : List Bool) (slot : Option (Option R)) (l r : Shape R) (q : List Bool) (w : Turn → Bool) → w Outside ≡ false → IsOn b true r → IsShaped r
+pub told_left : {R : Type 0} (b : List Bool) (slot : Option (Option R)) (l r : Shape R) (q : List Bool) (w : Turn → Bool) → w Outside ≡ false → IsOnSide b true r → IsRadixTree r
     → turn_of b q ≡ Left → ((is_some slot && by_turn w q b) || (any_key (by_turn w q) l || any_key (by_turn w q) r)) ≡ any_key (by_turn w q) l
 told_left b slot l r q w none on shaped there =
     let here = ap w (outside_above b q false there) ∙ none in
     let right = any_none (by_turn w q) b true r on shaped (λ k h. ap w (outside_across b q k false true there h refl) ∙ none) in
     grind arith
 
-pub told_right : {R : Type 0} (b : List Bool) (slot : Option (Option R)) (l r : Shape R) (q : List Bool) (w : Turn → Bool) → w Outside ≡ false → IsOn b false l → IsShaped l
+pub told_right : {R : Type 0} (b : List Bool) (slot : Option (Option R)) (l r : Shape R) (q : List Bool) (w : Turn → Bool) → w Outside ≡ false → IsOnSide b false l → IsRadixTree l
     → turn_of b q ≡ Right → ((is_some slot && by_turn w q b) || (any_key (by_turn w q) l || any_key (by_turn w q) r)) ≡ any_key (by_turn w q) r
 told_right b slot l r q w none on shaped there =
     let here = ap w (outside_above b q true there) ∙ none in
@@ -74,7 +74,7 @@ told_right b slot l r q w none on shaped there =
 
 -- where all keys lie on one turn from q, no test passes that doesn't pass there
 none_of : {R : Type 0} (prefix : Network) (l r : Shape R) (slot : Slot R) (q : List Bool) (w : Turn → Bool) (t : Turn) → w t ≡ false
-    → IsShaped (Rooted prefix slot l r) → turn_of q (way prefix) ≡ t → ((k : List Bool) (s : Bool) → turn_of (way prefix) k ≡ side s → turn_of q k ≡ t)
+    → IsRadixTree (Rooted prefix slot l r) → turn_of q (way prefix) ≡ t → ((k : List Bool) (s : Bool) → turn_of (way prefix) k ≡ side s → turn_of q k ≡ t)
     → any_key (by_turn w q) (Rooted prefix slot l r) ≡ false
 none_of prefix l r slot q w t fails shaped here below =
     let own = ap w here ∙ fails in
@@ -87,7 +87,7 @@ nothing a b c e (inl f) = grind arith
 nothing a b c e (inr g) = grind arith
 
 told_outside : {R : Type 0} (prefix : Network) (l r : Shape R) (slot : Slot R) (q : List Bool) (t : Turn) → turn_of q (way prefix) ≡ t
-    → IsShaped (Rooted prefix slot l r) → turn_of (way prefix) q ≡ Outside
+    → IsRadixTree (Rooted prefix slot l r) → turn_of (way prefix) q ≡ Outside
     → false ≡ (any_key (by_turn at_here q) (Rooted prefix slot l r) || (any_key (by_turn (at_side false) q) (Rooted prefix slot l r) && any_key (by_turn (at_side true) q) (Rooted prefix slot l r)))
 told_outside prefix l r slot q Outside e shaped out =
     let none = λ (w : Turn → Bool) (fails : w Outside ≡ false). none_of prefix l r slot q w Outside fails shaped e (λ k s h. outside_below q (way prefix) k s e out h) in
@@ -107,7 +107,7 @@ on_both : (here a b c d : Bool) → a ≡ true → d ≡ true → true ≡ (here
 on_both here a b c d left right = grind arith
 
 -- the node itself: a key, or keys on both sides
-told_here : {R : Type 0} (b : List Bool) (slot : Option (Option R)) (l r : Shape R) → IsOn b false l → IsOn b true r → Stands slot l r → IsShaped l → IsShaped r
+told_here : {R : Type 0} (b : List Bool) (slot : Option (Option R)) (l r : Shape R) → IsOnSide b false l → IsOnSide b true r → IsKeyOrFork slot l r → IsRadixTree l → IsRadixTree r
     → true ≡ (((is_some slot && by_turn at_here b b) || (any_key (by_turn at_here b) l || any_key (by_turn at_here b) r))
     || (((is_some slot && by_turn (at_side false) b b) || (any_key (by_turn (at_side false) b) l || any_key (by_turn (at_side false) b) r))
     && ((is_some slot && by_turn (at_side true) b b) || (any_key (by_turn (at_side true) b) l || any_key (by_turn (at_side true) b) r))))
@@ -118,12 +118,12 @@ told_here b None l r on_l on_r stands sl sr =
     on_both _ _ _ _ _ left right
 
 -- a node stands exactly where a key is, or where keys lie on both sides
-pub told : {R : Type 0} (t : Shape R) (q : List Bool) → IsShaped t → Told t q
+pub told : {R : Type 0} (t : Shape R) (q : List Bool) → IsRadixTree t → Told t q
 told Empty q shaped = refl
 told {R} (Rooted prefix slot l r) q shaped = turns (turn_of (way prefix) q) refl (told l q shaped.2) (told r q shaped.3)
   where
     turns : (t : Turn) → turn_of (way prefix) q ≡ t → Told l q → Told r q
-        → chosen t false true (node_at l q) (node_at r q)
+        → select_by_turn t false true (node_at l q) (node_at r q)
         ≡ (any_key (by_turn at_here q) (Rooted prefix slot l r) || (any_key (by_turn (at_side false) q) (Rooted prefix slot l r) && any_key (by_turn (at_side true) q) (Rooted prefix slot l r)))
     turns Outside e f g = told_outside prefix l r slot q (turn_of q (way prefix)) refl shaped e
     turns Here e f g =

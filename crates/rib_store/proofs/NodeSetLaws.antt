@@ -19,12 +19,12 @@ use Rattle.ip_prefix.specs.OrderLaws.{network_cmp_total}
 use Rattle.octet_forms.proofs.Booleans.{same_tests}
 use Rattle.octet_forms.proofs.Lists.{AllByRecursion-append}
 use Rattle.ip_prefix.proofs.Turns.{covers-way}
-use Rattle.rib_store.specs.declared.tree.Slot.TheVariants.{Branch, Vacant, Filled}
-use Rattle.rib_store.specs.Tree.{Shape, Empty, Rooted, own, slots_of, slot_of, chosen, same_way, root, AreSides, IsOn, IsShaped}
+use Rattle.rib_store.specs.declared.tree.Slot.TheVariants.{NoKey, Vacant, Filled}
+use Rattle.rib_store.specs.Tree.{Shape, Empty, Rooted, own, slots_of, slot_of, select_by_turn, same_way, root, AreSides, IsOnSide, IsRadixTree}
 use Rattle.prefix_store.specs.Stored.{Keys}
 use Rattle.rib_store.specs.Slots.{Slots, keys_in}
 use Rattle.rib_store.specs.Walks.{node_count}
-use Rattle.rib_store.specs.Store.{Trees, slots_in, IsPlanted}
+use Rattle.rib_store.specs.Store.{Trees, slots_in, AreRadixTrees}
 use Rattle.rib_store.specs.Nodes.{is_node, AreNodes}
 use Rattle.prefix_store.proofs.AboveLaws.{is_less}
 use Rattle.rib_store.proofs.TreeLaws.{chosen_same, there_alone}
@@ -122,18 +122,18 @@ length-nodes_of Empty = refl
 length-nodes_of (Rooted prefix slot l r) = omega (arith, length-nodes_of l, length-nodes_of r, length-append (nodes_of l) (nodes_of r))
 
 -- a tree on a side has nodes there alone
-pub node_left : {R : Type 0} (b : List Bool) (t : Shape R) → IsOn b false t → (q : List Bool) → node_at t q ≡ chosen (turn_of b q) false false (node_at t q) false
+pub node_left : {R : Type 0} (b : List Bool) (t : Shape R) → IsOnSide b false t → (q : List Bool) → node_at t q ≡ select_by_turn (turn_of b q) false false (node_at t q) false
 node_left b Empty on q = chosen_same (turn_of b q) false
-node_left b (Rooted prefix slot l r) on q = there_alone false b (way prefix) q false _ on (λ out. ap (λ t. chosen t false true (node_at l q) (node_at r q)) out)
+node_left b (Rooted prefix slot l r) on q = there_alone false b (way prefix) q false _ on (λ out. ap (λ t. select_by_turn t false true (node_at l q) (node_at r q)) out)
 
-pub node_right : {R : Type 0} (b : List Bool) (t : Shape R) → IsOn b true t → (q : List Bool) → node_at t q ≡ chosen (turn_of b q) false false false (node_at t q)
+pub node_right : {R : Type 0} (b : List Bool) (t : Shape R) → IsOnSide b true t → (q : List Bool) → node_at t q ≡ select_by_turn (turn_of b q) false false false (node_at t q)
 node_right b Empty on q = chosen_same (turn_of b q) false
-node_right b (Rooted prefix slot l r) on q = there_alone false b (way prefix) q true _ on (λ out. ap (λ t. chosen t false true (node_at l q) (node_at r q)) out)
+node_right b (Rooted prefix slot l r) on q = there_alone false b (way prefix) q true _ on (λ out. ap (λ t. select_by_turn t false true (node_at l q) (node_at r q)) out)
 
-gathered : (t : Turn) (x y : Bool) → (chosen t false true false false || (chosen t false false x false || chosen t false false false y)) ≡ chosen t false true x y
+gathered : (t : Turn) (x y : Bool) → (select_by_turn t false true false false || (select_by_turn t false false x false || select_by_turn t false false false y)) ≡ select_by_turn t false true x y
 gathered t x y = grind arith
 
-pub is_in-nodes_of : {R : Type 0} (t : Shape R) (q : Network) → IsShaped t → is_in (nodes_of t) q ≡ node_at t (way q)
+pub is_in-nodes_of : {R : Type 0} (t : Shape R) (q : Network) → IsRadixTree t → is_in (nodes_of t) q ≡ node_at t (way q)
 is_in-nodes_of Empty q shaped = refl
 is_in-nodes_of (Rooted prefix slot l r) q shaped =
     (λ i. tied-ways q prefix i || ((list_any-append (eq_by_cmp network_cmp q) (nodes_of l) (nodes_of r)
@@ -143,13 +143,13 @@ is_in-nodes_of (Rooted prefix slot l r) q shaped =
 -- ---- each node stands once
 
 nodes-on : {R : Type 0} (P : Network → Type 0) (from : List Bool) (bit : Bool) → ((n : Network) → turn_of from (way n) ≡ side bit → P n)
-    → (t : Shape R) → IsShaped t → IsOn from bit t → AllByRecursion P (nodes_of t)
+    → (t : Shape R) → IsRadixTree t → IsOnSide from bit t → AllByRecursion P (nodes_of t)
 nodes-on P from bit holds Empty shaped on = tt
 nodes-on P from bit holds (Rooted prefix slot l r) shaped on =
     let deeper = λ (s : Bool) (n : Network) (h : turn_of (way prefix) (way n) ≡ side s). holds n (turn_through from (way prefix) (way n) bit s on h) in
     (holds prefix on, AllByRecursion-append P (nodes_of l) (nodes_of r) (nodes-on P (way prefix) false (deeper false) l shaped.2 shaped.0.left) (nodes-on P (way prefix) true (deeper true) r shaped.3 shaped.0.right))
 
-sorted-nodes : {R : Type 0} (from : List Bool) (l r : Shape R) → AreSides from l r → IsShaped l → IsShaped r → IsStrictlySortedBy network_cmp (nodes_of l) → IsStrictlySortedBy network_cmp (nodes_of r)
+sorted-nodes : {R : Type 0} (from : List Bool) (l r : Shape R) → AreSides from l r → IsRadixTree l → IsRadixTree r → IsStrictlySortedBy network_cmp (nodes_of l) → IsStrictlySortedBy network_cmp (nodes_of r)
     → IsStrictlySortedBy network_cmp (nodes_of l ++ nodes_of r)
 sorted-nodes from l r sides ls rs first second =
     sorted-append (nodes_of l) (nodes_of r) first second
@@ -157,7 +157,7 @@ sorted-nodes from l r sides ls rs first second =
     (λ x on. nodes-on (λ y. network_cmp x y ≡ Less) from true (λ y there. is_less (network_cmp x y) (ap is_lt (cmp-ways x y) ∙ (left_first from (way x) (way y) on there).0)) r rs sides.right)
     l ls sides.left)
 
-sorted-nodes_of : {R : Type 0} (t : Shape R) → IsShaped t → IsStrictlySortedBy network_cmp (nodes_of t)
+sorted-nodes_of : {R : Type 0} (t : Shape R) → IsRadixTree t → IsStrictlySortedBy network_cmp (nodes_of t)
 unfolding IsStrictlySortedBy
 sorted-nodes_of Empty shaped = tt
 sorted-nodes_of (Rooted prefix slot l r) shaped =
@@ -174,7 +174,7 @@ sorted-nodes_of (Rooted prefix slot l r) shaped =
 abbrev pub all_nodes : {R : Type 0} → Trees R → Keys
 all_nodes f = set.from_list (nodes_of f.v4 ++ nodes_of f.v6)
 
-pub len-all_nodes : {R : Type 0} (f : Trees R) → IsPlanted f → set.len (all_nodes f) ≡ node_count f.v4 + node_count f.v6
+pub len-all_nodes : {R : Type 0} (f : Trees R) → AreRadixTrees f → set.len (all_nodes f) ≡ node_count f.v4 + node_count f.v6
 len-all_nodes f planted =
     let sorted = sorted-nodes [] f.v4 f.v6 planted.sides planted.v4 planted.v6 (sorted-nodes_of f.v4 planted.v4) (sorted-nodes_of f.v6 planted.v6) in
     len-from_list (nodes_of f.v4 ++ nodes_of f.v6) (IsDistinct-from_sorted network_cmp _ sorted)
@@ -185,16 +185,16 @@ abbrev either_key : {R : Type 0} → (List Bool → Bool) → Trees R → Bool
 either_key test f = any_key test f.v4 || any_key test f.v6
 
 -- a node of either tree stands exactly where a key is, or where keys lie on both sides
-told_both : {R : Type 0} (f : Trees R) → IsPlanted f → (q : List Bool) (bit : Bool) → turn_of [] q ≡ side bit
+told_both : {R : Type 0} (f : Trees R) → AreRadixTrees f → (q : List Bool) (bit : Bool) → turn_of [] q ≡ side bit
     → (node_at f.v4 q || node_at f.v6 q) ≡ (either_key (by_turn at_here q) f || (either_key (by_turn (at_side false) q) f && either_key (by_turn (at_side true) q) f))
 told_both f planted q false e =
     let only = λ (w : Turn → Bool) (out : w Outside ≡ false). told_left [] None f.v4 f.v6 q w out planted.sides.right planted.v6 e in
-    ap (λ b. node_at f.v4 q || b) (node_right [] f.v6 planted.sides.right q ∙ ap (λ t. chosen t false false false (node_at f.v6 q)) e)
+    ap (λ b. node_at f.v4 q || b) (node_right [] f.v6 planted.sides.right q ∙ ap (λ t. select_by_turn t false false false (node_at f.v6 q)) e)
     ∙ or-false (node_at f.v4 q) ∙ told f.v4 q planted.v4
     ∙ sym (λ i. only at_here refl i || (only (at_side false) refl i && only (at_side true) refl i))
 told_both f planted q true e =
     let only = λ (w : Turn → Bool) (out : w Outside ≡ false). told_right [] None f.v4 f.v6 q w out planted.sides.left planted.v4 e in
-    ap (λ b. b || node_at f.v6 q) (node_left [] f.v4 planted.sides.left q ∙ ap (λ t. chosen t false false (node_at f.v4 q) false) e)
+    ap (λ b. b || node_at f.v6 q) (node_left [] f.v4 planted.sides.left q ∙ ap (λ t. select_by_turn t false false (node_at f.v4 q) false) e)
     ∙ told f.v6 q planted.v6
     ∙ sym (λ i. only at_here refl i || (only (at_side false) refl i && only (at_side true) refl i))
 
@@ -218,10 +218,10 @@ is_node-keys f q =
 some_side : (q : Network) → (bit : Bool) × (turn_of [] (way q) ≡ side bit)
 some_side q = (family_bit q.family, first_turn q)
 
-pub node-is : {R : Type 0} (f : Trees R) → IsPlanted f → (q : Network) → (node_at f.v4 (way q) || node_at f.v6 (way q)) ≡ is_node (keys_in (slots_in f)) q
+pub node-is : {R : Type 0} (f : Trees R) → AreRadixTrees f → (q : Network) → (node_at f.v4 (way q) || node_at f.v6 (way q)) ≡ is_node (keys_in (slots_in f)) q
 node-is f planted q = let s = some_side q in told_both f planted (way q) s.0 s.1 ∙ sym (is_node-keys f q)
 
-pub are_nodes : {R : Type 0} (f : Trees R) → IsPlanted f → AreNodes (keys_in (slots_in f)) (all_nodes f)
+pub are_nodes : {R : Type 0} (f : Trees R) → AreRadixTrees f → AreNodes (keys_in (slots_in f)) (all_nodes f)
 are_nodes f planted q =
     contains-from_list network_cmp_total (nodes_of f.v4 ++ nodes_of f.v6) q
     ∙ list_any-append (eq_by_cmp network_cmp q) (nodes_of f.v4) (nodes_of f.v6)
@@ -238,15 +238,15 @@ filled (Rooted prefix slot l r) = 1
 filled-some : {R : Type 0} (t : Shape R) → IsSome (root t) → filled t ≡ 1
 filled-some t e = grind arith
 
-twice : {R : Type 0} (t : Shape R) → IsShaped t → node_count t + filled t ≤ 2 * length (slots_of t)
+twice : {R : Type 0} (t : Shape R) → IsRadixTree t → node_count t + filled t ≤ 2 * length (slots_of t)
 twice Empty shaped = omega arith
-twice (Rooted prefix Branch l r) shaped =
+twice (Rooted prefix NoKey l r) shaped =
     omega (arith, twice l shaped.2, twice r shaped.3, filled-some l shaped.1.0, filled-some r shaped.1.1, length-append (slots_of l) (slots_of r))
 twice (Rooted prefix Vacant l r) shaped = omega (arith, twice l shaped.2, twice r shaped.3, length-append (slots_of l) (slots_of r))
 twice (Rooted prefix (Filled route) l r) shaped = omega (arith, twice l shaped.2, twice r shaped.3, length-append (slots_of l) (slots_of r))
 
-pub len-keys_in-trees : {R : Type 0} (f : Trees R) → IsPlanted f → set.len (keys_in (slots_in f)) ≡ length (slots_of f.v4) + length (slots_of f.v6)
+pub len-keys_in-trees : {R : Type 0} (f : Trees R) → AreRadixTrees f → set.len (keys_in (slots_in f)) ≡ length (slots_of f.v4) + length (slots_of f.v6)
 len-keys_in-trees f planted = len-keys_in (slots_in f) (IsDistinct-from_sorted network_cmp _ (sorted-slots_in f planted)) ∙ length-append (slots_of f.v4) (slots_of f.v6)
 
-pub twice_both : {R : Type 0} (f : Trees R) → IsPlanted f → node_count f.v4 + node_count f.v6 ≤ 2 * set.len (keys_in (slots_in f))
+pub twice_both : {R : Type 0} (f : Trees R) → AreRadixTrees f → node_count f.v4 + node_count f.v6 ≤ 2 * set.len (keys_in (slots_in f))
 twice_both f planted = omega (arith, twice f.v4 planted.v4, twice f.v6 planted.v6, len-keys_in-trees f planted)

@@ -14,7 +14,7 @@ use Rattle.std.proofs.lemmas.Map.Keys.{sorted_head, sorted_tail}
 use Rattle.ip_prefix.specs.Network.{Network, network_cmp}
 use Rattle.ip_prefix.specs.OrderLaws.{network_cmp_total}
 use Rattle.prefix_store.specs.Lookups.{is_above, above}
-use Rattle.rib_store.specs.Slots.{Slots, slot_at, routes_in, routed, route_found}
+use Rattle.rib_store.specs.Slots.{Slots, slot_at, routes_in, routed, route_of_slot}
 use Rattle.prefix_store.proofs.StoredLaws.{put-none}
 use Rattle.rib_store.proofs.SlotLaws.{get-routes_in}
 
@@ -34,7 +34,7 @@ pub entries-routes_in : {R : Type 0} (slots : Slots R) → IsStrictlySortedBy ne
 unfolding routes_in routed
 entries-routes_in {R} [] sorted = nil_from_length _ (sym (len-entries (finite.empty {X = R} {R = network_cmp})) ∙ len-empty network_cmp R)
 entries-routes_in ((prefix, None) ∷ slots) sorted =
-    let none = get-routes_in slots prefix ∙ ap route_found (absent_front prefix slots (sorted_head network_cmp prefix (keys_of slots) sorted)) in
+    let none = get-routes_in slots prefix ∙ ap route_of_slot (absent_front prefix slots (sorted_head network_cmp prefix (keys_of slots) sorted)) in
     ap finite.entries (put-none (routes_in slots) prefix none) ∙ entries-routes_in slots (sorted_tail network_cmp prefix (keys_of slots) sorted)
 entries-routes_in ((prefix, Some route) ∷ slots) sorted =
     entries-insert network_cmp_total (routes_in slots) prefix route

@@ -10,10 +10,10 @@ use Rattle.ip_prefix.specs.declared.turn.Turn.TheVariants.{Outside}
 use Rattle.ip_prefix.specs.Network.{Network, bits_cmp, network_cmp}
 use Rattle.ip_prefix.specs.Turns.{way, turn_of, side}
 use Rattle.octet_forms.proofs.Lists.{AllByRecursion-append}
-use Rattle.rib_store.specs.Tree.{Shape, Empty, Rooted, at, own, slots_of, slot_of, chosen, same_way, AreSides, IsOn, IsShaped}
+use Rattle.rib_store.specs.Tree.{Shape, Empty, Rooted, at, own, slots_of, slot_of, select_by_turn, same_way, AreSides, IsOnSide, IsRadixTree}
 use Rattle.prefix_store.specs.Lookups.{is_above, above}
 use Rattle.rib_store.specs.Slots.{Slots, slot_at, routed}
-use Rattle.rib_store.specs.Walks.{either_of, first}
+use Rattle.rib_store.specs.Walks.{first_some, first}
 use Rattle.prefix_store.proofs.AboveLaws.{is_less}
 use Rattle.rib_store.proofs.WayLaws.{turn_through, below, node_first, left_first}
 use Rattle.rib_store.proofs.TreeLaws.{at_left, at_right}
@@ -41,7 +41,7 @@ pub keys_of-append : {X : Type 0} (xs ys : List (Network × X)) → keys_of (xs 
 keys_of-append [] ys = refl
 keys_of-append (x ∷ xs) ys = ap (λ l. x.0 ∷ l) (keys_of-append xs ys)
 
-pub slot_at-append : {R : Type 0} (q : Network) (xs ys : Slots R) → slot_at (xs ++ ys) q ≡ either_of (slot_at xs q) (slot_at ys q)
+pub slot_at-append : {R : Type 0} (q : Network) (xs ys : Slots R) → slot_at (xs ++ ys) q ≡ first_some (slot_at xs q) (slot_at ys q)
 slot_at-append q [] ys = refl
 slot_at-append q (x ∷ xs) ys = grind (arith, slot_at-append q xs ys)
 
@@ -52,26 +52,26 @@ routed-append ((prefix, None) ∷ xs) ys = routed-append xs ys
 routed-append ((prefix, Some route) ∷ xs) ys = ap (λ l. (prefix, route) ∷ l) (routed-append xs ys)
 
 -- the first of two lists behind one another
-pub first-append : {A : Type 0} (xs ys : List A) → slice_get (xs ++ ys) 0 ≡ either_of (slice_get xs 0) (slice_get ys 0)
+pub first-append : {A : Type 0} (xs ys : List A) → slice_get (xs ++ ys) 0 ≡ first_some (slice_get xs 0) (slice_get ys 0)
 first-append [] ys = refl
 first-append (x ∷ xs) ys = refl
 
 -- the node's own slot, and those below it
-slot_at-own : {R : Type 0} (q prefix : Network) (slot : Option (Option R)) (below : Slots R) → slot_at (own prefix slot below) q ≡ either_of (cond (eq_by_cmp network_cmp q prefix) slot None) (slot_at below q)
+slot_at-own : {R : Type 0} (q prefix : Network) (slot : Option (Option R)) (below : Slots R) → slot_at (own prefix slot below) q ≡ first_some (cond (eq_by_cmp network_cmp q prefix) slot None) (slot_at below q)
 slot_at-own q prefix slot below = grind arith
 
 -- ---- each key is found by its way
 
-by_turn : {A : Type 0} (t : Turn) (slot x y : Option A) → either_of (cond (chosen t false true false false) slot None) (either_of (chosen t None None x None) (chosen t None None None y)) ≡ chosen t None slot x y
+by_turn : {A : Type 0} (t : Turn) (slot x y : Option A) → first_some (cond (select_by_turn t false true false false) slot None) (first_some (select_by_turn t None None x None) (select_by_turn t None None None y)) ≡ select_by_turn t None slot x y
 by_turn t slot x y = grind arith
 
-pub slot_at-slots_of : {R : Type 0} (t : Shape R) → IsShaped t → (q : Network) → slot_at (slots_of t) q ≡ at t (way q)
+pub slot_at-slots_of : {R : Type 0} (t : Shape R) → IsRadixTree t → (q : Network) → slot_at (slots_of t) q ≡ at t (way q)
 slot_at-slots_of Empty shaped q = refl
 slot_at-slots_of {R} (Rooted prefix slot l r) shaped q =
     slot_at-own q prefix (slot_of slot) (slots_of l ++ slots_of r)
-    ∙ (λ i. either_of (cond (tied-ways q prefix i) (slot_of slot) None)
+    ∙ (λ i. first_some (cond (tied-ways q prefix i) (slot_of slot) None)
     ((slot_at-append q (slots_of l) (slots_of r)
-    ∙ (λ j. either_of ((slot_at-slots_of l shaped.2 q ∙ at_left (way prefix) l shaped.0.left (way q)) j) ((slot_at-slots_of r shaped.3 q ∙ at_right (way prefix) r shaped.0.right (way q)) j))) i))
+    ∙ (λ j. first_some ((slot_at-slots_of l shaped.2 q ∙ at_left (way prefix) l shaped.0.left (way q)) j) ((slot_at-slots_of r shaped.3 q ∙ at_right (way prefix) r shaped.0.right (way q)) j))) i))
     ∙ by_turn (turn_of (way prefix) (way q)) (slot_of slot) (at l (way q)) (at r (way q))
 
 -- ---- on which side the keys lie
@@ -85,7 +85,7 @@ AllKeys-append P xs ys all more = subst (AllByRecursion P) (sym (keys_of-append 
 
 -- what holds of all that lies on a side holds of the keys of a tree there
 pub all-on : {R : Type 0} (P : Network → Type 0) (from : List Bool) (bit : Bool) → ((n : Network) → turn_of from (way n) ≡ side bit → P n)
-    → (t : Shape R) → IsShaped t → IsOn from bit t → AllByRecursion P (keys_of (slots_of t))
+    → (t : Shape R) → IsRadixTree t → IsOnSide from bit t → AllByRecursion P (keys_of (slots_of t))
 all-on P from bit holds Empty shaped on = tt
 all-on P from bit holds (Rooted prefix slot l r) shaped on =
     let deeper = λ (s : Bool) (n : Network) (h : turn_of (way prefix) (way n) ≡ side s). holds n (turn_through from (way prefix) (way n) bit s on h) in
@@ -108,7 +108,7 @@ sorted-own prefix None below sorted less = sorted
 sorted-own prefix (Some slot) below sorted less = (less, sorted)
 
 -- one side of a way after the other
-pub sorted-sides : {R : Type 0} (from : List Bool) (l r : Shape R) → AreSides from l r → IsShaped l → IsShaped r → IsStrictlySortedBy network_cmp (keys_of (slots_of l)) → IsStrictlySortedBy network_cmp (keys_of (slots_of r))
+pub sorted-sides : {R : Type 0} (from : List Bool) (l r : Shape R) → AreSides from l r → IsRadixTree l → IsRadixTree r → IsStrictlySortedBy network_cmp (keys_of (slots_of l)) → IsStrictlySortedBy network_cmp (keys_of (slots_of r))
     → IsStrictlySortedBy network_cmp (keys_of (slots_of l ++ slots_of r))
 sorted-sides from l r sides ls rs first second =
     subst (IsStrictlySortedBy network_cmp) (sym (keys_of-append (slots_of l) (slots_of r)))
@@ -117,7 +117,7 @@ sorted-sides from l r sides ls rs first second =
     (λ x on. all-on (λ y. network_cmp x y ≡ Less) from true (λ y there. is_less (network_cmp x y) (ap is_lt (cmp-ways x y) ∙ (left_first from (way x) (way y) on there).0)) r rs sides.right)
     l ls sides.left))
 
-pub sorted-slots_of : {R : Type 0} (t : Shape R) → IsShaped t → IsStrictlySortedBy network_cmp (keys_of (slots_of t))
+pub sorted-slots_of : {R : Type 0} (t : Shape R) → IsRadixTree t → IsStrictlySortedBy network_cmp (keys_of (slots_of t))
 unfolding IsStrictlySortedBy
 sorted-slots_of Empty shaped = tt
 sorted-slots_of (Rooted prefix slot l r) shaped =

@@ -1,5 +1,5 @@
 -- Private.
--- The trees of both families, as two sides of a root above both, and what a store of them holds.
+-- The trees of both families, as the children of a root above both, and the contents of a store that has them.
 use Rattle.std.specs.Prelude.{◌≡◌, ℕ, Option, [], ◌++◌, cond}
 use Rattle.std.specs.FinMap as finite
 use Rattle.std.specs.FinSet as set
@@ -9,51 +9,54 @@ use Rattle.ip_prefix.specs.declared.addr.Family.TheVariants.{V4, V6}
 use Rattle.ip_prefix.specs.Network.{Network, network_cmp}
 use Rattle.prefix_store.specs.declared.packed.V4Prefix.{V4Prefix}
 use Rattle.prefix_store.specs.Contents.{v4_network, v6_network, Contents}
-use Rattle.prefix_store.specs.Stored.{counted}
+use Rattle.prefix_store.specs.Stored.{saturated_count}
 use Rattle.rib_store.specs.declared.tree.Tree.{Tree}
-use Rattle.rib_store.specs.Tree.{Shape, shape_of, IsMarked, slots_of, AreSides, IsShaped}
+use Rattle.rib_store.specs.Tree.{Shape, shape_of, HasCorrectMarks, slots_of, AreSides, IsRadixTree}
 use Rattle.rib_store.specs.Slots.{Slots, slot_at, keys_in, routes_in}
 
--- the shapes of both trees
+-- the shapes of the trees of both families
 pub record Trees (R : Type 0) : Type 0 where
   pub v4 : Shape R
   pub v6 : Shape R
 
+-- the shapes of an IPv4 and an IPv6 tree
 abbrev pub trees_of : {R : Type 0} → Tree V4Prefix R → Tree Network R → Trees R
 trees_of v4 v6 = record { v4 = shape_of v4_network v4; v6 = shape_of v6_network v6 }
 
--- the tree of a family
+-- the shape of the family's tree
 abbrev pub tree_of : {R : Type 0} → Family → Trees R → Shape R
 tree_of V4 trees = trees.v4
 tree_of V6 trees = trees.v6
 
--- the trees with this one in the place of that of the family
+-- the trees after that of the family is replaced by `tree`
 abbrev pub with_tree : {R : Type 0} → Family → Shape R → Trees R → Trees R
 with_tree V4 tree trees = record { v4 = tree; v6 = trees.v6 }
 with_tree V6 tree trees = record { v4 = trees.v4; v6 = tree }
 
--- the keys of both families, each with its slot, in order
+-- the keys of both trees with their routes, in ascending order, IPv4 first
 abbrev pub slots_in : {R : Type 0} → Trees R → Slots R
 slots_in trees = slots_of trees.v4 ++ slots_of trees.v6
 
--- each tree has its shape, and its keys are of its family
-pub record IsPlanted {R : Type 0} (trees : Trees R) : Type 0 where
+-- both are radix trees, and each has keys of its own family only: all IPv4 prefixes are on the left
+-- and all IPv6 prefixes on the right of the empty way
+pub record AreRadixTrees {R : Type 0} (trees : Trees R) : Type 0 where
   pub sides : AreSides [] trees.v4 trees.v6
-  pub v4 : IsShaped trees.v4
-  pub v6 : IsShaped trees.v6
+  pub v4 : IsRadixTree trees.v4
+  pub v6 : IsRadixTree trees.v6
 
--- each prefix has the slot that it had, but for one
+-- the prefix has the slot `slot` in `new`, and every other prefix has the slot that it has in `old`
 abbrev pub ChangesAt : {R : Type 0} → Slots R → Network → Option (Option R) → Slots R → Type 0
 ChangesAt old prefix slot new = (q : Network) → slot_at new q ≡ cond (eq_by_cmp network_cmp prefix q) slot (slot_at old q)
 
--- the keys and routes of both
+-- the keys and the routes of both trees
 abbrev pub contents_of : {R : Type 0} → Trees R → Contents R
 contents_of trees = record { keys = keys_in (slots_in trees); routes = routes_in (slots_in trees) }
 
--- both trees, whose marks are right, and counts of their keys and routes
-pub record IsCounted {R : Type 0} (v4 : Tree V4Prefix R) (v6 : Tree Network R) (key_count route_count : ℕ) : Type 0 where
-  pub planted : IsPlanted (trees_of v4 v6)
-  pub v4_marks : IsMarked v4
-  pub v6_marks : IsMarked v6
-  pub keys : key_count ≡ counted (set.len (contents_of (trees_of v4 v6)).keys)
-  pub routes : route_count ≡ counted (finite.len (contents_of (trees_of v4 v6)).routes)
+-- the invariant of a `RadixStore`: both are radix trees of their families with correct marks, and
+-- the counts are the numbers of their keys and routes, or GREATEST_COUNT if there are more
+pub record IsConsistent {R : Type 0} (v4 : Tree V4Prefix R) (v6 : Tree Network R) (key_count route_count : ℕ) : Type 0 where
+  pub planted : AreRadixTrees (trees_of v4 v6)
+  pub v4_marks : HasCorrectMarks v4
+  pub v6_marks : HasCorrectMarks v6
+  pub keys : key_count ≡ saturated_count (set.len (contents_of (trees_of v4 v6)).keys)
+  pub routes : route_count ≡ saturated_count (finite.len (contents_of (trees_of v4 v6)).routes)

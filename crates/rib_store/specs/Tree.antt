@@ -1,41 +1,46 @@
 -- Private.
--- A radix tree: the keys that it holds, each with its route or with room for one, and its shape.
+-- Radix trees: their keys with the routes of these, the marks of their nodes, and changes of a key.
+-- A way is the list of bits that leads to a node from a root above both families: the bit of the family, then those
+-- of the prefix (`way` in `ip_prefix/specs/Turns.antt`).
 use Rattle.std.specs.Prelude.{◌≡◌, Bool, true, false, ◌||◌, Option, Some, None, IsSome, IfSome, cond, List, [], ◌∷◌, ◌++◌}
 use Rattle.ip_prefix.specs.Network.{Network}
 use Rattle.ip_prefix.specs.declared.turn.Turn.{Turn}
 use Rattle.ip_prefix.specs.declared.turn.Turn.TheVariants.{Outside, Here, Left, Right}
 use Rattle.ip_prefix.specs.Turns.{way, turn_of, side, shared, family_bit}
 use Rattle.rib_store.specs.declared.tree.Slot.{Slot}
-use Rattle.rib_store.specs.declared.tree.Slot.TheVariants.{Branch, Vacant, Filled}
+use Rattle.rib_store.specs.declared.tree.Slot.TheVariants.{NoKey, Vacant, Filled}
 use Rattle.rib_store.specs.declared.tree.Tree.{Tree}
 use Rattle.ip_prefix.specs.declared.addr.Family.{Family}
 use Rattle.rib_store.specs.Slots.{Slots}
 use Rattle.rib_store.specs.declared.tree.Tree.TheVariants as tree
 
--- ---- a radix tree, however its nodes lie in memory
+-- ---- the nodes of a tree, however they lie in memory
 
+-- a radix tree, whichever variants of `Tree` represent its nodes
 pub data Shape (R : Type 0) : Type 0 where
   Empty : Shape R
-  -- a node: its prefix, what it has, and what lies below it
+  -- a node: its prefix, its slot, its left child and its right child
   Rooted : Network → Slot R → Shape R → Shape R → Shape R
 
--- the nodes of a tree, whose prefixes are kept as these
+-- the nodes of a tree, whose prefixes are represented by values of K; `network` gives the prefix
+-- that such a value represents
 abbrev pub shape_of : {K R : Type 0} → (K → Network) → Tree K R → Shape R
 shape_of network tree.Empty = Empty
 shape_of network (tree.Bare key) = Rooted (network key) Vacant Empty Empty
 shape_of network (tree.Leaf key route) = Rooted (network key) (Filled route) Empty Empty
-shape_of network (tree.Forked' routed key p left right) = Rooted (network key) Branch (shape_of network left) (shape_of network right)
+shape_of network (tree.Forked' routed key p left right) = Rooted (network key) NoKey (shape_of network left) (shape_of network right)
 shape_of network (tree.Rooted' routed key p slot left right) = Rooted (network key) slot (shape_of network left) (shape_of network right)
 
--- the route of a key without others below it
-abbrev pub leaf_slot : {K R : Type 0} → Tree K R → Option R
-leaf_slot tree.Empty = None
-leaf_slot (tree.Bare key) = None
-leaf_slot (tree.Leaf key route) = Some route
-leaf_slot (tree.Forked' routed key p left right) = None
-leaf_slot (tree.Rooted' routed key p slot left right) = None
+-- the route of a tree that is a single key without a heap node; `None` if it has no route, or is
+-- another tree
+abbrev pub leaf_route : {K R : Type 0} → Tree K R → Option R
+leaf_route tree.Empty = None
+leaf_route (tree.Bare key) = None
+leaf_route (tree.Leaf key route) = Some route
+leaf_route (tree.Forked' routed key p left right) = None
+leaf_route (tree.Rooted' routed key p slot left right) = None
 
--- it is this key, without others below it
+-- the tree is the single key `key`, without a heap node
 abbrev pub IsLeaf : {K R : Type 0} → K → Tree K R → Type 0
 IsLeaf key tree.Empty = ⊥
 IsLeaf key (tree.Bare other) = other ≡ key
@@ -43,7 +48,7 @@ IsLeaf key (tree.Leaf other route) = other ≡ key
 IsLeaf key (tree.Forked' routed other p left right) = ⊥
 IsLeaf key (tree.Rooted' routed other p slot left right) = ⊥
 
--- it is this branch, without room for a route
+-- the root of the tree is a branch that has no slot, with the prefix `key`
 abbrev pub IsFork : {K R : Type 0} → K → Tree K R → Type 0
 IsFork key tree.Empty = ⊥
 IsFork key (tree.Bare other) = ⊥
@@ -51,14 +56,14 @@ IsFork key (tree.Leaf other route) = ⊥
 IsFork key (tree.Forked' routed other p left right) = other ≡ key
 IsFork key (tree.Rooted' routed other p slot left right) = ⊥
 
--- what turns so isn't below
+-- the position isn't to the left or the right below a node: it is `Outside` or `Here`
 abbrev pub IsNotBelow : Turn → Type 0
 IsNotBelow Outside = Unit {0}
 IsNotBelow Here = Unit {0}
 IsNotBelow Left = ⊥
 IsNotBelow Right = ⊥
 
--- the key isn't below the root, or nothing is
+-- the key isn't below the root of the tree, or the root has no children
 abbrev pub IsAtRoot : {K R : Type 0} → (K → Network) → Network → Tree K R → Type 0
 IsAtRoot network key tree.Empty = Unit {0}
 IsAtRoot network key (tree.Bare other) = Unit {0}
@@ -70,157 +75,169 @@ IsAtRoot network key (tree.Rooted' routed other p slot left right) = IsNotBelow 
 
 -- whether the slot has a route
 abbrev pub is_filled : {R : Type 0} → Slot R → Bool
-is_filled Branch = false
+is_filled NoKey = false
 is_filled Vacant = false
 is_filled (Filled route) = true
 
--- whether some key has a route, by the mark of the root
-abbrev pub is_routed : {K R : Type 0} → Tree K R → Bool
-is_routed tree.Empty = false
-is_routed (tree.Bare key) = false
-is_routed (tree.Leaf key route) = true
-is_routed (tree.Forked' routed key p left right) = routed
-is_routed (tree.Rooted' routed key p slot left right) = routed
+-- whether some key of the tree has a route, by the mark of the root
+abbrev pub has_routes : {K R : Type 0} → Tree K R → Bool
+has_routes tree.Empty = false
+has_routes (tree.Bare key) = false
+has_routes (tree.Leaf key route) = true
+has_routes (tree.Forked' routed key p left right) = routed
+has_routes (tree.Rooted' routed key p slot left right) = routed
 
--- whether the slot has a route, or some key of the two trees, by the marks of their roots
-abbrev pub any_routed : {K R : Type 0} → Slot R → Tree K R → Tree K R → Bool
-any_routed slot left right = is_filled slot || (is_routed left || is_routed right)
+-- whether the slot, or some key of one of the two trees, has a route, by the marks of their roots
+abbrev pub any_has_routes : {K R : Type 0} → Slot R → Tree K R → Tree K R → Bool
+any_has_routes slot left right = is_filled slot || (has_routes left || has_routes right)
 
--- what holds of one of these elsewhere than where a turn leads
-abbrev pub beside_of : Turn → Bool → Bool → Bool → Bool
-beside_of Outside slot left right = left || right
-beside_of Here slot left right = left || right
-beside_of Left slot left right = slot || right
-beside_of Right slot left right = slot || left
+-- whether one of the three holds, without that which `turn` leads to: left, right, or otherwise the
+-- slot
+abbrev pub any_elsewhere : Turn → Bool → Bool → Bool → Bool
+any_elsewhere Outside slot left right = left || right
+any_elsewhere Here slot left right = left || right
+any_elsewhere Left slot left right = slot || right
+any_elsewhere Right slot left right = slot || left
 
--- whether there is a route elsewhere than where a turn leads
-abbrev pub routed_beside : {K R : Type 0} → Turn → Slot R → Tree K R → Tree K R → Bool
-routed_beside turn slot left right = beside_of turn (is_filled slot) (is_routed left) (is_routed right)
+-- whether the slot or one of the two trees has a route, without what `turn` leads to: the left
+-- tree, the right tree, or otherwise the slot
+abbrev pub any_routes_elsewhere : {K R : Type 0} → Turn → Slot R → Tree K R → Tree K R → Bool
+any_routes_elsewhere turn slot left right = any_elsewhere turn (is_filled slot) (has_routes left) (has_routes right)
 
--- each mark is right
-abbrev pub IsMarked : {K R : Type 0} → Tree K R → Type 0
-IsMarked tree.Empty = Unit {0}
-IsMarked (tree.Bare key) = Unit {0}
-IsMarked (tree.Leaf key route) = Unit {0}
-IsMarked (tree.Forked' routed key p left right) = (routed ≡ any_routed Branch left right) × IsMarked left × IsMarked right
-IsMarked (tree.Rooted' routed key p slot left right) = (routed ≡ any_routed slot left right) × IsMarked left × IsMarked right
+-- each mark in the tree is correct: it is true exactly if the node's slot or a key below it has a
+-- route
+abbrev pub HasCorrectMarks : {K R : Type 0} → Tree K R → Type 0
+HasCorrectMarks tree.Empty = Unit {0}
+HasCorrectMarks (tree.Bare key) = Unit {0}
+HasCorrectMarks (tree.Leaf key route) = Unit {0}
+HasCorrectMarks (tree.Forked' routed key p left right) = (routed ≡ any_has_routes NoKey left right) × HasCorrectMarks left × HasCorrectMarks right
+HasCorrectMarks (tree.Rooted' routed key p slot left right) = (routed ≡ any_has_routes slot left right) × HasCorrectMarks left × HasCorrectMarks right
 
--- ---- a radix tree: the keys that it holds, each with its route or with room for one, and its shape
+-- ---- the keys of a tree, and their slots
 
--- what a turn chooses
-abbrev pub chosen : {A : Type 0} → Turn → A → A → A → A → A
-chosen Outside none here left right = none
-chosen Here none here left right = here
-chosen Left none here left right = left
-chosen Right none here left right = right
+-- one of four values, by the position `turn`: outside, here, left or right
+abbrev pub select_by_turn : {A : Type 0} → Turn → A → A → A → A → A
+select_by_turn Outside none here left right = none
+select_by_turn Here none here left right = here
+select_by_turn Left none here left right = left
+select_by_turn Right none here left right = right
 
--- whether two ways are one
+-- whether the two ways are equal
 abbrev pub same_way : List Bool → List Bool → Bool
-same_way one other = chosen (turn_of one other) false true false false
+same_way one other = select_by_turn (turn_of one other) false true false false
 
--- what a key has: its route, or room for one
+-- the slot as an option: `None` if the node isn't a key, `Some None` if it is a key without a
+-- route, or else the route
 abbrev pub slot_of : {R : Type 0} → Slot R → Option (Option R)
-slot_of Branch = None
+slot_of NoKey = None
 slot_of Vacant = Some None
 slot_of (Filled route) = Some (Some route)
 
--- what the key at the end of a way has, where one is there
+-- the slot of the key at the end of the way in the tree: `None` if it isn't a key, `Some None` if
+-- it is a key without a route
 abbrev pub at : {R : Type 0} → Shape R → List Bool → Option (Option R)
 at Empty key = None
 at (Rooted prefix slot left right) key =
-    chosen (turn_of (way prefix) key) None (slot_of slot) (at left key) (at right key)
+    select_by_turn (turn_of (way prefix) key) None (slot_of slot) (at left key) (at right key)
 
--- the node's slot before those below it, where it is a key
+-- the list `below`, with the prefix and its slot in front if the prefix is a key
 abbrev pub own : {R : Type 0} → Network → Option (Option R) → Slots R → Slots R
 own prefix None below = below
 own prefix (Some slot) below = (prefix, slot) ∷ below
 
--- the keys, each with its slot, from the left to the right
+-- the keys of the tree with their slots in pre-order: a node before its left child, and that before
+-- its right child
 abbrev pub slots_of : {R : Type 0} → Shape R → Slots R
 slots_of Empty = []
 slots_of (Rooted prefix slot left right) =
     own prefix (slot_of slot) (slots_of left ++ slots_of right)
 
--- ---- the shape
+-- ---- which trees are radix trees
 
--- the way to the root
+-- the way to the root of the tree; `None` if the tree is empty
 abbrev pub root : {R : Type 0} → Shape R → Option (List Bool)
 root Empty = None
 root (Rooted prefix slot left right) = Some (way prefix)
 
--- the tree lies on a side of a way
-abbrev pub IsOn : {R : Type 0} → List Bool → Bool → Shape R → Type 0
-IsOn from bit tree = IfSome (root tree) (λ to. turn_of from to ≡ side bit)
+-- the tree is empty, or its root is below the end of the way `from`, on the left if `bit` is false,
+-- on the right if it is true
+abbrev pub IsOnSide : {R : Type 0} → List Bool → Bool → Shape R → Type 0
+IsOnSide from bit tree = IfSome (root tree) (λ to. turn_of from to ≡ side bit)
 
--- the tree lies on the family's side of the root of both
-abbrev pub IsOf : {R : Type 0} → Family → Shape R → Type 0
-IsOf family = IsOn [] (family_bit family)
+-- the tree is empty, or its root is on the family's side of the empty way: IPv4 on the left, IPv6
+-- on the right
+abbrev pub IsOnFamilySide : {R : Type 0} → Family → Shape R → Type 0
+IsOnFamilySide family = IsOnSide [] (family_bit family)
 
--- all of its nodes are of the family
-abbrev pub AreOf : {R : Type 0} → Family → Shape R → Type 0
-AreOf family Empty = Unit {0}
-AreOf family (Rooted prefix slot left right) = (prefix.family ≡ family) × AreOf family left × AreOf family right
+-- the prefixes of all nodes of the tree are of the family
+abbrev pub IsOfFamily : {R : Type 0} → Family → Shape R → Type 0
+IsOfFamily family Empty = Unit {0}
+IsOfFamily family (Rooted prefix slot left right) = (prefix.family ≡ family) × IsOfFamily family left × IsOfFamily family right
 
--- two trees lie on their sides of a way
+-- the two trees are on the left and on the right below the end of the way `from`
 pub record AreSides {R : Type 0} (from : List Bool) (l r : Shape R) : Type 0 where
-  pub left : IsOn from false l
-  pub right : IsOn from true r
+  pub left : IsOnSide from false l
+  pub right : IsOnSide from true r
 
--- a node is a key, or has two children
-abbrev pub Stands : {R : Type 0} → Option (Option R) → Shape R → Shape R → Type 0
-Stands None left right = IsSome (root left) × IsSome (root right)
-Stands (Some slot) left right = Unit {0}
+-- the node with this slot and these children is needed: it is a key, or has two children
+abbrev pub IsKeyOrFork : {R : Type 0} → Option (Option R) → Shape R → Shape R → Type 0
+IsKeyOrFork None left right = IsSome (root left) × IsSome (root right)
+IsKeyOrFork (Some slot) left right = Unit {0}
 
--- each node stands for a key or a branch, and its children lie on their sides
-abbrev pub IsShaped : {R : Type 0} → Shape R → Type 0
-IsShaped Empty = Unit {0}
-IsShaped (Rooted prefix slot left right) =
-    AreSides (way prefix) left right × Stands (slot_of slot) left right × IsShaped left × IsShaped right
+-- the tree is a radix tree: each node is a key or has two children, and each child is on its side
+-- below its parent
+abbrev pub IsRadixTree : {R : Type 0} → Shape R → Type 0
+IsRadixTree Empty = Unit {0}
+IsRadixTree (Rooted prefix slot left right) =
+    AreSides (way prefix) left right × IsKeyOrFork (slot_of slot) left right × IsRadixTree left × IsRadixTree right
 
--- the same, but that the root may be neither
-abbrev pub IsNearlyShaped : {R : Type 0} → Shape R → Type 0
-IsNearlyShaped Empty = Unit {0}
-IsNearlyShaped (Rooted prefix slot left right) = AreSides (way prefix) left right × IsShaped left × IsShaped right
+-- the tree is a radix tree, except that the root may be no key and have less than two children
+abbrev pub IsRadixTreeBelowRoot : {R : Type 0} → Shape R → Type 0
+IsRadixTreeBelowRoot Empty = Unit {0}
+IsRadixTreeBelowRoot (Rooted prefix slot left right) = AreSides (way prefix) left right × IsRadixTree left × IsRadixTree right
 
 -- ---- changes
 
--- what is there for each way is as before, but at one
-abbrev pub IsPut : {A : Type 0} → (List Bool → A) → List Bool → A → (List Bool → A) → Type 0
-IsPut before key slot after = (q : List Bool) → after q ≡ cond (same_way key q) slot (before q)
+-- `after` has the value `slot` at the way `key`, and at every other way the value that `before` has
+abbrev pub IsUpdatedAt : {A : Type 0} → (List Bool → A) → List Bool → A → (List Bool → A) → Type 0
+IsUpdatedAt before key slot after = (q : List Bool) → after q ≡ cond (same_way key q) slot (before q)
 
--- the slot without a route
+-- the slot without its route: a key stays a key
 abbrev pub vacated : {R : Type 0} → Slot R → Slot R
-vacated Branch = Branch
+vacated NoKey = NoKey
 vacated Vacant = Vacant
 vacated (Filled route) = Vacant
 
--- the same keys, without routes
-abbrev pub emptied : {R : Type 0} → Shape R → Shape R
-emptied Empty = Empty
-emptied (Rooted prefix slot left right) = Rooted prefix (vacated slot) (emptied left) (emptied right)
+-- the tree with all its keys, and without routes
+abbrev pub without_routes : {R : Type 0} → Shape R → Shape R
+without_routes Empty = Empty
+without_routes (Rooted prefix slot left right) = Rooted prefix (vacated slot) (without_routes left) (without_routes right)
 
--- the way to the root once a key is there
-abbrev pub joined : Option (List Bool) → List Bool → List Bool
-joined None key = key
-joined (Some to) key = shared to key
+-- the way to the root of a tree after the key was added to it, given the way to its old root: the
+-- longest way that both begin with, or the key's own if the tree was empty
+abbrev pub root_with_key : Option (List Bool) → List Bool → List Bool
+root_with_key None key = key
+root_with_key (Some to) key = shared to key
 
--- the root and what lies below it
+-- the tree has a root with this prefix, this slot, and exactly these children
 abbrev pub IsRooted : {R : Type 0} → Network → Option (Option R) → Shape R → Shape R → Shape R → Type 0
 IsRooted prefix slot left right Empty = ⊥
 IsRooted prefix slot left right (Rooted prefix' slot' left' right') =
     (prefix' ≡ prefix) × (left' ≡ left) × (right' ≡ right) × (slot_of slot' ≡ slot)
 
--- the root, with a tree on a side below it, and another on the other side
+-- the tree has a root with this prefix and this slot, the child `below` on the side `side`, and the
+-- child `beside` on the other side
 abbrev pub IsRootedOver : {R : Type 0} → Network → Option (Option R) → Turn → Shape R → Shape R → Shape R → Type 0
 IsRootedOver prefix slot side beside below tree =
-    IsRooted prefix slot (chosen side beside beside below beside) (chosen side below below beside below) tree
+    IsRooted prefix slot (select_by_turn side beside beside below beside) (select_by_turn side below below beside below) tree
 
--- a key is there and has this slot, the others are as before, and the tree has its shape
-pub record IsPlaced {R : Type 0} (key : List Bool) (slot : Option (Option R)) (old new : Shape R) : Type 0 where
-  pub shaped : IsShaped new
-  pub slots : IsPut (at old) key slot (at new)
-  pub roots : root new ≡ Some (joined (root old) key)
+-- `new` is a radix tree that has the slot `slot` at the way `key` and is `old` at every other way;
+-- its root is at the longest way that the old root and the key begin with
+pub record IsInserted {R : Type 0} (key : List Bool) (slot : Option (Option R)) (old new : Shape R) : Type 0 where
+  pub shaped : IsRadixTree new
+  pub slots : IsUpdatedAt (at old) key slot (at new)
+  pub roots : root new ≡ Some (root_with_key (root old) key)
 
--- the key that lies at the prefix is there and has this slot
-abbrev pub IsPlacedAt : {R : Type 0} → Network → Option (Option R) → Shape R → Shape R → Type 0
-IsPlacedAt prefix slot old new = (key : Network) → turn_of (way prefix) (way key) ≡ Here → IsPlaced (way key) slot old new
+-- `new` is `old` after the prefix became a key with the slot `slot`, in the sense of `IsInserted`
+abbrev pub IsInsertedAt : {R : Type 0} → Network → Option (Option R) → Shape R → Shape R → Type 0
+IsInsertedAt prefix slot old new = (key : Network) → turn_of (way prefix) (way key) ≡ Here → IsInserted (way key) slot old new

@@ -1,20 +1,20 @@
 //! A store that has a radix tree for each family. `bgpdump` keeps the routes of each peer in one.
-//! Read `tree.rt` for the trees.
+//! Read [`RadixStore`] first, then `tree.rt` for the trees.
 
 ghost use mir.Val.{bool_byte};
 ghost use Rattle.std.specs.Prelude.{◌≡◌, ℕ, ◌+◌, ◌*◌, ◌≤◌, is_some, option_map, option_copied};
 ghost use Rattle.std.specs.FinMap as finite;
 ghost use Rattle.std.specs.FinSet as set;
 ghost use Rattle.ip_prefix.specs.Network.{bit_count};
-ghost use Rattle.prefix_store.specs.Stored.{Keys, counted};
-ghost use Rattle.prefix_store.specs.Lookups.{IsLongest};
-ghost use Rattle.rib_store.specs.Slots.{route_found};
-ghost use Rattle.rib_store.specs.Store.{trees_of, contents_of, IsPlanted};
-ghost use Rattle.rib_store.specs.Nodes.{AreNodes, AreNodesTo, IsOrOneMore};
+ghost use Rattle.prefix_store.specs.Stored.{Keys, saturated_count};
+ghost use Rattle.prefix_store.specs.Lookups.{IsLongestMatch};
+ghost use Rattle.rib_store.specs.Slots.{route_of_slot};
+ghost use Rattle.rib_store.specs.Store.{trees_of, contents_of, AreRadixTrees};
+ghost use Rattle.rib_store.specs.Nodes.{AreNodes, AreNodesContaining, IsOrOneMore};
 
-use crate::tree::{Descent, Descents, Root, Tree};
+use crate::tree::{Descent, DescentNode, Descents, Tree};
 use ip_prefix::{Addr, Family, Prefix};
-use prefix_store::{GREATEST_COUNT, Place, Places, PrefixStore, V4Prefix};
+use prefix_store::{GREATEST_COUNT, PrefetchBatch, PrefetchTarget, PrefixStore, V4Prefix};
 use std::alloc::{AllocError, Global};
 use std::marker::Model;
 
@@ -35,7 +35,7 @@ pub struct RadixStore<R> {
 
 impl<R> Model for RadixStore<R> {
     ghost use Rattle.prefix_store.specs.Contents.{Contents, coded_contents};
-    ghost use Rattle.rib_store.specs.Store.{trees_of, contents_of, IsCounted};
+    ghost use Rattle.rib_store.specs.Store.{trees_of, contents_of, IsConsistent};
 
     ghost Value = { Contents R };
 
@@ -43,7 +43,7 @@ impl<R> Model for RadixStore<R> {
 
     ghost view = { λ s. contents_of (trees_of s.v4 s.v6) };
 
-    ghost invariant = { λ s. IsCounted s.v4 s.v6 s.key_count s.route_count };
+    ghost invariant = { λ s. IsConsistent s.v4 s.v6 s.key_count s.route_count };
 }
 
 impl<R: Drop> RadixStore<R> {
@@ -51,7 +51,7 @@ impl<R: Drop> RadixStore<R> {
     /// for each key and each branch, at most two for a key. Visits all nodes.
     pub fn nodes(&self) -> u64
         ensures nodes { (nodes : Keys) × AreNodes self.now.keys nodes ×
-            (result ≡ counted (set.len nodes)) }
+            (result ≡ saturated_count (set.len nodes)) }
         ensures twice { result ≤ 2 * set.len self.now.keys }
     {
         self.v4.node_count().saturating_add(self.v6.node_count())
@@ -59,13 +59,14 @@ impl<R: Drop> RadixStore<R> {
 
     /// Returns the route at the longest prefix that contains `addr`, as [`PrefixStore::longest`]
     /// does, and adds the number of nodes that the look-up visits to `met`: those whose prefixes
-    /// contain the address, and at most one more.
+    /// contain the address, and at most one more. `met` must be at most `u32::MAX` less 33 for an
+    /// IPv4 address, or less 129 for IPv6.
     pub fn longest_counted(&self, addr: &Addr, met: &mut u32) -> Option<(Prefix, &R)>
         requires { met.old + bit_count addr.now.family + 1 ≤ u32.MAX }
-        ensures longest { IsLongest self.now.routes addr.now
+        ensures longest { IsLongestMatch self.now.routes addr.now
             (option_map (λ p. (p.0, p.1.now)) result) }
         ensures most { met.new ≤ met.old + bit_count addr.now.family + 1 }
-        ensures met { (nodes : Keys) × AreNodesTo self.now.keys addr.now nodes ×
+        ensures met { (nodes : Keys) × AreNodesContaining self.now.keys addr.now nodes ×
             IsOrOneMore (met.old + set.len nodes) met.new }
     {
         let key = Prefix::host(*addr);
@@ -80,7 +81,7 @@ impl<R: Drop> RadixStore<R> {
     #[inline]
     fn slot(&self, prefix: &Prefix) -> Option<Option<&R>>
         ensures key { is_some result ≡ set.contains self.now.keys prefix.now }
-        ensures route { route_found (option_map (λ slot. option_copied slot) result)
+        ensures route { route_of_slot (option_map (λ slot. option_copied slot) result)
             ≡ finite.get self.now.routes prefix.now }
     {
         match prefix.family() {
@@ -119,8 +120,14 @@ impl<R: Drop> PrefixStore<R> for RadixStore<R> {
             Family::V4 => self.v4.exchange(prefix, route),
             Family::V6 => self.v6.exchange(prefix, route),
         }
-        let given = route.is_some();
-        self.route_count = routes_after(self.route_count, brought, given, &self.v4, &self.v6);
+        let taken_out = route.is_some();
+        self.route_count = route_count_after(
+            self.route_count,
+            brought,
+            taken_out,
+            &self.v4,
+            &self.v6,
+        );
     }
 
     fn put(&mut self, prefix: &Prefix, route: &mut Option<R>) -> Result<bool, AllocError> {
@@ -130,8 +137,14 @@ impl<R: Drop> PrefixStore<R> for RadixStore<R> {
             Family::V6 => self.v6.put(self.alloc, prefix, route),
         }?;
         self.key_count = self.key_count.saturating_add(u64::from(made));
-        let given = route.is_some();
-        self.route_count = routes_after(self.route_count, brought, given, &self.v4, &self.v6);
+        let taken_out = route.is_some();
+        self.route_count = route_count_after(
+            self.route_count,
+            brought,
+            taken_out,
+            &self.v4,
+            &self.v6,
+        );
         Ok(made)
     }
 
@@ -178,37 +191,37 @@ impl<R: Drop> PrefixStore<R> for RadixStore<R> {
     fn next_routes<'a>(&'a self, prefix: Option<&Prefix>, found: &mut Vec<(Prefix, &'a R)>) {
         found.clear();
         match prefix {
-            None => self.v4.add_all(found),
+            None => self.v4.append_routes(found),
             Some(low) => match low.family() {
-                Family::V4 => self.v4.add_above(low, found),
+                Family::V4 => self.v4.append_routes_after(low, found),
                 Family::V6 => {
-                    self.v6.add_above(low, found);
+                    self.v6.append_routes_after(low, found);
                     return;
                 }
             },
         }
-        self.v6.add_all(found);
+        self.v6.append_routes(found);
     }
 
-    fn take_routes(&mut self, taken: &mut Vec<R>) {
+    fn drain_routes(&mut self, taken: &mut Vec<R>) {
         taken.clear();
-        self.v4.take_routes(taken);
-        self.v6.take_routes(taken);
+        self.v4.drain_routes(taken);
+        self.v6.drain_routes(taken);
         self.route_count = 0;
     }
 
-    fn reach(places: &Places<'_, Self>) -> u64 {
+    fn prefetch(batch: &PrefetchBatch<'_, Self>) -> u64 {
         let mut descents = Descents {
-            first: descent_to(&places.first),
-            second: descent_to(&places.second),
-            third: descent_to(&places.third),
-            fourth: descent_to(&places.fourth),
-            fifth: descent_to(&places.fifth),
-            sixth: descent_to(&places.sixth),
-            seventh: descent_to(&places.seventh),
-            eighth: descent_to(&places.eighth),
+            first: descent_to(&batch.first),
+            second: descent_to(&batch.second),
+            third: descent_to(&batch.third),
+            fourth: descent_to(&batch.fourth),
+            fifth: descent_to(&batch.fifth),
+            sixth: descent_to(&batch.sixth),
+            seventh: descent_to(&batch.seventh),
+            eighth: descent_to(&batch.eighth),
         };
-        descents.finish()
+        descents.run()
     }
 
     fn key_count(&self) -> u64 {
@@ -220,35 +233,35 @@ impl<R: Drop> PrefixStore<R> for RadixStore<R> {
     }
 }
 
-/// Returns the descent to the prefix of `place`, which has ended if `place` is empty.
-fn descent_to<'a, R: Drop>(place: &Place<'a, RadixStore<R>>) -> Descent<'a, R> {
-    let Place::At(store, prefix) = place else {
+/// Returns the descent to the prefix of `place`, which has ended if `place` is unused.
+fn descent_to<'a, R: Drop>(place: &PrefetchTarget<'a, RadixStore<R>>) -> Descent<'a, R> {
+    let PrefetchTarget::At(store, prefix) = place else {
         return Descent::ended();
     };
     let store: &'a RadixStore<R> = *store;
     let root = match prefix.family() {
-        Family::V4 => Root::V4(&store.v4),
-        Family::V6 => Root::V6(&store.v6),
+        Family::V4 => DescentNode::V4(&store.v4),
+        Family::V6 => DescentNode::V6(&store.v6),
     };
-    Descent::at(root, prefix)
+    Descent::new(root, prefix)
 }
 
 /// Returns the number of routes after a swap, where `count` was the number before. A route was put
-/// if `brought`, and one was taken if `given`. A saturated count is made anew from the trees.
-fn routes_after<R: Drop>(
+/// if `brought`, and one was taken if `taken_out`. A saturated count is made anew from the trees.
+fn route_count_after<R: Drop>(
     count: u64,
     brought: bool,
-    given: bool,
+    taken_out: bool,
     v4: &Tree<V4Prefix, R>,
     v6: &Tree<Prefix, R>,
 ) -> u64
-    requires planted { IsPlanted (trees_of v4.now v6.now) }
-    requires count { (old : ℕ) × (count ≡ counted old) ×
-        (finite.len (contents_of (trees_of v4.now v6.now)).routes + bool_byte given
+    requires planted { AreRadixTrees (trees_of v4.now v6.now) }
+    requires count { (old : ℕ) × (count ≡ saturated_count old) ×
+        (finite.len (contents_of (trees_of v4.now v6.now)).routes + bool_byte taken_out
         ≡ old + bool_byte brought) }
-    ensures { result ≡ counted (finite.len (contents_of (trees_of v4.now v6.now)).routes) }
+    ensures { result ≡ saturated_count (finite.len (contents_of (trees_of v4.now v6.now)).routes) }
 {
-    if brought == given {
+    if brought == taken_out {
         return count;
     }
     if brought {

@@ -1,11 +1,11 @@
 //! A path-compressed radix tree of the prefixes of one family. [`RadixStore`](crate::RadixStore)
-//! has one for each family. Its operations are in the modules below: look-ups in `lookups.rt`, new
-//! keys in `puts.rt`, routes in `routes.rt`, removed keys in `keys.rt`.
+//! has one for each family. Read [`Tree`] first. Its operations are in the modules below: look-ups
+//! in `lookups.rt`, new keys in `puts.rt`, routes in `routes.rt`, removed keys in `keys.rt`.
 
 ghost use Rattle.std.specs.Prelude.{◌≡◌, true, false, Some, None, is_some, MatchOption, [], ◌∷◌, vec_capacity, option_copied, option_map, option_to_list};
-ghost use Rattle.prefix_store.specs.Lookups.{pointed};
-ghost use Rattle.rib_store.specs.declared.tree.Slot.TheVariants.{Branch};
-ghost use Rattle.rib_store.specs.Tree.{slot_of, is_routed, is_filled, any_routed, routed_beside};
+ghost use Rattle.prefix_store.specs.Lookups.{dereferenced};
+ghost use Rattle.rib_store.specs.declared.tree.Slot.TheVariants.{NoKey};
+ghost use Rattle.rib_store.specs.Tree.{slot_of, has_routes, is_filled, any_has_routes, any_routes_elsewhere};
 ghost use Rattle.rib_store.specs.Walks.{routed_at, filled};
 
 mod counts;
@@ -16,7 +16,7 @@ mod nodes;
 mod puts;
 mod routes;
 
-pub(crate) use descents::{Descent, Descents, Root};
+pub(crate) use descents::{Descent, DescentNode, Descents};
 use ip_prefix::{Prefix, Turn};
 use prefix_store::V4Prefix;
 use std::mem::size_of;
@@ -79,11 +79,11 @@ const _: () = prove!(size_of::<Node<V4Prefix, Rc<u32>>>() <= V4_NODE_OCTETS);
 
 const _: () = prove!(size_of::<Node<Prefix, Rc<u32>>>() <= V6_NODE_OCTETS);
 
-/// The slot of a node.
+/// The slot of a node: whether the node is a key, and its route.
 #[derive(Drop)]
 pub(crate) enum Slot<R> {
     /// No key. The node has two children.
-    Branch,
+    NoKey,
     /// A key without a route.
     Vacant,
     /// A key and its route.
@@ -91,9 +91,9 @@ pub(crate) enum Slot<R> {
 }
 
 impl<K, R> Tree<K, R> {
-    /// Returns `true` if some key has a route. Reads the mark of the root alone.
-    fn is_routed(&self) -> bool
-        ensures { result ≡ is_routed self.now }
+    /// Returns `true` if some key of the tree has a route. Reads the mark of the root alone.
+    fn has_routes(&self) -> bool
+        ensures { result ≡ has_routes self.now }
     {
         match self {
             Tree::Empty => false,
@@ -107,81 +107,84 @@ impl<K, R> Tree<K, R> {
 
 impl<K, R> Fork<K, R> {
     /// Returns `true` if some key below the branch has a route. Reads the marks of the children.
-    fn is_routed(&self) -> bool
-        ensures { result ≡ any_routed Branch self.now.left self.now.right }
+    fn has_routes(&self) -> bool
+        ensures { result ≡ any_has_routes NoKey self.now.left self.now.right }
     {
-        self.left.is_routed() || self.right.is_routed()
+        self.left.has_routes() || self.right.has_routes()
     }
 
-    /// Returns `true` if some key below the branch has a route, but not on the side `turn`.
-    fn is_routed_beside(&self, turn: Turn) -> bool
-        ensures { result ≡ routed_beside turn Branch self.now.left self.now.right }
+    /// Returns `true` if some key below the branch has a route, leaving out the child on the side
+    /// `turn`. Reads the marks of the children.
+    fn has_routes_elsewhere(&self, turn: Turn) -> bool
+        ensures { result ≡ any_routes_elsewhere turn NoKey self.now.left self.now.right }
     {
         match turn {
-            Turn::Left => self.right.is_routed(),
-            Turn::Right => self.left.is_routed(),
-            _ => self.is_routed(),
+            Turn::Left => self.right.has_routes(),
+            Turn::Right => self.left.has_routes(),
+            _ => self.has_routes(),
         }
     }
 
-    /// Returns `true` if the node is marked, which `routed` says, and stays so whatever happens on
-    /// the side `turn`: a route is put there if `brought`, or else may be taken. If `false`, there
-    /// is no route elsewhere.
+    /// Returns `true` if the branch, whose mark is `routed`, stays marked whatever happens to the
+    /// child on the side `turn`. If `brought`, a route is put there; otherwise one may be taken.
+    /// `false` means that no other child has a route.
     #[inline]
     #[tactic(auto, using(crate::proofs::MarkLaws::none_beside))]
-    fn is_routed_anyway(&self, routed: bool, brought: bool, turn: Turn) -> bool
-        requires { routed ≡ any_routed Branch self.now.left self.now.right }
+    fn stays_marked(&self, routed: bool, brought: bool, turn: Turn) -> bool
+        requires { routed ≡ any_has_routes NoKey self.now.left self.now.right }
         ensures routed { result ≡ true → routed ≡ true }
         ensures beside { result ≡ true → brought ≡ false →
-            routed_beside turn Branch self.now.left self.now.right ≡ true }
+            any_routes_elsewhere turn NoKey self.now.left self.now.right ≡ true }
         ensures alone { result ≡ false →
-            routed_beside turn Branch self.now.left self.now.right ≡ false }
+            any_routes_elsewhere turn NoKey self.now.left self.now.right ≡ false }
     {
         if brought {
             return routed;
         }
-        self.is_routed_beside(turn)
+        self.has_routes_elsewhere(turn)
     }
 }
 
 impl<K, R> Node<K, R> {
     /// Returns `true` if the node or some key below it has a route. Reads the marks of the
     /// children.
-    fn is_routed(&self) -> bool
-        ensures { result ≡ any_routed self.now.slot self.now.left self.now.right }
+    fn has_routes(&self) -> bool
+        ensures { result ≡ any_has_routes self.now.slot self.now.left self.now.right }
     {
-        self.left.is_routed() || self.right.is_routed() || self.slot.is_filled()
+        self.left.has_routes() || self.right.has_routes() || self.slot.is_filled()
     }
 
-    /// Returns `true` if there is a route at the node or below it, but not where `turn` leads.
-    fn is_routed_beside(&self, turn: Turn) -> bool
+    /// Returns `true` if the node or some key below it has a route, leaving out what `turn` leads
+    /// to: the child on that side, or otherwise the node's own slot. Reads the marks of the
+    /// children.
+    fn has_routes_elsewhere(&self, turn: Turn) -> bool
         ensures { result ≡
-            routed_beside turn self.now.slot self.now.left self.now.right }
+            any_routes_elsewhere turn self.now.slot self.now.left self.now.right }
     {
         match turn {
-            Turn::Left => self.slot.is_filled() || self.right.is_routed(),
-            Turn::Right => self.slot.is_filled() || self.left.is_routed(),
-            _ => self.left.is_routed() || self.right.is_routed(),
+            Turn::Left => self.slot.is_filled() || self.right.has_routes(),
+            Turn::Right => self.slot.is_filled() || self.left.has_routes(),
+            _ => self.left.has_routes() || self.right.has_routes(),
         }
     }
 
-    /// Returns `true` if the node is marked, which `routed` says, and stays so whatever happens on
-    /// the side `turn`: a route is put there if `brought`, or else may be taken. If `false`, there
-    /// is no route elsewhere.
+    /// Returns `true` if the node, whose mark is `routed`, stays marked whatever happens where
+    /// `turn` leads. If `brought`, a route is put there; otherwise one may be taken. `false` means
+    /// that there is no route elsewhere.
     #[inline]
     #[tactic(auto, using(crate::proofs::MarkLaws::none_beside))]
-    fn is_routed_anyway(&self, routed: bool, brought: bool, turn: Turn) -> bool
-        requires { routed ≡ any_routed self.now.slot self.now.left self.now.right }
+    fn stays_marked(&self, routed: bool, brought: bool, turn: Turn) -> bool
+        requires { routed ≡ any_has_routes self.now.slot self.now.left self.now.right }
         ensures routed { result ≡ true → routed ≡ true }
         ensures beside { result ≡ true → brought ≡ false →
-            routed_beside turn self.now.slot self.now.left self.now.right ≡ true }
+            any_routes_elsewhere turn self.now.slot self.now.left self.now.right ≡ true }
         ensures alone { result ≡ false →
-            routed_beside turn self.now.slot self.now.left self.now.right ≡ false }
+            any_routes_elsewhere turn self.now.slot self.now.left self.now.right ≡ false }
     {
         if brought {
             return routed;
         }
-        self.is_routed_beside(turn)
+        self.has_routes_elsewhere(turn)
     }
 }
 
@@ -193,20 +196,20 @@ impl<R> Slot<R> {
         matches!(self, Slot::Filled(_))
     }
 
-    /// Returns the slot of a key: `None` if there is no key, `Some(None)` if the key has no route,
-    /// or else the route.
-    pub(crate) fn kept(&self) -> Option<Option<&R>>
+    /// Returns the route of a key: `None` if the slot is of no key, `Some(None)` if the key has no
+    /// route, or else the route.
+    pub(crate) fn route_if_key(&self) -> Option<Option<&R>>
         ensures { option_map (λ slot. option_copied slot) result ≡ slot_of self.now }
     {
         match self {
-            Slot::Branch => None,
+            Slot::NoKey => None,
             Slot::Vacant => Some(None),
             Slot::Filled(route) => Some(Some(route)),
         }
     }
 
     /// Returns `prefix` with the route in the slot, or `None` if there is no route.
-    fn routed(&self, prefix: Prefix) -> Option<(Prefix, &R)>
+    fn route_with_prefix(&self, prefix: Prefix) -> Option<(Prefix, &R)>
         ensures { MatchOption result (routed_at prefix (slot_of self.now) ≡ None)
             (λ found. routed_at prefix (slot_of self.now) ≡ Some (found.0, found.1.now)) }
     {
@@ -216,11 +219,11 @@ impl<R> Slot<R> {
         }
     }
 
-    /// Appends `prefix` with the route in the slot to `found`, if there is a route and if `found`
-    /// has spare capacity.
-    fn add_routed<'a>(&'a self, prefix: Prefix, found: &mut Vec<(Prefix, &'a R)>)
-        ensures found { pointed found.new.items ≡ filled (vec_capacity found.old)
-            (pointed found.old.items) (option_to_list (routed_at prefix (slot_of self.now))) }
+    /// Appends `prefix` with the route in the slot to `found`. Does nothing if there is no route,
+    /// or if `found` has no spare capacity.
+    fn add_route_if_any<'a>(&'a self, prefix: Prefix, found: &mut Vec<(Prefix, &'a R)>)
+        ensures found { dereferenced found.new.items ≡ filled (vec_capacity found.old)
+            (dereferenced found.old.items) (option_to_list (routed_at prefix (slot_of self.now))) }
         ensures room { vec_capacity found.new ≡ vec_capacity found.old }
     {
         match self {
@@ -230,10 +233,10 @@ impl<R> Slot<R> {
     }
 }
 
-/// Appends `prefix` and `route` to `found` if it has spare capacity.
+/// Appends `prefix` and `route` to `found`. Does nothing if `found` has no spare capacity.
 fn add_route<'a, R>(prefix: Prefix, route: &'a R, found: &mut Vec<(Prefix, &'a R)>)
-    ensures found { pointed found.new.items ≡ filled (vec_capacity found.old)
-        (pointed found.old.items) ((prefix, route.now) ∷ []) }
+    ensures found { dereferenced found.new.items ≡ filled (vec_capacity found.old)
+        (dereferenced found.old.items) ((prefix, route.now) ∷ []) }
     ensures room { vec_capacity found.new ≡ vec_capacity found.old }
 {
     if found.len() < found.capacity() {

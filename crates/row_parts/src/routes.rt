@@ -61,7 +61,7 @@ impl Held {
         match self.keeping {
             Keeping::Dropped => {}
             Keeping::Whole => self.answers.push(answer)?,
-            Keeping::Back | Keeping::Held(_) => source.take_back(answer),
+            Keeping::Back | Keeping::Held(_) => source.recycle(answer),
         }
         Ok(())
     }
@@ -192,7 +192,7 @@ fn put_sharers(answer: &Result<Next, SourceFault>, text: &mut Shown) -> bool {
 
 /// Appends the line of an event.
 fn put_sharers_of(event: &Event, text: &mut Shown) {
-    let shared = event.items.shared();
+    let shared = event.items.longest_shared_range();
     text.put_number(shared.start as u64);
     put_count(b"..", shared.end as u64, text);
     text.put(b":");

@@ -1,6 +1,6 @@
 //! Stores that may have nodes.
 
-use rib_store::{LeftStore, MapStore, RadixStore};
+use rib_store::{LeakingStore, MapStore, RadixStore};
 
 /// A store that may have nodes.
 pub trait HasNodes {
@@ -20,7 +20,7 @@ impl<R: Drop> HasNodes for RadixStore<R> {
     }
 }
 
-impl<S> HasNodes for LeftStore<S> {
+impl<S> HasNodes for LeakingStore<S> {
     fn node_count(&self) -> Option<u64> {
         None
     }

@@ -17,7 +17,7 @@
 
 use crate::nodes::HasNodes;
 use ip_prefix::{Addr, Prefix};
-use rib_store::{GREATEST_COUNT, LeftStore, MapStore, Places, PrefixStore, RadixStore};
+use rib_store::{GREATEST_COUNT, LeakingStore, MapStore, PrefetchBatch, PrefixStore, RadixStore};
 use row_values::marks::Marks;
 use row_values::{
     REFUSED, Shown, UNREAD, address_word, number_word, prefix_word, put_count, split_word,
@@ -57,7 +57,7 @@ impl CountsMet for RadixStore<u32> {
     }
 }
 
-impl<S: PrefixStore<u32>> CountsMet for LeftStore<S> {
+impl<S: PrefixStore<u32>> CountsMet for LeakingStore<S> {
     fn longest_met(&self, addr: &Addr, _met: &mut u32) -> Option<(Prefix, u32)> {
         longest(self, addr)
     }
@@ -105,7 +105,7 @@ fn put_answer<S: CountsMet>(alloc: Global, store: &mut S, line: &str, text: &mut
         "take" => put_taken(alloc, store, text),
         "after" => put_found(after(store, prefix_word(rest).as_ref()), text),
         "longest" | "met" => put_longest(store, rest, text),
-        "reach" => put_reached(store, rest, text),
+        "reach" => put_prefetched(store, rest, text),
         "walk" | "counts" | "few" | "nodes" => put_whole(store, name, text),
         _ => put_at(store, name, rest, text),
     }
@@ -260,7 +260,7 @@ fn put_taken<S: CountsMet>(alloc: Global, store: &mut S, text: &mut Shown) {
     let Ok(mut taken) = Vec::with_capacity(alloc, count as usize) else {
         return text.put(REFUSED);
     };
-    store.take_routes(&mut taken);
+    store.drain_routes(&mut taken);
     text.put(b"taken");
     for route in taken {
         put_count(b" ", u64::from(route), text);
@@ -268,21 +268,21 @@ fn put_taken<S: CountsMet>(alloc: Global, store: &mut S, text: &mut Shown) {
 }
 
 /// How much is passed to reach the places that were added.
-fn passed_by<S: CountsMet>(places: &mut Places<'_, S>) -> u64 {
-    let added = places.take_all();
-    S::reach(&added)
+fn passed_by<S: CountsMet>(batch: &mut PrefetchBatch<'_, S>) -> u64 {
+    let added = batch.take_all();
+    S::prefetch(&added)
 }
 
 /// Appends how much is passed to reach prefixes, as each is added or all are reached.
-fn put_reached<S: CountsMet>(store: &S, words: &str, text: &mut Shown) {
-    let mut places = Places::new();
+fn put_prefetched<S: CountsMet>(store: &S, words: &str, text: &mut Shown) {
+    let mut batch = PrefetchBatch::new();
     text.put(b"passed");
     for word in words.split(" ") {
         let is_end = match prefix_word(word) {
-            Some(prefix) => places.add(store, prefix),
+            Some(prefix) => batch.add(store, prefix),
             None => true,
         };
-        put_count(b" ", if is_end { passed_by(&mut places) } else { 0 }, text);
+        put_count(b" ", if is_end { passed_by(&mut batch) } else { 0 }, text);
     }
 }
 

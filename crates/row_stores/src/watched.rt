@@ -3,7 +3,7 @@
 use crate::nodes::HasNodes;
 use ip_prefix::{Addr, Prefix};
 use mrt_events::Route;
-use rib_store::{Place, Places, PrefixStore};
+use rib_store::{PrefetchBatch, PrefetchTarget, PrefixStore};
 use std::alloc::{AllocError, Global};
 use std::cell::Cell;
 use std::rc::Rc;
@@ -16,14 +16,14 @@ pub trait IsWatched {
     /// From here on what is asked of it is counted anew.
     fn count_anew(&self);
 
-    /// How many calls there were since then, but for `reach`.
+    /// How many calls there were since then, but for `prefetch`.
     fn calls(&self) -> u64;
 
     /// How many of them asked for a key, new or not.
     fn requests(&self) -> u64;
 
     /// How many prefixes were reached.
-    fn reached(&self) -> u64;
+    fn prefetched(&self) -> u64;
 
     /// How many nodes it has, where it has any.
     fn node_count(&self) -> Option<u64>;
@@ -37,7 +37,7 @@ pub struct Watched<S> {
     left: Cell<u64>,
     calls: Cell<u64>,
     requests: Cell<u64>,
-    reached: Cell<u64>,
+    prefetched: Cell<u64>,
 }
 
 impl<S: HasNodes> IsWatched for Watched<S> {
@@ -49,7 +49,7 @@ impl<S: HasNodes> IsWatched for Watched<S> {
     fn count_anew(&self) {
         self.calls.set(0);
         self.requests.set(0);
-        self.reached.set(0);
+        self.prefetched.set(0);
     }
 
     fn calls(&self) -> u64 {
@@ -60,8 +60,8 @@ impl<S: HasNodes> IsWatched for Watched<S> {
         self.requests.get()
     }
 
-    fn reached(&self) -> u64 {
-        self.reached.get()
+    fn prefetched(&self) -> u64 {
+        self.prefetched.get()
     }
 
     fn node_count(&self) -> Option<u64> {
@@ -106,7 +106,7 @@ impl<S: PrefixStore<Rc<Route>>> PrefixStore<Rc<Route>> for Watched<S> {
             left: Cell::new(u64::MAX),
             calls: Cell::new(0),
             requests: Cell::new(0),
-            reached: Cell::new(0),
+            prefetched: Cell::new(0),
         }
     }
 
@@ -167,22 +167,22 @@ impl<S: PrefixStore<Rc<Route>>> PrefixStore<Rc<Route>> for Watched<S> {
         self.inner.next_routes(prefix, found);
     }
 
-    fn take_routes(&mut self, taken: &mut Vec<Rc<Route>>) {
+    fn drain_routes(&mut self, taken: &mut Vec<Rc<Route>>) {
         count(&self.calls);
-        self.inner.take_routes(taken);
+        self.inner.drain_routes(taken);
     }
 
-    fn reach(places: &Places<'_, Self>) -> u64 {
-        let mut inner = Places::new();
-        inner.first = counted_place(&places.first);
-        inner.second = counted_place(&places.second);
-        inner.third = counted_place(&places.third);
-        inner.fourth = counted_place(&places.fourth);
-        inner.fifth = counted_place(&places.fifth);
-        inner.sixth = counted_place(&places.sixth);
-        inner.seventh = counted_place(&places.seventh);
-        inner.eighth = counted_place(&places.eighth);
-        S::reach(&inner)
+    fn prefetch(batch: &PrefetchBatch<'_, Self>) -> u64 {
+        let mut inner = PrefetchBatch::new();
+        inner.first = counted_target(&batch.first);
+        inner.second = counted_target(&batch.second);
+        inner.third = counted_target(&batch.third);
+        inner.fourth = counted_target(&batch.fourth);
+        inner.fifth = counted_target(&batch.fifth);
+        inner.sixth = counted_target(&batch.sixth);
+        inner.seventh = counted_target(&batch.seventh);
+        inner.eighth = counted_target(&batch.eighth);
+        S::prefetch(&inner)
     }
 
     fn key_count(&self) -> u64 {
@@ -197,12 +197,12 @@ impl<S: PrefixStore<Rc<Route>>> PrefixStore<Rc<Route>> for Watched<S> {
 }
 
 /// The place in the store that is watched, which is counted.
-fn counted_place<'a, S>(place: &Place<'a, Watched<S>>) -> Place<'a, S> {
+fn counted_target<'a, S>(place: &PrefetchTarget<'a, Watched<S>>) -> PrefetchTarget<'a, S> {
     match place {
-        Place::Nowhere => Place::Nowhere,
-        Place::At(watched, prefix) => {
-            count(&watched.reached);
-            Place::At(&watched.inner, *prefix)
+        PrefetchTarget::Unused => PrefetchTarget::Unused,
+        PrefetchTarget::At(watched, prefix) => {
+            count(&watched.prefetched);
+            PrefetchTarget::At(&watched.inner, *prefix)
         }
     }
 }

@@ -3,8 +3,8 @@
 use crate::shown::Shown;
 use crate::wire::{put_attrs, put_prefixes, put_unread};
 use bgp_wire::{
-    AsWidth, Attrs, MessageKind, UpdateParts, WireFault, read_rib_attrs, replace_attrs,
-    replace_message, replace_rib_attrs,
+    AsWidth, Attrs, MessageKind, UpdateParts, WireFault, clone_attrs_from, read_message_into,
+    read_rib_attrs, read_rib_attrs_into,
 };
 use ip_prefix::Family;
 use std::alloc::Global;
@@ -38,7 +38,7 @@ fn split_list(octets: &[u8]) -> Option<(&[u8], &[u8])> {
 
 /// Appends what lists of attributes say, each in place of the one before.
 pub fn put_again(alloc: Global, again: Again, octets: &[u8], text: &mut Shown) {
-    let mut attrs = Attrs::none(alloc);
+    let mut attrs = Attrs::empty(alloc);
     let mut left = octets;
     for _ in 0..octets.len() {
         let Some((list, rest)) = split_list(left) else {
@@ -55,7 +55,7 @@ impl Again {
     /// nor communities.
     fn read(self, alloc: Global, attrs: &mut Attrs, list: &[u8]) -> Result<(), WireFault> {
         match self {
-            Again::Read => replace_rib_attrs(alloc, attrs, Family::V4, AsWidth::Four, list),
+            Again::Read => read_rib_attrs_into(alloc, attrs, Family::V4, AsWidth::Four, list),
             Again::Copied => copy_read(alloc, attrs, list),
         }
     }
@@ -77,7 +77,7 @@ impl Again {
 /// Reads a list, and copies it over attributes.
 fn copy_read(alloc: Global, copy: &mut Attrs, list: &[u8]) -> Result<(), WireFault> {
     let attrs = read_rib_attrs(alloc, Family::V4, AsWidth::Four, list)?;
-    Ok(replace_attrs(alloc, copy, &attrs)?)
+    Ok(clone_attrs_from(alloc, copy, &attrs)?)
 }
 
 /// Whether attributes have a path or communities.
@@ -87,14 +87,14 @@ fn has_lists(attrs: &Attrs) -> bool {
 
 /// Appends what messages with AS numbers of two octets say, each read in place of the one before.
 pub fn put_parts(alloc: Global, octets: &[u8], text: &mut Shown) {
-    let mut parts = UpdateParts::none(alloc);
+    let mut parts = UpdateParts::empty(alloc);
     let mut left = octets;
     for _ in 0..octets.len() {
         let Some((message, rest)) = split_sized(left, LENGTH_PLACE, 0) else {
             return;
         };
         put_word(
-            replace_message(alloc, &mut parts, AsWidth::Two, message),
+            read_message_into(alloc, &mut parts, AsWidth::Two, message),
             text,
         );
         put_said(&parts, text);

@@ -39,7 +39,7 @@ pub(crate) fn put_part(alloc: Global, name: &str, rest: &str, text: &mut Shown) 
 fn put_half(alloc: Global, prefix: Option<Prefix>, text: &mut Shown) {
     match prefix {
         Some(prefix) => {
-            let half = prefix.high_half();
+            let half = prefix.high_64_bits();
             text.put_made(format!(in alloc; "{half:016x}"));
         }
         None => text.put(UNREAD),

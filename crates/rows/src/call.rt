@@ -4,7 +4,7 @@ use crate::commands::put_commands;
 use crate::course::put_answers;
 use crate::played::{play, play_by};
 use mrt_wire::{Route, Stamp};
-use rib_store::{LeftStore, MapStore, RadixStore};
+use rib_store::{LeakingStore, MapStore, RadixStore};
 use row_parts::{Answer, Devices, IsCall, Row};
 use row_stores::{Watched, put_stored};
 use row_values::Shown;
@@ -120,7 +120,7 @@ impl PlayerCall {
             PlayerCall::StoreOverMap => put_stored::<MapStore<u32>>(alloc, script, text),
             PlayerCall::StoreOverTrees => put_stored::<RadixStore<u32>>(alloc, script, text),
             PlayerCall::StoreOverLeftTrees => {
-                put_stored::<LeftStore<RadixStore<u32>>>(alloc, script, text);
+                put_stored::<LeakingStore<RadixStore<u32>>>(alloc, script, text);
             }
             PlayerCall::Play(_) | PlayerCall::PlayOverMap(_) => {}
         }

@@ -117,7 +117,7 @@ fn put_seen_in<S: PrefixStore<Rc<Route>> + IsWatched>(
         }
         "calls" => put_within(store.calls(), rest, text),
         "requests" => put_within(store.requests(), rest, text),
-        _ => put_within(store.reached(), rest, text),
+        _ => put_within(store.prefetched(), rest, text),
     }
 }
 

@@ -1,6 +1,6 @@
 //! Inputs.
 
-ghost use Rattle.std.specs.Prelude.{◌≡◌, ◌≤◌, None, false, length};
+ghost use Rattle.std.specs.Prelude.{◌≡◌, ◌≤◌, None, false, length, min, take};
 
 use mrt_wire::{InFault, Input};
 use std::cell::Cell;
@@ -46,6 +46,10 @@ impl Input for SlowInput<'_> {
         self.sound -= count;
         Ok(count)
     }
+
+    fn buffer(&self) -> &[u8] {
+        &[]
+    }
 }
 
 /// An input of zeros without end.
@@ -62,6 +66,10 @@ impl Input for Zeros {
             *octet = 0;
         }
         Ok(buffer.len())
+    }
+
+    fn buffer(&self) -> &[u8] {
+        &[]
     }
 }
 
@@ -91,6 +99,10 @@ impl Input for LateZeros {
         }
         self.ended = true;
         Ok(0)
+    }
+
+    fn buffer(&self) -> &[u8] {
+        &[]
     }
 }
 
@@ -148,6 +160,10 @@ impl Input for EndedInput<'_> {
         self.ended = count == 0;
         Ok(count)
     }
+
+    fn buffer(&self) -> &[u8] {
+        &[]
+    }
 }
 
 /// An input that notes how much was written when the second of its two records is asked for.
@@ -187,9 +203,14 @@ impl Input for WatchingInput<'_> {
         self.octets = rest;
         Ok(count)
     }
+
+    fn buffer(&self) -> &[u8] {
+        &[]
+    }
 }
 
-/// An input that has so many of its octets at hand, or all where they are fewer.
+/// An input of which so many octets are buffered as it begins, or all where they are fewer, and none is
+/// buffered later.
 #[derive(Drop)]
 pub struct HandInput<'a> {
     /// What is left.
@@ -211,14 +232,17 @@ impl Input for HandInput<'_> {
 
     ghost failed = { λ _. false };
 
+    ghost buffered = { λ input. take (min input.size (length input.rest.now)) input.rest.now };
+
     fn take(&mut self, buffer: &mut [u8]) -> Result<usize, InFault> {
         let count = self.rest.len().min(buffer.len());
         buffer[..count].copy_from_slice(&self.rest[..count]);
         self.rest = &self.rest[count..];
+        self.size = self.size.saturating_sub(count);
         Ok(count)
     }
 
-    fn at_hand(&self) -> Option<&[u8]> {
-        Some(&self.rest[..self.size.min(self.rest.len())])
+    fn buffer(&self) -> &[u8] {
+        &self.rest[..self.size.min(self.rest.len())]
     }
 }

@@ -1,6 +1,6 @@
 //! Outputs.
 
-ghost use Rattle.std.specs.Prelude.{◌≡◌, None, false};
+ghost use Rattle.std.specs.Prelude.{◌≡◌, None, Some, false, drop};
 
 use bgpdump_lines::{OutFault, Output};
 use std::alloc::Global;
@@ -56,6 +56,10 @@ impl Output for SlowOutput {
         Ok(count)
     }
 
+    fn flush(&mut self) -> Result<(), OutFault> {
+        Ok(())
+    }
+
     fn finish(&mut self) -> Result<(), OutFault> {
         self.finish_calls = self.finish_calls.saturating_add(1);
         if self.finishes {
@@ -92,31 +96,38 @@ impl Output for CountedOutput<'_> {
         Ok(octets.len())
     }
 
+    fn flush(&mut self) -> Result<(), OutFault> {
+        Ok(())
+    }
+
     fn finish(&mut self) -> Result<(), OutFault> {
         Ok(())
     }
 }
 
-/// An output that notes how many octets were written each time that it passed on, which fails once
-/// that was so often.
+/// An output that notes how many octets were written at each flush, and fails at a flush once it has
+/// noted so many.
 #[derive(Drop)]
 pub struct PassingOutput {
     /// What was written.
     pub text: Vec<u8>,
-    /// How long it was each time.
-    pub passed: Vec<usize>,
+    /// The length of the text at each flush.
+    pub flushes: Vec<usize>,
+    /// How many octets of the text were flushed.
+    sent: usize,
     most: usize,
     failed: bool,
 }
 
 impl PassingOutput {
-    /// An output that passes on so often at most.
+    /// An output that is flushed at most so often.
     pub fn new(alloc: Global, most: usize) -> Self
         ensures { ⟦<PassingOutput as Output>⟧.failed result ≡ false }
     {
         PassingOutput {
             text: Vec::new(alloc),
-            passed: Vec::new(alloc),
+            flushes: Vec::new(alloc),
+            sent: 0,
             most,
             failed: false,
         }
@@ -128,6 +139,8 @@ impl Output for PassingOutput {
 
     ghost failed = { λ output. output.failed };
 
+    ghost pending = { λ output. Some (drop output.sent output.text.items) };
+
     fn put(&mut self, octets: &[u8]) -> Result<usize, OutFault> {
         if self.text.extend_from_slice(octets).is_err() {
             self.failed = true;
@@ -136,8 +149,9 @@ impl Output for PassingOutput {
         Ok(octets.len())
     }
 
-    fn pass_on(&mut self) -> Result<(), OutFault> {
-        if self.passed.len() < self.most && self.passed.push(self.text.len()).is_ok() {
+    fn flush(&mut self) -> Result<(), OutFault> {
+        if self.flushes.len() < self.most && self.flushes.push(self.text.len()).is_ok() {
+            self.sent = self.text.len();
             return Ok(());
         }
         self.failed = true;
@@ -145,6 +159,7 @@ impl Output for PassingOutput {
     }
 
     fn finish(&mut self) -> Result<(), OutFault> {
+        self.sent = self.text.len();
         Ok(())
     }
 }

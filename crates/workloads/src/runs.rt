@@ -1,8 +1,8 @@
 //! Runs over files, as the program makes them: through buffers of 64 KiB.
 
-use bgpdump_tool::{Outcome, WriteOutput, run_dump, run_play};
+use bgpdump_tool::{BufferedOutput, Outcome, run_dump, run_play};
 use mrt_wire::{BufferedInput, Route, Stamp};
-use rib_store::{LeftStore, RadixStore};
+use rib_store::{LeakingStore, RadixStore};
 use std::alloc::Global;
 use std::io;
 use std::io::{BufReader, BufWriter};
@@ -13,7 +13,7 @@ use workload_inputs::{Digest, File, Sum};
 const BUFFER: usize = 65_536;
 
 /// The store of the program's player.
-type Routes = LeftStore<RadixStore<Rc<Route>>>;
+type Routes = LeakingStore<RadixStore<Rc<Route>>>;
 
 /// A writer of what a run writes.
 type Writer = BufWriter<Digest>;
@@ -48,7 +48,7 @@ fn new_writers(alloc: Global) -> io::Result<Writers> {
 }
 
 /// What was written to the output; nothing where it couldn't be handed on.
-fn sum_of(output: WriteOutput<Writer>) -> Option<Sum> {
+fn sum_of(output: BufferedOutput<Digest>) -> Option<Sum> {
     match output.into_inner().into_inner() {
         Ok(digest) => Some(digest.sum()),
         Err(_) => None,
@@ -56,7 +56,11 @@ fn sum_of(output: WriteOutput<Writer>) -> Option<Sum> {
 }
 
 /// How the run ended, with what it wrote.
-fn ended(outcome: Outcome, out: WriteOutput<Writer>, err: WriteOutput<Writer>) -> io::Result<Ran> {
+fn ended(
+    outcome: Outcome,
+    out: BufferedOutput<Digest>,
+    err: BufferedOutput<Digest>,
+) -> io::Result<Ran> {
     let (Some(lines), Some(reports)) = (sum_of(out), sum_of(err)) else {
         return Err(io::ErrorKind::Other.into());
     };
@@ -76,8 +80,8 @@ pub(crate) fn dumped(alloc: Global, file: File) -> io::Result<Ran> {
 /// Dumps what is read.
 fn dump(alloc: Global, reader: BufReader<File>, writers: Writers) -> io::Result<Ran> {
     let mut input = BufferedInput::new(reader);
-    let mut out = WriteOutput::new(writers.lines);
-    let mut err = WriteOutput::new(writers.reports);
+    let mut out = BufferedOutput::new(writers.lines);
+    let mut err = BufferedOutput::new(writers.reports);
     let outcome = run_dump(alloc, &mut input, &mut out, &mut err, Stamp::Dump);
     ended(outcome, out, err)
 }
@@ -91,8 +95,8 @@ pub(crate) fn played(alloc: Global, file: File, script: &str) -> io::Result<Ran>
 /// Plays what is read.
 fn play(alloc: Global, reader: BufReader<File>, writers: Writers, script: &str) -> io::Result<Ran> {
     let mut input = BufferedInput::new(reader);
-    let mut out = WriteOutput::new(writers.lines);
-    let mut err = WriteOutput::new(writers.reports);
+    let mut out = BufferedOutput::new(writers.lines);
+    let mut err = BufferedOutput::new(writers.reports);
     let outcome = run_play::<Routes, _, _, _>(
         alloc,
         &mut input,

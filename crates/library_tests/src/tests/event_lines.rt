@@ -25,7 +25,7 @@ fn ten() -> Prefix {
 /// A route of 50 seconds, without attributes.
 fn route(alloc: Global) -> Route {
     Route {
-        attrs: Attrs::none(alloc),
+        attrs: Attrs::empty(alloc),
         time: 50,
     }
 }

@@ -2,8 +2,8 @@
 
 use ip_prefix::Addr;
 use mrt_wire::{
-    Event, InFault, Input, Item, Items, Next, Peer, ReadInput, Shared, Source, SourceFault, Stamp,
-    Tag, Time,
+    Event, InFault, Input, Item, Items, Next, Peer, ReadInput, SharedRange, Source, SourceFault,
+    Stamp, Tag, Time,
 };
 use std::alloc::Global;
 use std::io::{self, ErrorKind, Read};
@@ -62,16 +62,19 @@ const ANNOUNCED: &str = "000000C8 0010 0001 0000002B FBF4 FBF5 0000 0001 C000020
     FFFFFFFFFFFFFFFF FFFFFFFFFFFFFFFF 001B 02 0000 0000 080A 080B";
 
 /// What is known of the sharers of items that are put together again.
-fn shared_again(items: Items) -> Shared {
-    Items::from_vec(items.into_vec()).shared()
+fn shared_again(items: Items) -> SharedRange {
+    Items::from_vec(items.into_vec()).longest_shared_range()
 }
 
 #[test]
 fn items_put_together_are_not_known_to_share_a_route(rt: HostRuntime) -> Result<(), Fail> {
     let octets = octets_of(rt.alloc(), &[ANNOUNCED])?;
     let event = first_event(rt.alloc(), &octets).ok_or("an event was wanted")?;
-    assert_eq!(rt; event.items.shared(), Shared { start: 0, end: 2 });
-    assert_eq!(rt; shared_again(event.items), Shared { start: 0, end: 0 });
+    assert_eq!(rt;
+        event.items.longest_shared_range(),
+        SharedRange { start: 0, end: 2 }
+    );
+    assert_eq!(rt; shared_again(event.items), SharedRange { start: 0, end: 0 });
     Ok(())
 }
 

@@ -1,4 +1,4 @@
-//! What a run passes on before it waits for its input.
+//! What a run flushes before it waits for its input.
 
 use super::LINE;
 use bgpdump_lines::{Outcome, run_dump};
@@ -11,7 +11,7 @@ use test_devices::{HandInput, PassingOutput, STATE_CHANGE, octets_of};
 /// How many octets a record of the tests has.
 const SIZE: usize = 32;
 
-/// A run over three records, of whose octets so many are at hand.
+/// A run over three records.
 #[derive(Drop)]
 struct Run {
     outcome: Outcome,
@@ -20,7 +20,7 @@ struct Run {
     left: usize,
 }
 
-/// Runs with outputs that pass on so often at most.
+/// Runs with so many octets buffered, and outputs that are flushed at most so often.
 fn run_over(alloc: Global, size: usize, most: (usize, usize)) -> Result<Run, AllocError> {
     let octets = octets_of(alloc, &[STATE_CHANGE, STATE_CHANGE, STATE_CHANGE])?;
     let mut input = HandInput::new(octets.as_slice(), size);
@@ -37,34 +37,40 @@ fn run_over(alloc: Global, size: usize, most: (usize, usize)) -> Result<Run, All
 }
 
 #[test]
-fn lines_are_passed_on_where_no_record_is_at_hand(rt: HostRuntime) -> Result<(), Fail> {
+fn lines_are_flushed_where_no_record_is_buffered(rt: HostRuntime) -> Result<(), Fail> {
     let line = LINE.len();
     for size in [0, 1, 11, 12, SIZE - 1] {
         let run = run_over(rt.alloc(), size, (9, 9))?;
         assert_eq!(rt; run.outcome, Outcome::Done);
         assert_eq!(rt;
-            run.out.passed.as_slice(),
+            run.out.flushes.as_slice(),
             [0, line, 2 * line, 3 * line].as_slice()
         );
-        assert_eq!(rt; run.err.passed.as_slice(), [0, 0, 0, 0].as_slice());
+        assert_eq!(rt; run.err.flushes.as_slice(), [0, 0, 0, 0].as_slice());
     }
     Ok(())
 }
 
 #[test]
-fn lines_are_kept_where_a_record_is_at_hand(rt: HostRuntime) -> Result<(), Fail> {
+fn lines_are_kept_where_a_record_is_buffered(rt: HostRuntime) -> Result<(), Fail> {
     let line = LINE.len();
-    for size in [SIZE, SIZE + 1, 3 * SIZE] {
+    for size in [SIZE, SIZE + 1, 2 * SIZE - 1] {
         let run = run_over(rt.alloc(), size, (9, 9))?;
         assert_eq!(rt; run.outcome, Outcome::Done);
-        assert_eq!(rt; run.out.passed.as_slice(), [3 * line].as_slice());
-        assert_eq!(rt; run.err.passed.as_slice(), [0].as_slice());
+        assert_eq!(rt;
+            run.out.flushes.as_slice(),
+            [line, 2 * line, 3 * line].as_slice()
+        );
+        assert_eq!(rt; run.err.flushes.as_slice(), [0, 0, 0].as_slice());
     }
+    let run = run_over(rt.alloc(), 3 * SIZE, (9, 9))?;
+    assert_eq!(rt; run.out.flushes.as_slice(), [3 * line].as_slice());
+    assert_eq!(rt; run.err.flushes.as_slice(), [0].as_slice());
     Ok(())
 }
 
 #[test]
-fn a_fault_of_passing_on_ends_the_run(rt: HostRuntime) -> Result<(), Fail> {
+fn a_failed_flush_ends_the_run(rt: HostRuntime) -> Result<(), Fail> {
     for most in [(1, 9), (9, 1)] {
         let run = run_over(rt.alloc(), 0, most)?;
         assert_eq!(rt; run.outcome, Outcome::WriteFault);

@@ -62,7 +62,7 @@ impl<S: PrefixStore<Rc<Route>>, const MOST: u64> PrefixStore<Rc<Route>> for Scar
         self.inner.after(prefix)
     }
 
-    fn is_left() -> bool {
+    fn leaks_on_drop() -> bool {
         false
     }
 
@@ -214,6 +214,10 @@ impl Output for Room {
         room.copy_from_slice(octets);
         self.used = end;
         Ok(octets.len())
+    }
+
+    fn flush(&mut self) -> Result<(), OutFault> {
+        Ok(())
     }
 
     fn finish(&mut self) -> Result<(), OutFault> {

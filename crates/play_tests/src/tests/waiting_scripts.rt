@@ -1,4 +1,4 @@
-//! What a script's run passes on before it waits for its input.
+//! What a script's run flushes before it waits for its input.
 
 use super::Routes;
 use bgpdump_tool::{Outcome, run_play};
@@ -26,7 +26,7 @@ struct Played {
     left: usize,
 }
 
-/// Runs with so many octets at hand, and outputs that pass on so often at most.
+/// Runs with so many octets buffered, and outputs that are flushed at most so often.
 fn play_over(alloc: Global, size: usize, most: (usize, usize)) -> Result<Played, AllocError> {
     let octets = octets_of(alloc, &[STATE_CHANGE, STATE_CHANGE, STATE_CHANGE])?;
     let mut input = HandInput::new(octets.as_slice(), size);
@@ -50,34 +50,36 @@ fn play_over(alloc: Global, size: usize, most: (usize, usize)) -> Result<Played,
     })
 }
 
-/// What stands before the first record, before the second and the third, and before the end; behind
+/// What is written before the first record, before the second and the third, and before the end; after
 /// it nothing is waited for.
 #[test]
-fn replies_are_passed_on_where_no_record_is_at_hand(rt: HostRuntime) -> Result<(), Fail> {
+fn replies_are_flushed_where_no_record_is_buffered(rt: HostRuntime) -> Result<(), Fail> {
     for size in [0, 12, SIZE - 1] {
         let played = play_over(rt.alloc(), size, (9, 9))?;
         assert_eq!(rt; played.outcome, Outcome::Done);
         assert_eq!(rt; played.out.text.as_slice(), REPLIES.as_bytes());
-        assert_eq!(rt; played.out.passed.as_slice(), [13, 18, 18, 46].as_slice());
-        assert_eq!(rt; played.err.passed.as_slice(), [0, 0, 0, 0].as_slice());
+        assert_eq!(rt; played.out.flushes.as_slice(), [13, 18, 18, 46].as_slice());
+        assert_eq!(rt; played.err.flushes.as_slice(), [0, 0, 0, 0].as_slice());
     }
     Ok(())
 }
 
 #[test]
-fn replies_are_kept_where_a_record_is_at_hand(rt: HostRuntime) -> Result<(), Fail> {
-    for size in [SIZE, 3 * SIZE] {
-        let played = play_over(rt.alloc(), size, (9, 9))?;
-        assert_eq!(rt; played.outcome, Outcome::Done);
-        assert_eq!(rt; played.out.text.as_slice(), REPLIES.as_bytes());
-        assert_eq!(rt; played.out.passed.as_slice(), [46].as_slice());
-        assert_eq!(rt; played.err.passed.as_slice(), [0].as_slice());
-    }
+fn replies_are_kept_where_a_record_is_buffered(rt: HostRuntime) -> Result<(), Fail> {
+    let played = play_over(rt.alloc(), SIZE, (9, 9))?;
+    assert_eq!(rt; played.outcome, Outcome::Done);
+    assert_eq!(rt; played.out.text.as_slice(), REPLIES.as_bytes());
+    assert_eq!(rt; played.out.flushes.as_slice(), [18, 18, 46].as_slice());
+    assert_eq!(rt; played.err.flushes.as_slice(), [0, 0, 0].as_slice());
+    let played = play_over(rt.alloc(), 3 * SIZE, (9, 9))?;
+    assert_eq!(rt; played.out.text.as_slice(), REPLIES.as_bytes());
+    assert_eq!(rt; played.out.flushes.as_slice(), [46].as_slice());
+    assert_eq!(rt; played.err.flushes.as_slice(), [0].as_slice());
     Ok(())
 }
 
 #[test]
-fn a_fault_of_passing_on_ends_the_script(rt: HostRuntime) -> Result<(), Fail> {
+fn a_failed_flush_ends_the_script(rt: HostRuntime) -> Result<(), Fail> {
     for most in [(1, 9), (9, 1)] {
         let played = play_over(rt.alloc(), 0, most)?;
         assert_eq!(rt; played.outcome, Outcome::WriteFault);

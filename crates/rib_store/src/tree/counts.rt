@@ -1,18 +1,19 @@
 //! Counts of the nodes, the keys and the routes of a tree, which visit all of its nodes.
-//! `radix_store.rt` calls them, for keys and routes only if its own count was saturated.
+//! `radix_store.rt` calls them; the counts of keys and routes only if its own count was saturated.
+//! Read [`Tree::node_count`] first.
 
 ghost use Rattle.std.specs.Prelude.{◌≡◌, length};
 ghost use Rattle.rib_store.specs.Tree.{shape_of, slots_of};
-ghost use Rattle.prefix_store.specs.Stored.{counted};
+ghost use Rattle.prefix_store.specs.Stored.{saturated_count};
 ghost use Rattle.rib_store.specs.Walks.{all_routes, node_count};
 
 use crate::tree::{Slot, Tree};
-use prefix_store::Packed;
+use prefix_store::PackedPrefix;
 
-impl<K: Packed, R> Tree<K, R> {
+impl<K: PackedPrefix, R> Tree<K, R> {
     /// Returns the number of nodes, or `u64::MAX` if there are more. Visits all nodes.
     pub(crate) fn node_count(&self) -> u64
-        ensures { result ≡ counted (node_count (shape_of K.network self.now)) }
+        ensures { result ≡ saturated_count (node_count (shape_of K.network self.now)) }
     {
         match self {
             Tree::Empty => 0,
@@ -32,7 +33,7 @@ impl<K: Packed, R> Tree<K, R> {
 
     /// Returns the number of keys, or `u64::MAX` if there are more. Visits all nodes.
     pub(crate) fn key_count(&self) -> u64
-        ensures { result ≡ counted (length (slots_of (shape_of K.network self.now))) }
+        ensures { result ≡ saturated_count (length (slots_of (shape_of K.network self.now))) }
     {
         match self {
             Tree::Empty => 0,
@@ -40,7 +41,7 @@ impl<K: Packed, R> Tree<K, R> {
             Tree::Rooted(_, _, node) => {
                 let below = node.left.key_count().saturating_add(node.right.key_count());
                 match node.slot {
-                    Slot::Branch => below,
+                    Slot::NoKey => below,
                     _ => below.saturating_add(1),
                 }
             }
@@ -54,7 +55,7 @@ impl<K: Packed, R> Tree<K, R> {
     /// Returns the number of routes, or `u64::MAX` if there are more. Visits all nodes.
     #[tactic(auto, using(crate::proofs::FillLaws::count_rooted))]
     pub(crate) fn route_count(&self) -> u64
-        ensures { result ≡ counted (length (all_routes (shape_of K.network self.now))) }
+        ensures { result ≡ saturated_count (length (all_routes (shape_of K.network self.now))) }
     {
         match self {
             Tree::Empty | Tree::Bare(_) => 0,

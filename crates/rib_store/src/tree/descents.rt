@@ -1,10 +1,10 @@
 //! Prefetching descents to eight prefixes at once, before routes are put or taken there. The
 //! processor waits for the nodes of all eight together, and not for one after the other.
-//! `RadixStore::reach` calls [`Descents::finish`]; read [`Descent`] first.
+//! `RadixStore::prefetch` calls [`Descents::run`]; read [`Descent`] first.
 
 use crate::tree::Tree;
 use ip_prefix::Prefix;
-use prefix_store::{Packed, V4Prefix};
+use prefix_store::{PackedPrefix, V4Prefix};
 
 /// The greatest number of bits of a prefix that a descent reads. Nodes whose prefixes have as many
 /// bits or more aren't passed.
@@ -20,16 +20,17 @@ const MOST_NODES: u8 = 32;
 /// finds out nothing about the prefix.
 #[derive(Drop)]
 pub(crate) struct Descent<'a, R> {
-    root: Root<'a, R>,
+    /// The node that the descent has come to.
+    root: DescentNode<'a, R>,
     /// The first 64 bits of the prefix, filled up with zeros.
     bits: u64,
     /// The number of bits that the descent reads, at most [`MOST_BITS`].
     depth: u8,
 }
 
-/// The subtree that a descent has reached, or the end of the descent.
+/// The subtree that a descent has come to, or the end of the descent.
 #[derive(Drop)]
-pub(crate) enum Root<'a, R> {
+pub(crate) enum DescentNode<'a, R> {
     /// No subtree.
     Ended,
     /// A subtree of IPv4 prefixes.
@@ -42,32 +43,33 @@ impl<'a, R> Descent<'a, R> {
     /// Returns a descent that passes no node.
     pub(crate) fn ended() -> Self {
         Descent {
-            root: Root::Ended,
+            root: DescentNode::Ended,
             bits: 0,
             depth: 0,
         }
     }
 
-    /// Returns a descent from `root` to `prefix`, which must be of one family.
-    pub(crate) fn at(root: Root<'a, R>, prefix: &Prefix) -> Self {
+    /// Returns a descent from `root` to `prefix`. They must be of one family.
+    pub(crate) fn new(root: DescentNode<'a, R>, prefix: &Prefix) -> Self {
         Descent {
             root,
-            bits: prefix.high_half(),
+            bits: prefix.high_64_bits(),
             depth: prefix.len().min(MOST_BITS),
         }
     }
 
-    /// Passes a node, and returns `true` if there was one to pass.
+    /// Advances to a child of the current node, and returns `true`. Returns `false` if there is
+    /// none to advance to.
     #[inline]
-    fn pass_node(&mut self) -> bool {
+    fn advance(&mut self) -> bool {
         let next = match &self.root {
-            Root::Ended => return false,
-            Root::V4(tree) => match below(tree, self.bits, self.depth) {
-                Some(next) => Root::V4(next),
+            DescentNode::Ended => return false,
+            DescentNode::V4(tree) => match child_towards(tree, self.bits, self.depth) {
+                Some(next) => DescentNode::V4(next),
                 None => return false,
             },
-            Root::V6(tree) => match below(tree, self.bits, self.depth) {
-                Some(next) => Root::V6(next),
+            DescentNode::V6(tree) => match child_towards(tree, self.bits, self.depth) {
+                Some(next) => DescentNode::V6(next),
                 None => return false,
             },
         };
@@ -76,10 +78,14 @@ impl<'a, R> Descent<'a, R> {
     }
 }
 
-/// Returns the child of the root on the side of the bit of `bits` that follows the root's prefix.
-/// Returns `None` if the root has no children, or if the prefix has `depth` bits or more.
+/// Returns the child of the root of `tree` on the side of the bit of `bits` that follows the root's
+/// prefix. Returns `None` if the root has no children, or if its prefix has `depth` bits or more.
 #[inline]
-fn below<'a, K: Packed, R>(tree: &'a Tree<K, R>, bits: u64, depth: u8) -> Option<&'a Tree<K, R>> {
+fn child_towards<'a, K: PackedPrefix, R>(
+    tree: &'a Tree<K, R>,
+    bits: u64,
+    depth: u8,
+) -> Option<&'a Tree<K, R>> {
     let (prefix, left, right) = match tree {
         Tree::Forked(_, prefix, fork) => (prefix, &fork.left, &fork.right),
         Tree::Rooted(_, prefix, node) => (prefix, &node.left, &node.right),
@@ -108,26 +114,26 @@ pub(crate) struct Descents<'a, R> {
 impl<'a, R> Descents<'a, R> {
     /// Advances the descents until all have ended, or by [`MOST_NODES`] nodes, and returns the
     /// number of nodes that the longest passed.
-    pub(crate) fn finish(&mut self) -> u64 {
+    pub(crate) fn run(&mut self) -> u64 {
         'nodes: for passed in 0..MOST_NODES {
-            if !self.pass_nodes() {
+            if !self.advance_all() {
                 return u64::from(passed);
             }
         }
         u64::from(MOST_NODES)
     }
 
-    /// Advances each descent by a node, and returns `true` if one had a node to pass.
+    /// Advances each descent by a node, and returns `true` if one of them could advance.
     #[inline]
-    fn pass_nodes(&mut self) -> bool {
-        let first_four = self.first.pass_node()
-            | self.second.pass_node()
-            | self.third.pass_node()
-            | self.fourth.pass_node();
-        let last_four = self.fifth.pass_node()
-            | self.sixth.pass_node()
-            | self.seventh.pass_node()
-            | self.eighth.pass_node();
+    fn advance_all(&mut self) -> bool {
+        let first_four = self.first.advance()
+            | self.second.advance()
+            | self.third.advance()
+            | self.fourth.advance();
+        let last_four = self.fifth.advance()
+            | self.sixth.advance()
+            | self.seventh.advance()
+            | self.eighth.advance();
         first_four | last_four
     }
 }

@@ -1,28 +1,28 @@
-//! Methods that remove a key and join what is below it to its parent. `RadixStore::discard` calls
-//! [`Tree::discard`]; read that method first.
+//! Methods that remove a key and the nodes that aren't needed without it. `RadixStore::discard`
+//! calls [`Tree::discard`]; read that method first.
 
 ghost use Rattle.std.specs.Prelude.{◌≡◌, None, List, Bool};
 ghost use Rattle.ip_prefix.specs.Turns.{way};
-ghost use Rattle.rib_store.specs.Tree.{shape_of, IsLeaf, IsMarked, at, IsOn, IsShaped, IsNearlyShaped, IsPut};
+ghost use Rattle.rib_store.specs.Tree.{shape_of, IsLeaf, HasCorrectMarks, at, IsOnSide, IsRadixTree, IsRadixTreeBelowRoot, IsUpdatedAt};
 
 use crate::tree::{Slot, Tree};
 use ip_prefix::{Prefix, Turn};
-use prefix_store::Packed;
+use prefix_store::PackedPrefix;
 use std::mem;
 
-impl<K: Packed, R: Drop> Tree<K, R> {
+impl<K: PackedPrefix, R: Drop> Tree<K, R> {
     /// Removes the key `key` and its route, and the nodes that aren't needed without it. Does
     /// nothing if `key` isn't a key. Allocates no memory.
     pub(crate) fn discard(&mut self, key: &Prefix)
-        requires shaped { IsShaped (shape_of K.network self.old) }
-        requires marked { IsMarked self.old }
-        ensures shaped { IsShaped (shape_of K.network self.new) }
-        ensures marked { IsMarked self.new }
-        ensures slots { IsPut (at (shape_of K.network self.old)) (way key.now) None
+        requires shaped { IsRadixTree (shape_of K.network self.old) }
+        requires marked { HasCorrectMarks self.old }
+        ensures shaped { IsRadixTree (shape_of K.network self.new) }
+        ensures marked { HasCorrectMarks self.new }
+        ensures slots { IsUpdatedAt (at (shape_of K.network self.old)) (way key.now) None
             (at (shape_of K.network self.new)) }
         ensures sides { (from : List Bool) (bit : Bool) →
-            IsOn from bit (shape_of K.network self.old) →
-            IsOn from bit (shape_of K.network self.new) }
+            IsOnSide from bit (shape_of K.network self.old) →
+            IsOnSide from bit (shape_of K.network self.new) }
     {
         match self {
             Tree::Empty => {}
@@ -38,13 +38,13 @@ impl<K: Packed, R: Drop> Tree<K, R> {
                 let node = &mut **node;
                 match prefix.turn(key) {
                     Turn::Outside => return,
-                    Turn::Here => node.slot.vacate(),
+                    Turn::Here => node.slot.remove_key(),
                     Turn::Left => node.left.discard(key),
                     Turn::Right => node.right.discard(key),
                 }
-                *routed = node.is_routed();
-                join(self);
-                fold_leaf(self);
+                *routed = node.has_routes();
+                replace_by_only_child(self);
+                unbox_leaf(self);
             }
             Tree::Forked(routed, prefix, fork) => {
                 let fork = &mut **fork;
@@ -53,42 +53,43 @@ impl<K: Packed, R: Drop> Tree<K, R> {
                     Turn::Right => fork.right.discard(key),
                     _ => return,
                 }
-                *routed = fork.is_routed();
-                join(self);
+                *routed = fork.has_routes();
+                replace_by_only_child(self);
             }
         }
     }
 }
 
 /// Empties the tree, whose only key is `prefix`, if that is `key`.
-fn discard_leaf<K: Packed, R: Drop>(tree: &mut Tree<K, R>, prefix: K, key: &Prefix)
+fn discard_leaf<K: PackedPrefix, R: Drop>(tree: &mut Tree<K, R>, prefix: K, key: &Prefix)
     requires { IsLeaf prefix tree.old }
-    ensures shaped { IsShaped (shape_of K.network tree.new) }
-    ensures marked { IsMarked tree.new }
-    ensures slots { IsPut (at (shape_of K.network tree.old)) (way key.now) None
+    ensures shaped { IsRadixTree (shape_of K.network tree.new) }
+    ensures marked { HasCorrectMarks tree.new }
+    ensures slots { IsUpdatedAt (at (shape_of K.network tree.old)) (way key.now) None
         (at (shape_of K.network tree.new)) }
-    ensures sides { (from : List Bool) (bit : Bool) → IsOn from bit (shape_of K.network tree.old)
-        → IsOn from bit (shape_of K.network tree.new) }
+    ensures sides { (from : List Bool) (bit : Bool) → IsOnSide from bit (shape_of K.network tree.old)
+        → IsOnSide from bit (shape_of K.network tree.new) }
 {
     if let Turn::Here = prefix.turn(key) {
         *tree = Tree::Empty;
     }
 }
 
-/// Replaces the root by its only child, if it is no key and has one child.
-fn join<K: Packed, R: Drop>(tree: &mut Tree<K, R>)
-    requires shaped { IsNearlyShaped (shape_of K.network tree.old) }
-    requires marked { IsMarked tree.old }
-    ensures shaped { IsShaped (shape_of K.network tree.new) }
-    ensures marked { IsMarked tree.new }
+/// Replaces the root by its only child. Does nothing if the root is a key, or has no or two
+/// children.
+fn replace_by_only_child<K: PackedPrefix, R: Drop>(tree: &mut Tree<K, R>)
+    requires shaped { IsRadixTreeBelowRoot (shape_of K.network tree.old) }
+    requires marked { HasCorrectMarks tree.old }
+    ensures shaped { IsRadixTree (shape_of K.network tree.new) }
+    ensures marked { HasCorrectMarks tree.new }
     ensures slots { (q : List Bool) → at (shape_of K.network tree.new) q
         ≡ at (shape_of K.network tree.old) q }
-    ensures sides { (from : List Bool) (bit : Bool) → IsOn from bit (shape_of K.network tree.old)
-        → IsOn from bit (shape_of K.network tree.new) }
+    ensures sides { (from : List Bool) (bit : Bool) → IsOnSide from bit (shape_of K.network tree.old)
+        → IsOnSide from bit (shape_of K.network tree.new) }
 {
     match tree {
         Tree::Rooted(_, _, node) => {
-            if let Slot::Branch = node.slot {
+            if let Slot::NoKey = node.slot {
                 if let Tree::Empty = node.left {
                     let child = mem::replace(&mut node.right, Tree::Empty);
                     *tree = child;
@@ -111,18 +112,18 @@ fn join<K: Packed, R: Drop>(tree: &mut Tree<K, R>)
     }
 }
 
-/// Moves the root out of its heap node if it is a key without children.
-fn fold_leaf<K: Packed, R: Drop>(tree: &mut Tree<K, R>)
-    requires { IsMarked tree.old }
-    ensures marked { IsMarked tree.new }
+/// Moves the root out of its heap node if it is a key without children, and frees the node.
+fn unbox_leaf<K: PackedPrefix, R: Drop>(tree: &mut Tree<K, R>)
+    requires { HasCorrectMarks tree.old }
+    ensures marked { HasCorrectMarks tree.new }
     ensures shape { shape_of K.network tree.new ≡ shape_of K.network tree.old }
 {
     if let Tree::Rooted(_, prefix, node) = tree {
         let prefix = *prefix;
         if let Tree::Empty = node.left {
             if let Tree::Empty = node.right {
-                match mem::replace(&mut node.slot, Slot::Branch) {
-                    Slot::Branch => {}
+                match mem::replace(&mut node.slot, Slot::NoKey) {
+                    Slot::NoKey => {}
                     Slot::Vacant => *tree = Tree::Bare(prefix),
                     Slot::Filled(route) => *tree = Tree::Leaf(prefix, route),
                 }

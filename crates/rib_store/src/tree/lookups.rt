@@ -3,20 +3,20 @@
 
 ghost use Rattle.std.specs.Prelude.{◌≡◌, ◌+◌, ◌≤◌, Some, None, MatchOption, vec_capacity, option_map, option_copied};
 ghost use Rattle.ip_prefix.specs.Turns.{way};
-ghost use Rattle.rib_store.specs.Tree.{shape_of, IsMarked, IsShaped, at};
-ghost use Rattle.prefix_store.specs.Lookups.{pointed};
-ghost use Rattle.rib_store.specs.Walks.{deepest, visits, first, behind, all_routes, all_behind, filled};
+ghost use Rattle.rib_store.specs.Tree.{shape_of, HasCorrectMarks, IsRadixTree, at};
+ghost use Rattle.prefix_store.specs.Lookups.{dereferenced};
+ghost use Rattle.rib_store.specs.Walks.{deepest_route, visit_count, first, first_after, all_routes, all_after, filled};
 
 use crate::tree::{Tree, add_route};
 use ip_prefix::{Prefix, Turn};
-use prefix_store::Packed;
+use prefix_store::PackedPrefix;
 
-impl<K: Packed, R> Tree<K, R> {
+impl<K: PackedPrefix, R> Tree<K, R> {
     /// Returns the slot at `key`: `None` if it isn't a key, `Some(None)` if it is a key without a
     /// route, or else the route.
     #[tactic(auto, using(crate::proofs::TreeLaws::at_left_under, crate::proofs::TreeLaws::at_right_under))]
     pub(crate) fn slot(&self, key: &Prefix) -> Option<Option<&R>>
-        requires { IsShaped (shape_of K.network self.now) }
+        requires { IsRadixTree (shape_of K.network self.now) }
         ensures { option_map (λ slot. option_copied slot) result
             ≡ at (shape_of K.network self.now) (way key.now) }
     {
@@ -36,7 +36,7 @@ impl<K: Packed, R> Tree<K, R> {
                 Turn::Left => node.left.slot(key),
                 Turn::Right => node.right.slot(key),
                 _ => match prefix.turn(key) {
-                    Turn::Here => node.slot.kept(),
+                    Turn::Here => node.slot.route_if_key(),
                     _ => None,
                 },
             },
@@ -48,13 +48,13 @@ impl<K: Packed, R> Tree<K, R> {
         }
     }
 
-    /// Returns the route at the longest prefix that covers `key`, with that prefix, or `None` if
-    /// there is none. Adds the number of nodes that it visits to `met`.
+    /// Returns the route at the longest prefix that covers `key`, with that prefix, or `None` if no
+    /// prefix with a route covers it. Adds the number of nodes that it visits to `met`.
     pub(crate) fn longest(&self, key: &Prefix, met: &mut u32) -> Option<(Prefix, &R)>
-        requires { met.old + visits (shape_of K.network self.now) (way key.now) ≤ u32.MAX }
+        requires { met.old + visit_count (shape_of K.network self.now) (way key.now) ≤ u32.MAX }
         ensures found { option_map (λ p. (p.0, p.1.now)) result
-            ≡ deepest (shape_of K.network self.now) (way key.now) }
-        ensures met { met.new ≡ met.old + visits (shape_of K.network self.now) (way key.now) }
+            ≡ deepest_route (shape_of K.network self.now) (way key.now) }
+        ensures met { met.new ≡ met.old + visit_count (shape_of K.network self.now) (way key.now) }
     {
         match self {
             Tree::Empty => None,
@@ -66,7 +66,7 @@ impl<K: Packed, R> Tree<K, R> {
                 *met += 1;
                 match prefix.turn(key) {
                     Turn::Outside => None,
-                    _ => Some((prefix.wide(), route)),
+                    _ => Some((prefix.unpack(), route)),
                 }
             }
             Tree::Rooted(_, prefix, node) => {
@@ -79,7 +79,7 @@ impl<K: Packed, R> Tree<K, R> {
                 };
                 match below {
                     Some(found) => Some(found),
-                    None => node.slot.routed(prefix.wide()),
+                    None => node.slot.route_with_prefix(prefix.unpack()),
                 }
             }
             Tree::Forked(_, prefix, fork) => {
@@ -96,18 +96,18 @@ impl<K: Packed, R> Tree<K, R> {
     /// Returns the route at the least prefix, with that prefix, or `None` if there is no route.
     /// Skips nodes without a route below them.
     pub(crate) fn first(&self) -> Option<(Prefix, &R)>
-        requires { IsMarked self.now }
+        requires { HasCorrectMarks self.now }
         ensures { MatchOption result (first (shape_of K.network self.now) ≡ None)
             (λ found. first (shape_of K.network self.now) ≡ Some (found.0, found.1.now)) }
     {
         match self {
             Tree::Empty | Tree::Bare(_) => None,
-            Tree::Leaf(prefix, route) => Some((prefix.wide(), route)),
+            Tree::Leaf(prefix, route) => Some((prefix.unpack(), route)),
             Tree::Rooted(routed, prefix, node) => {
                 if !*routed {
                     return None;
                 }
-                match node.slot.routed(prefix.wide()) {
+                match node.slot.route_with_prefix(prefix.unpack()) {
                     Some(found) => Some(found),
                     None => match node.left.first() {
                         Some(found) => Some(found),
@@ -130,21 +130,21 @@ impl<K: Packed, R> Tree<K, R> {
     /// Returns the route at the least prefix that is greater than `low`, with that prefix, or
     /// `None` if there is none.
     pub(crate) fn after(&self, low: &Prefix) -> Option<(Prefix, &R)>
-        requires { IsMarked self.now }
-        ensures { MatchOption result (behind (shape_of K.network self.now) low.now ≡ None)
-            (λ found. behind (shape_of K.network self.now) low.now ≡ Some (found.0, found.1.now)) }
+        requires { HasCorrectMarks self.now }
+        ensures { MatchOption result (first_after (shape_of K.network self.now) low.now ≡ None)
+            (λ found. first_after (shape_of K.network self.now) low.now ≡ Some (found.0, found.1.now)) }
     {
         match self {
             Tree::Empty | Tree::Bare(_) => None,
             Tree::Leaf(prefix, route) => {
-                let wide = prefix.wide();
+                let wide = prefix.unpack();
                 match prefix.turn(low) {
                     Turn::Outside if *low < wide => Some((wide, route)),
                     _ => None,
                 }
             }
             Tree::Rooted(_, prefix, node) => match prefix.turn(low) {
-                Turn::Outside if *low < prefix.wide() => self.first(),
+                Turn::Outside if *low < prefix.unpack() => self.first(),
                 Turn::Outside => None,
                 Turn::Here => match node.left.first() {
                     Some(found) => Some(found),
@@ -157,7 +157,7 @@ impl<K: Packed, R> Tree<K, R> {
                 Turn::Right => node.right.after(low),
             },
             Tree::Forked(_, prefix, fork) => match prefix.turn(low) {
-                Turn::Outside if *low < prefix.wide() => self.first(),
+                Turn::Outside if *low < prefix.unpack() => self.first(),
                 Turn::Outside => None,
                 Turn::Here => match fork.left.first() {
                     Some(found) => Some(found),
@@ -174,16 +174,16 @@ impl<K: Packed, R> Tree<K, R> {
 
     /// Appends all routes with their prefixes to `found`, in the order of prefixes, up to its
     /// capacity. Skips nodes without a route below them.
-    pub(crate) fn add_all<'a>(&'a self, found: &mut Vec<(Prefix, &'a R)>)
-        requires { IsMarked self.now }
-        ensures found { pointed found.new.items ≡
-            filled (vec_capacity found.old) (pointed found.old.items)
+    pub(crate) fn append_routes<'a>(&'a self, found: &mut Vec<(Prefix, &'a R)>)
+        requires { HasCorrectMarks self.now }
+        ensures found { dereferenced found.new.items ≡
+            filled (vec_capacity found.old) (dereferenced found.old.items)
             (all_routes (shape_of K.network self.now)) }
         ensures room { vec_capacity found.new ≡ vec_capacity found.old }
     {
         match self {
             Tree::Empty | Tree::Bare(_) => {}
-            Tree::Leaf(prefix, route) => add_route(prefix.wide(), route, found),
+            Tree::Leaf(prefix, route) => add_route(prefix.unpack(), route, found),
             Tree::Rooted(any, prefix, node) => {
                 if !*any {
                     return;
@@ -191,9 +191,9 @@ impl<K: Packed, R> Tree<K, R> {
                 if found.len() == found.capacity() {
                     return;
                 }
-                node.slot.add_routed(prefix.wide(), found);
-                node.left.add_all(found);
-                node.right.add_all(found);
+                node.slot.add_route_if_any(prefix.unpack(), found);
+                node.left.append_routes(found);
+                node.right.append_routes(found);
             }
             Tree::Forked(any, _, fork) => {
                 if !*any {
@@ -202,52 +202,52 @@ impl<K: Packed, R> Tree<K, R> {
                 if found.len() == found.capacity() {
                     return;
                 }
-                fork.left.add_all(found);
-                fork.right.add_all(found);
+                fork.left.append_routes(found);
+                fork.right.append_routes(found);
             }
         }
     }
 
     /// Appends the routes at prefixes greater than `low`, with these prefixes, to `found`, in the
     /// order of prefixes, up to its capacity.
-    pub(crate) fn add_above<'a>(&'a self, low: &Prefix, found: &mut Vec<(Prefix, &'a R)>)
-        requires { IsMarked self.now }
-        ensures found { pointed found.new.items ≡
-            filled (vec_capacity found.old) (pointed found.old.items)
-            (all_behind (shape_of K.network self.now) low.now) }
+    pub(crate) fn append_routes_after<'a>(&'a self, low: &Prefix, found: &mut Vec<(Prefix, &'a R)>)
+        requires { HasCorrectMarks self.now }
+        ensures found { dereferenced found.new.items ≡
+            filled (vec_capacity found.old) (dereferenced found.old.items)
+            (all_after (shape_of K.network self.now) low.now) }
         ensures room { vec_capacity found.new ≡ vec_capacity found.old }
     {
         match self {
             Tree::Empty | Tree::Bare(_) => {}
             Tree::Leaf(prefix, route) => match prefix.turn(low) {
-                Turn::Outside if *low < prefix.wide() => add_route(prefix.wide(), route, found),
+                Turn::Outside if *low < prefix.unpack() => add_route(prefix.unpack(), route, found),
                 _ => {}
             },
             Tree::Rooted(_, prefix, node) => match prefix.turn(low) {
-                Turn::Outside if *low < prefix.wide() => self.add_all(found),
+                Turn::Outside if *low < prefix.unpack() => self.append_routes(found),
                 Turn::Outside => {}
                 Turn::Here => {
-                    node.left.add_all(found);
-                    node.right.add_all(found);
+                    node.left.append_routes(found);
+                    node.right.append_routes(found);
                 }
                 Turn::Left => {
-                    node.left.add_above(low, found);
-                    node.right.add_all(found);
+                    node.left.append_routes_after(low, found);
+                    node.right.append_routes(found);
                 }
-                Turn::Right => node.right.add_above(low, found),
+                Turn::Right => node.right.append_routes_after(low, found),
             },
             Tree::Forked(_, prefix, fork) => match prefix.turn(low) {
-                Turn::Outside if *low < prefix.wide() => self.add_all(found),
+                Turn::Outside if *low < prefix.unpack() => self.append_routes(found),
                 Turn::Outside => {}
                 Turn::Here => {
-                    fork.left.add_all(found);
-                    fork.right.add_all(found);
+                    fork.left.append_routes(found);
+                    fork.right.append_routes(found);
                 }
                 Turn::Left => {
-                    fork.left.add_above(low, found);
-                    fork.right.add_all(found);
+                    fork.left.append_routes_after(low, found);
+                    fork.right.append_routes(found);
                 }
-                Turn::Right => fork.right.add_above(low, found),
+                Turn::Right => fork.right.append_routes_after(low, found),
             },
         }
     }

@@ -1,23 +1,23 @@
-//! Constructors of nodes, which `puts.rt` and `routes.rt` call.
+//! Constructors of nodes, which `puts.rt` and `routes.rt` call. Read [`new_leaf`] first.
 
 ghost use Rattle.std.specs.Prelude.{◌≡◌, ◌⊎◌, ◌||◌, Some, None, false, is_some, IfOk};
 ghost use Rattle.ip_prefix.specs.Turns.{way};
-ghost use Rattle.rib_store.specs.declared.tree.Slot.TheVariants.{Branch};
+ghost use Rattle.rib_store.specs.declared.tree.Slot.TheVariants.{NoKey};
 ghost use Rattle.ip_prefix.specs.declared.turn.Turn.TheVariants.{Left, Right};
-ghost use Rattle.rib_store.specs.Tree.{Empty, shape_of, leaf_slot, is_filled, is_routed, any_routed, IsLeaf, IsMarked, slot_of, IsRootedOver};
+ghost use Rattle.rib_store.specs.Tree.{Empty, shape_of, leaf_route, is_filled, has_routes, any_has_routes, IsLeaf, HasCorrectMarks, slot_of, IsRootedOver};
 
 use crate::tree::{Fork, Node, Slot, Tree};
 use ip_prefix::Turn;
-use prefix_store::Packed;
+use prefix_store::PackedPrefix;
 use std::alloc::{AllocError, Global};
 use std::mem;
 
 /// Returns a tree whose only key is `prefix`, with `route`, and leaves `None` in `route`.
-pub(crate) fn leaf_with<K: Packed, R: Drop>(prefix: K, route: &mut Option<R>) -> Tree<K, R>
+pub(crate) fn new_leaf<K: PackedPrefix, R: Drop>(prefix: K, route: &mut Option<R>) -> Tree<K, R>
     ensures leaf { IsLeaf prefix result }
-    ensures marked { IsMarked result }
-    ensures slot { leaf_slot result ≡ route.old }
-    ensures routed { is_routed result ≡ is_some route.old }
+    ensures marked { HasCorrectMarks result }
+    ensures slot { leaf_route result ≡ route.old }
+    ensures routed { has_routes result ≡ is_some route.old }
     ensures taken { route.new ≡ None }
 {
     match route.take() {
@@ -27,9 +27,9 @@ pub(crate) fn leaf_with<K: Packed, R: Drop>(prefix: K, route: &mut Option<R>) ->
 }
 
 /// Converts a tree of one key to the slot of that key.
-pub(crate) fn slot_in<K: Packed, R: Drop>(tree: Tree<K, R>) -> Slot<R>
-    ensures slot { slot_of result ≡ Some (leaf_slot tree) }
-    ensures filled { is_filled result ≡ is_some (leaf_slot tree) }
+pub(crate) fn leaf_to_slot<K: PackedPrefix, R: Drop>(tree: Tree<K, R>) -> Slot<R>
+    ensures slot { slot_of result ≡ Some (leaf_route tree) }
+    ensures filled { is_filled result ≡ is_some (leaf_route tree) }
 {
     match tree {
         Tree::Leaf(_, route) => Slot::Filled(route),
@@ -38,14 +38,16 @@ pub(crate) fn slot_in<K: Packed, R: Drop>(tree: Tree<K, R>) -> Slot<R>
 }
 
 /// Returns a node that has no key and no children yet. Fails if memory allocation fails.
-pub(crate) fn lone<K: Packed, R: Drop>(alloc: Global) -> Result<Box<Node<K, R>>, AllocError>
+pub(crate) fn new_node<K: PackedPrefix, R: Drop>(
+    alloc: Global,
+) -> Result<Box<Node<K, R>>, AllocError>
     ensures slot { IfOk result (λ node. slot_of node.value.slot ≡ None) }
     ensures filled { IfOk result (λ node. is_filled node.value.slot ≡ false) }
 {
     let node = Box::new(
         alloc,
         Node {
-            slot: Slot::Branch,
+            slot: Slot::NoKey,
             left: Tree::Empty,
             right: Tree::Empty,
         },
@@ -55,17 +57,17 @@ pub(crate) fn lone<K: Packed, R: Drop>(alloc: Global) -> Result<Box<Node<K, R>>,
 
 /// Puts the branch `fork` of `prefix` above the root, which becomes its child on the side `side`,
 /// with `leaf` as the child on the other side.
-pub(crate) fn put_fork<K: Packed, R: Drop>(
+pub(crate) fn insert_fork_above<K: PackedPrefix, R: Drop>(
     tree: &mut Tree<K, R>,
     prefix: K,
     fork: Box<Fork<K, R>>,
     leaf: Tree<K, R>,
     side: Turn,
 )
-    requires leaf { IsMarked leaf }
-    requires below { IsMarked tree.old }
-    ensures marked { IsMarked tree.new }
-    ensures routed { is_routed tree.new ≡ any_routed Branch leaf tree.old }
+    requires leaf { HasCorrectMarks leaf }
+    requires below { HasCorrectMarks tree.old }
+    ensures marked { HasCorrectMarks tree.new }
+    ensures routed { has_routes tree.new ≡ any_has_routes NoKey leaf tree.old }
     ensures rooted { IsRootedOver (K.network prefix) None side
         (shape_of K.network leaf) (shape_of K.network tree.old) (shape_of K.network tree.new) }
 {
@@ -77,21 +79,21 @@ pub(crate) fn put_fork<K: Packed, R: Drop>(
     };
     fork.left = left;
     fork.right = right;
-    let routed = fork.is_routed();
+    let routed = fork.has_routes();
     *tree = Tree::Forked(routed, prefix, fork);
 }
 
 /// Replaces the tree by the node of `prefix`, with `below` as its only child, on the side `side`.
-pub(crate) fn put_root<K: Packed, R: Drop>(
+pub(crate) fn replace_root<K: PackedPrefix, R: Drop>(
     tree: &mut Tree<K, R>,
     prefix: K,
     node: Box<Node<K, R>>,
     below: Tree<K, R>,
     side: Turn,
 )
-    requires { IsMarked below }
-    ensures marked { IsMarked tree.new }
-    ensures routed { is_routed tree.new ≡ (is_filled node.value.slot || is_routed below) }
+    requires { HasCorrectMarks below }
+    ensures marked { HasCorrectMarks tree.new }
+    ensures routed { has_routes tree.new ≡ (is_filled node.value.slot || has_routes below) }
     ensures rooted { IsRootedOver (K.network prefix) (slot_of node.value.slot) side
         Empty (shape_of K.network below) (shape_of K.network tree.new) }
 {
@@ -102,6 +104,6 @@ pub(crate) fn put_root<K: Packed, R: Drop>(
     };
     node.left = left;
     node.right = right;
-    let routed = node.is_routed();
+    let routed = node.has_routes();
     *tree = Tree::Rooted(routed, prefix, node);
 }

@@ -1,24 +1,24 @@
 //! Methods that put a route at a prefix, and make the prefix a key.
-//! [`RadixStore::put`](crate::RadixStore) calls [`Tree::put`]; read that method first.
+//! [`RadixStore`](crate::RadixStore) calls [`Tree::put`]; read that method first.
 
 ghost use Rattle.std.specs.Prelude.{◌≡◌, ◌≢◌, ◌||◌, Some, None, true, is_some, not, OnOk, OnErr, IfOk};
 ghost use Rattle.ip_prefix.specs.Turns.{way, turn_of};
 ghost use Rattle.ip_prefix.specs.declared.turn.Turn.TheVariants.{Outside, Here};
-ghost use Rattle.rib_store.specs.Tree.{shape_of, is_routed, IsLeaf, IsFork, IsAtRoot, IsMarked, at, root, AreOf, IsShaped, IsPlaced, IsPlacedAt};
-ghost use Rattle.rib_store.specs.Slots.{route_found};
+ghost use Rattle.rib_store.specs.Tree.{shape_of, has_routes, IsLeaf, IsFork, IsAtRoot, HasCorrectMarks, at, root, IsOfFamily, IsRadixTree, IsInserted, IsInsertedAt};
+ghost use Rattle.rib_store.specs.Slots.{route_of_slot};
 
-use crate::tree::nodes::{leaf_with, lone, put_fork, put_root, slot_in};
+use crate::tree::nodes::{insert_fork_above, leaf_to_slot, new_leaf, new_node, replace_root};
 use crate::tree::routes::exchange_leaf;
 use crate::tree::{Fork, Node, Tree};
 use ip_prefix::{Prefix, Turn};
-use prefix_store::Packed;
+use prefix_store::PackedPrefix;
 use std::alloc::{AllocError, Global};
 use std::mem;
 
-impl<K: Packed, R: Drop> Tree<K, R> {
+impl<K: PackedPrefix, R: Drop> Tree<K, R> {
     /// Swaps the route at `key` and `route`, either of which may be `None`, and makes `key` a key.
-    /// Returns `true` if it wasn't one before. On error, which means that memory allocation fails,
-    /// the tree and `route` are unchanged.
+    /// Returns `true` if it wasn't one before. Fails if memory allocation fails; the tree and
+    /// `route` are unchanged then.
     #[cycle(put)]
     pub(crate) fn put(
         &mut self,
@@ -26,18 +26,18 @@ impl<K: Packed, R: Drop> Tree<K, R> {
         key: &Prefix,
         route: &mut Option<R>,
     ) -> Result<bool, AllocError>
-        requires shaped { IsShaped (shape_of K.network self.old) }
-        requires marked { IsMarked self.old }
-        requires family { AreOf key.now.family (shape_of K.network self.old) }
+        requires shaped { IsRadixTree (shape_of K.network self.old) }
+        requires marked { HasCorrectMarks self.old }
+        requires family { IsOfFamily key.now.family (shape_of K.network self.old) }
         requires kind { key.now.family ≡ K.family }
         ensures made { IfOk result (λ made. made ≡
             not (is_some (at (shape_of K.network self.old) (way key.now)))) }
-        ensures placed { OnOk result (IsPlaced (way key.now) (Some route.old)
+        ensures placed { OnOk result (IsInserted (way key.now) (Some route.old)
             (shape_of K.network self.old) (shape_of K.network self.new)) }
-        ensures given { OnOk result
-            (route.new ≡ route_found (at (shape_of K.network self.old) (way key.now))) }
-        ensures marked { OnOk result (IsMarked self.new) }
-        ensures brought { OnOk result (is_some route.old ≡ true → is_routed self.new ≡ true) }
+        ensures taken_out { OnOk result
+            (route.new ≡ route_of_slot (at (shape_of K.network self.old) (way key.now))) }
+        ensures marked { OnOk result (HasCorrectMarks self.new) }
+        ensures brought { OnOk result (is_some route.old ≡ true → has_routes self.new ≡ true) }
         ensures refused { OnErr result (self.new ≡ self.old) }
         ensures kept { OnErr result (route.new ≡ route.old) }
         ensures known { OnErr result (at (shape_of K.network self.old) (way key.now) ≡ None) }
@@ -49,16 +49,16 @@ impl<K: Packed, R: Drop> Tree<K, R> {
                 let node = &mut **node;
                 match prefix.turn(key) {
                     Turn::Left => {
-                        if node.is_routed_anyway(*routed, route.is_some(), Turn::Left) {
+                        if node.stays_marked(*routed, route.is_some(), Turn::Left) {
                             return node.left.put(alloc, key, route);
                         }
-                        put_marking(routed, &mut node.left, alloc, key, route)
+                        put_and_update_mark(routed, &mut node.left, alloc, key, route)
                     }
                     Turn::Right => {
-                        if node.is_routed_anyway(*routed, route.is_some(), Turn::Right) {
+                        if node.stays_marked(*routed, route.is_some(), Turn::Right) {
                             return node.right.put(alloc, key, route);
                         }
-                        put_marking(routed, &mut node.right, alloc, key, route)
+                        put_and_update_mark(routed, &mut node.right, alloc, key, route)
                     }
                     _ => put_at_root(self, alloc, key, route),
                 }
@@ -67,16 +67,16 @@ impl<K: Packed, R: Drop> Tree<K, R> {
                 let fork = &mut **fork;
                 match prefix.turn(key) {
                     Turn::Left => {
-                        if fork.is_routed_anyway(*routed, route.is_some(), Turn::Left) {
+                        if fork.stays_marked(*routed, route.is_some(), Turn::Left) {
                             return fork.left.put(alloc, key, route);
                         }
-                        put_marking(routed, &mut fork.left, alloc, key, route)
+                        put_and_update_mark(routed, &mut fork.left, alloc, key, route)
                     }
                     Turn::Right => {
-                        if fork.is_routed_anyway(*routed, route.is_some(), Turn::Right) {
+                        if fork.stays_marked(*routed, route.is_some(), Turn::Right) {
                             return fork.right.put(alloc, key, route);
                         }
-                        put_marking(routed, &mut fork.right, alloc, key, route)
+                        put_and_update_mark(routed, &mut fork.right, alloc, key, route)
                     }
                     _ => put_at_root(self, alloc, key, route),
                 }
@@ -87,62 +87,62 @@ impl<K: Packed, R: Drop> Tree<K, R> {
 }
 
 /// Swaps the route at `key` in the child `below` and `route`, as [`Tree::put`] does, and sets the
-/// mark `routed` of its parent to the mark of the child. The parent has no routes elsewhere. On
-/// error, all are unchanged.
+/// mark `routed` of the child's parent to the mark of the child. The parent must have no routes
+/// elsewhere. Fails if memory allocation fails; all are unchanged then.
 #[cycle(put)]
 #[inline(never)]
-fn put_marking<K: Packed, R: Drop>(
+fn put_and_update_mark<K: PackedPrefix, R: Drop>(
     routed: &mut bool,
     below: &mut Tree<K, R>,
     alloc: Global,
     key: &Prefix,
     route: &mut Option<R>,
 ) -> Result<bool, AllocError>
-    requires shaped { IsShaped (shape_of K.network below.old) }
-    requires marked { IsMarked below.old }
-    requires family { AreOf key.now.family (shape_of K.network below.old) }
+    requires shaped { IsRadixTree (shape_of K.network below.old) }
+    requires marked { HasCorrectMarks below.old }
+    requires family { IsOfFamily key.now.family (shape_of K.network below.old) }
     requires kind { key.now.family ≡ K.family }
     ensures made { IfOk result (λ made. made ≡
         not (is_some (at (shape_of K.network below.old) (way key.now)))) }
-    ensures placed { OnOk result (IsPlaced (way key.now) (Some route.old)
+    ensures placed { OnOk result (IsInserted (way key.now) (Some route.old)
         (shape_of K.network below.old) (shape_of K.network below.new)) }
-    ensures given { OnOk result
-        (route.new ≡ route_found (at (shape_of K.network below.old) (way key.now))) }
-    ensures marked { OnOk result (IsMarked below.new) }
-    ensures brought { OnOk result (is_some route.old ≡ true → is_routed below.new ≡ true) }
-    ensures routed { OnOk result (routed.new ≡ is_routed below.new) }
+    ensures taken_out { OnOk result
+        (route.new ≡ route_of_slot (at (shape_of K.network below.old) (way key.now))) }
+    ensures marked { OnOk result (HasCorrectMarks below.new) }
+    ensures brought { OnOk result (is_some route.old ≡ true → has_routes below.new ≡ true) }
+    ensures routed { OnOk result (routed.new ≡ has_routes below.new) }
     ensures refused { OnErr result (below.new ≡ below.old) }
     ensures same { OnErr result (routed.new ≡ routed.old) }
     ensures kept { OnErr result (route.new ≡ route.old) }
     ensures known { OnErr result (at (shape_of K.network below.old) (way key.now) ≡ None) }
 {
     let made = below.put(alloc, key, route)?;
-    *routed = below.is_routed();
+    *routed = below.has_routes();
     Ok(made)
 }
 
-/// Swaps the route at `key` and `route`, as [`Tree::put`] does, where `key` isn't below the root or
-/// the root has no children.
+/// Swaps the route at `key` and `route`, as [`Tree::put`] does. `key` must not be below the root,
+/// unless the root has no children.
 #[inline(never)]
-fn put_at_root<K: Packed, R: Drop>(
+fn put_at_root<K: PackedPrefix, R: Drop>(
     tree: &mut Tree<K, R>,
     alloc: Global,
     key: &Prefix,
     route: &mut Option<R>,
 ) -> Result<bool, AllocError>
     requires at_root { IsAtRoot K.network key.now tree.old }
-    requires shaped { IsShaped (shape_of K.network tree.old) }
-    requires marked { IsMarked tree.old }
-    requires family { AreOf key.now.family (shape_of K.network tree.old) }
+    requires shaped { IsRadixTree (shape_of K.network tree.old) }
+    requires marked { HasCorrectMarks tree.old }
+    requires family { IsOfFamily key.now.family (shape_of K.network tree.old) }
     requires kind { key.now.family ≡ K.family }
     ensures made { IfOk result (λ made. made ≡
         not (is_some (at (shape_of K.network tree.old) (way key.now)))) }
-    ensures placed { OnOk result (IsPlaced (way key.now) (Some route.old)
+    ensures placed { OnOk result (IsInserted (way key.now) (Some route.old)
         (shape_of K.network tree.old) (shape_of K.network tree.new)) }
-    ensures given { OnOk result
-        (route.new ≡ route_found (at (shape_of K.network tree.old) (way key.now))) }
-    ensures marked { OnOk result (IsMarked tree.new) }
-    ensures brought { OnOk result (is_some route.old ≡ true → is_routed tree.new ≡ true) }
+    ensures taken_out { OnOk result
+        (route.new ≡ route_of_slot (at (shape_of K.network tree.old) (way key.now))) }
+    ensures marked { OnOk result (HasCorrectMarks tree.new) }
+    ensures brought { OnOk result (is_some route.old ≡ true → has_routes tree.new ≡ true) }
     ensures refused { OnErr result (tree.new ≡ tree.old) }
     ensures kept { OnErr result (route.new ≡ route.old) }
     ensures known { OnErr result (at (shape_of K.network tree.old) (way key.now) ≡ None) }
@@ -150,7 +150,7 @@ fn put_at_root<K: Packed, R: Drop>(
     // This isn't inlined, so that the way down takes few instructions for each node.
     match tree {
         Tree::Empty => {
-            *tree = leaf_with(K::of(key), route);
+            *tree = new_leaf(K::pack(key), route);
             Ok(true)
         }
         Tree::Bare(prefix) => {
@@ -166,10 +166,10 @@ fn put_at_root<K: Packed, R: Drop>(
             let node = &mut **node;
             let brought = route.is_some();
             match prefix.turn(key) {
-                Turn::Outside => put_beside(tree, &prefix.wide(), alloc, key, route),
+                Turn::Outside => insert_outside(tree, &prefix.unpack(), alloc, key, route),
                 Turn::Here => {
                     let made = node.slot.put(route);
-                    *routed = node.is_routed();
+                    *routed = node.has_routes();
                     Ok(made)
                 }
                 _ => unreachable!(),
@@ -178,7 +178,7 @@ fn put_at_root<K: Packed, R: Drop>(
         Tree::Forked(_, prefix, _) => {
             let prefix = *prefix;
             match prefix.turn(key) {
-                Turn::Outside => put_beside(tree, &prefix.wide(), alloc, key, route),
+                Turn::Outside => insert_outside(tree, &prefix.unpack(), alloc, key, route),
                 Turn::Here => put_at_fork(tree, prefix, alloc, route),
                 _ => unreachable!(),
             }
@@ -187,9 +187,9 @@ fn put_at_root<K: Packed, R: Drop>(
 }
 
 /// Makes `key` a key with `route`, above the root or beside it below a new branch, and returns
-/// `true`. `prefix` is the prefix of the root, which must not cover `key`. On error, which means
-/// that memory allocation fails, the tree and `route` are unchanged.
-fn put_beside<K: Packed, R: Drop>(
+/// `true`. `prefix` is the prefix of the root, which must not cover `key`. Fails if memory
+/// allocation fails; the tree and `route` are unchanged then.
+fn insert_outside<K: PackedPrefix, R: Drop>(
     tree: &mut Tree<K, R>,
     prefix: &Prefix,
     alloc: Global,
@@ -197,17 +197,17 @@ fn put_beside<K: Packed, R: Drop>(
     route: &mut Option<R>,
 ) -> Result<bool, AllocError>
     requires root { root (shape_of K.network tree.old) ≡ Some (way prefix.now) }
-    requires shaped { IsShaped (shape_of K.network tree.old) }
-    requires marked { IsMarked tree.old }
+    requires shaped { IsRadixTree (shape_of K.network tree.old) }
+    requires marked { HasCorrectMarks tree.old }
     requires family { prefix.now.family ≡ key.now.family }
     requires kind { key.now.family ≡ K.family }
     requires outside { turn_of (way prefix.now) (way key.now) ≡ Outside }
     ensures made { IfOk result (λ made. made ≡ true) }
-    ensures placed { OnOk result (IsPlaced (way key.now) (Some route.old)
+    ensures placed { OnOk result (IsInserted (way key.now) (Some route.old)
         (shape_of K.network tree.old) (shape_of K.network tree.new)) }
-    ensures marked { OnOk result (IsMarked tree.new) }
+    ensures marked { OnOk result (HasCorrectMarks tree.new) }
     ensures routed { OnOk result
-        (is_routed tree.new ≡ (is_some route.old || is_routed tree.old)) }
+        (has_routes tree.new ≡ (is_some route.old || has_routes tree.old)) }
     ensures taken { OnOk result (route.new ≡ None) }
     ensures refused { OnErr result (tree.new ≡ tree.old) }
     ensures kept { OnErr result (route.new ≡ route.old) }
@@ -215,10 +215,10 @@ fn put_beside<K: Packed, R: Drop>(
     let common = prefix.common(key);
     let side = common.turn_covered(prefix);
     if let Turn::Here = common.turn_covered(key) {
-        let mut node = lone(alloc)?;
-        node.slot = slot_in(leaf_with(K::of(key), route));
+        let mut node = new_node(alloc)?;
+        node.slot = leaf_to_slot(new_leaf(K::pack(key), route));
         let below = mem::replace(tree, Tree::Empty);
-        put_root(tree, K::of(&common), node, below, side);
+        replace_root(tree, K::pack(&common), node, below, side);
         return Ok(true);
     }
     let fork = Box::new(
@@ -228,47 +228,47 @@ fn put_beside<K: Packed, R: Drop>(
             right: Tree::Empty,
         },
     )?;
-    let leaf = leaf_with(K::of(key), route);
-    put_fork(tree, K::of(&common), fork, leaf, side);
+    let leaf = new_leaf(K::pack(key), route);
+    insert_fork_above(tree, K::pack(&common), fork, leaf, side);
     Ok(true)
 }
 
-/// Makes the prefix of the branch at the root, `prefix`, a key with `route`, and returns `true`. On
-/// error, which means that memory allocation fails, the tree and `route` are unchanged.
-fn put_at_fork<K: Packed, R: Drop>(
+/// Makes the prefix of the branch at the root, `prefix`, a key with `route`, and returns `true`.
+/// Fails if memory allocation fails; the tree and `route` are unchanged then.
+fn put_at_fork<K: PackedPrefix, R: Drop>(
     tree: &mut Tree<K, R>,
     prefix: K,
     alloc: Global,
     route: &mut Option<R>,
 ) -> Result<bool, AllocError>
     requires fork { IsFork prefix tree.old }
-    requires shaped { IsShaped (shape_of K.network tree.old) }
-    requires marked { IsMarked tree.old }
+    requires shaped { IsRadixTree (shape_of K.network tree.old) }
+    requires marked { HasCorrectMarks tree.old }
     ensures made { IfOk result (λ made. made ≡ true) }
-    ensures placed { OnOk result (IsPlacedAt (K.network prefix) (Some route.old)
+    ensures placed { OnOk result (IsInsertedAt (K.network prefix) (Some route.old)
         (shape_of K.network tree.old) (shape_of K.network tree.new)) }
-    ensures marked { OnOk result (IsMarked tree.new) }
+    ensures marked { OnOk result (HasCorrectMarks tree.new) }
     ensures routed { OnOk result
-        (is_routed tree.new ≡ (is_some route.old || is_routed tree.old)) }
+        (has_routes tree.new ≡ (is_some route.old || has_routes tree.old)) }
     ensures taken { OnOk result (route.new ≡ None) }
     ensures refused { OnErr result (tree.new ≡ tree.old) }
     ensures kept { OnErr result (route.new ≡ route.old) }
 {
-    let mut node = lone(alloc)?;
+    let mut node = new_node(alloc)?;
     if let Tree::Forked(_, _, fork) = tree {
         let left = mem::replace(&mut fork.left, Tree::Empty);
         let right = mem::replace(&mut fork.right, Tree::Empty);
-        let slot = slot_in(leaf_with(prefix, route));
+        let slot = leaf_to_slot(new_leaf(prefix, route));
         *node = Node { slot, left, right };
-        let routed = node.is_routed();
+        let routed = node.has_routes();
         *tree = Tree::Rooted(routed, prefix, node);
     }
     Ok(true)
 }
 
-/// Swaps the route at `key` and `route`, as [`Tree::put`] does, where `prefix` is the only key of
-/// the tree. Returns `true` if `key` wasn't a key before.
-fn put_at_leaf<K: Packed, R: Drop>(
+/// Swaps the route at `key` and `route`, as [`Tree::put`] does, in a tree whose only key is
+/// `prefix`. Returns `true` if `key` wasn't a key before.
+fn put_at_leaf<K: PackedPrefix, R: Drop>(
     tree: &mut Tree<K, R>,
     prefix: K,
     alloc: Global,
@@ -280,30 +280,30 @@ fn put_at_leaf<K: Packed, R: Drop>(
     requires kind { key.now.family ≡ K.family }
     ensures made { IfOk result (λ made. made ≡
         not (is_some (at (shape_of K.network tree.old) (way key.now)))) }
-    ensures placed { OnOk result (IsPlaced (way key.now) (Some route.old)
+    ensures placed { OnOk result (IsInserted (way key.now) (Some route.old)
         (shape_of K.network tree.old) (shape_of K.network tree.new)) }
-    ensures given { OnOk result
-        (route.new ≡ route_found (at (shape_of K.network tree.old) (way key.now))) }
-    ensures marked { OnOk result (IsMarked tree.new) }
+    ensures taken_out { OnOk result
+        (route.new ≡ route_of_slot (at (shape_of K.network tree.old) (way key.now))) }
+    ensures marked { OnOk result (HasCorrectMarks tree.new) }
     ensures quiet { OnOk result (route.old ≡ None →
         turn_of (way (K.network prefix)) (way key.now) ≢ Here →
-        is_routed tree.new ≡ is_routed tree.old) }
-    ensures brought { OnOk result (is_some route.old ≡ true → is_routed tree.new ≡ true) }
+        has_routes tree.new ≡ has_routes tree.old) }
+    ensures brought { OnOk result (is_some route.old ≡ true → has_routes tree.new ≡ true) }
     ensures refused { OnErr result (tree.new ≡ tree.old) }
     ensures kept { OnErr result (route.new ≡ route.old) }
     ensures known { OnErr result (at (shape_of K.network tree.old) (way key.now) ≡ None) }
 {
     let side = prefix.turn(key);
     match side {
-        Turn::Outside => put_beside(tree, &prefix.wide(), alloc, key, route),
+        Turn::Outside => insert_outside(tree, &prefix.unpack(), alloc, key, route),
         Turn::Here => {
             exchange_leaf(tree, prefix, route);
             Ok(false)
         }
         Turn::Left | Turn::Right => {
-            let mut node = lone(alloc)?;
-            node.slot = slot_in(mem::replace(tree, Tree::Empty));
-            put_root(tree, prefix, node, leaf_with(K::of(key), route), side);
+            let mut node = new_node(alloc)?;
+            node.slot = leaf_to_slot(mem::replace(tree, Tree::Empty));
+            replace_root(tree, prefix, node, new_leaf(K::pack(key), route), side);
             Ok(true)
         }
     }

@@ -3,29 +3,29 @@
 
 ghost use Rattle.std.specs.Prelude.{◌≡◌, ◌+◌, ◌<◌, ◌≤◌, ◌⊎◌, ◌++◌, Some, None, true, false, is_some, not, option_to_list, IsSome, length, map, vec_capacity};
 ghost use Rattle.ip_prefix.specs.Turns.{way};
-ghost use Rattle.rib_store.specs.Tree.{shape_of, leaf_slot, is_filled, is_routed, IsLeaf, IsMarked, at, root, slot_of, vacated, emptied, IsShaped, IsPut};
-ghost use Rattle.rib_store.specs.Slots.{route_found};
+ghost use Rattle.rib_store.specs.Tree.{shape_of, leaf_route, is_filled, has_routes, IsLeaf, HasCorrectMarks, at, root, slot_of, vacated, without_routes, IsRadixTree, IsUpdatedAt};
+ghost use Rattle.rib_store.specs.Slots.{route_of_slot};
 ghost use Rattle.rib_store.specs.Walks.{all_routes};
 
-use crate::tree::nodes::leaf_with;
+use crate::tree::nodes::new_leaf;
 use crate::tree::{Slot, Tree};
 use ip_prefix::{Prefix, Turn};
-use prefix_store::Packed;
+use prefix_store::PackedPrefix;
 use std::mem;
 
-impl<K: Packed, R: Drop> Tree<K, R> {
+impl<K: PackedPrefix, R: Drop> Tree<K, R> {
     /// Swaps the route at `key`, which must be a key, and `route`, either of which may be `None`.
     #[cycle(exchange)]
     pub(crate) fn exchange(&mut self, key: &Prefix, route: &mut Option<R>)
-        requires shaped { IsShaped (shape_of K.network self.old) }
-        requires marked { IsMarked self.old }
+        requires shaped { IsRadixTree (shape_of K.network self.old) }
+        requires marked { HasCorrectMarks self.old }
         requires key { IsSome (at (shape_of K.network self.old) (way key.now)) }
-        ensures shaped { IsShaped (shape_of K.network self.new) }
-        ensures marked { IsMarked self.new }
-        ensures slots { IsPut (at (shape_of K.network self.old)) (way key.now) (Some route.old)
+        ensures shaped { IsRadixTree (shape_of K.network self.new) }
+        ensures marked { HasCorrectMarks self.new }
+        ensures slots { IsUpdatedAt (at (shape_of K.network self.old)) (way key.now) (Some route.old)
             (at (shape_of K.network self.new)) }
-        ensures given { at (shape_of K.network self.old) (way key.now) ≡ Some route.new }
-        ensures brought { is_some route.old ≡ true → is_routed self.new ≡ true }
+        ensures taken_out { at (shape_of K.network self.old) (way key.now) ≡ Some route.new }
+        ensures brought { is_some route.old ≡ true → has_routes self.new ≡ true }
         ensures root { root (shape_of K.network self.new) ≡ root (shape_of K.network self.old) }
     {
         // Where the mark of a node stays, the call for the child comes last, so that the compiler
@@ -46,19 +46,19 @@ impl<K: Packed, R: Drop> Tree<K, R> {
                     Turn::Outside => {}
                     Turn::Here => {
                         node.slot.exchange(route);
-                        *routed = node.is_routed();
+                        *routed = node.has_routes();
                     }
                     Turn::Left => {
-                        if node.is_routed_anyway(*routed, route.is_some(), Turn::Left) {
+                        if node.stays_marked(*routed, route.is_some(), Turn::Left) {
                             return node.left.exchange(key, route);
                         }
-                        exchange_marking(routed, &mut node.left, key, route);
+                        exchange_and_update_mark(routed, &mut node.left, key, route);
                     }
                     Turn::Right => {
-                        if node.is_routed_anyway(*routed, route.is_some(), Turn::Right) {
+                        if node.stays_marked(*routed, route.is_some(), Turn::Right) {
                             return node.right.exchange(key, route);
                         }
-                        exchange_marking(routed, &mut node.right, key, route);
+                        exchange_and_update_mark(routed, &mut node.right, key, route);
                     }
                 }
             }
@@ -66,16 +66,16 @@ impl<K: Packed, R: Drop> Tree<K, R> {
                 let fork = &mut **fork;
                 match prefix.turn_covered(key) {
                     Turn::Left => {
-                        if fork.is_routed_anyway(*routed, route.is_some(), Turn::Left) {
+                        if fork.stays_marked(*routed, route.is_some(), Turn::Left) {
                             return fork.left.exchange(key, route);
                         }
-                        exchange_marking(routed, &mut fork.left, key, route);
+                        exchange_and_update_mark(routed, &mut fork.left, key, route);
                     }
                     Turn::Right => {
-                        if fork.is_routed_anyway(*routed, route.is_some(), Turn::Right) {
+                        if fork.stays_marked(*routed, route.is_some(), Turn::Right) {
                             return fork.right.exchange(key, route);
                         }
-                        exchange_marking(routed, &mut fork.right, key, route);
+                        exchange_and_update_mark(routed, &mut fork.right, key, route);
                     }
                     _ => {}
                 }
@@ -84,19 +84,19 @@ impl<K: Packed, R: Drop> Tree<K, R> {
     }
 }
 
-impl<K: Packed, R: Drop> Tree<K, R> {
-    /// Moves all routes to the end of `taken`, in the order of their prefixes. `taken` must have
-    /// spare capacity for them. Skips nodes without a route below them.
-    pub(crate) fn take_routes(&mut self, taken: &mut Vec<R>)
-        requires marked { IsMarked self.old }
+impl<K: PackedPrefix, R: Drop> Tree<K, R> {
+    /// Moves all routes to the end of `taken`, in the order of their prefixes. The keys stay.
+    /// `taken` must have spare capacity for all routes. Skips nodes without a route below them.
+    pub(crate) fn drain_routes(&mut self, taken: &mut Vec<R>)
+        requires marked { HasCorrectMarks self.old }
         requires room { length taken.old.items + length (all_routes (shape_of K.network self.old))
             ≤ vec_capacity taken.old }
         ensures taken { taken.new.items ≡ taken.old.items
             ++ map (λ found. found.1) (all_routes (shape_of K.network self.old)) }
         ensures room { vec_capacity taken.new ≡ vec_capacity taken.old }
-        ensures shape { shape_of K.network self.new ≡ emptied (shape_of K.network self.old) }
-        ensures marked { IsMarked self.new }
-        ensures routed { is_routed self.new ≡ false }
+        ensures shape { shape_of K.network self.new ≡ without_routes (shape_of K.network self.old) }
+        ensures marked { HasCorrectMarks self.new }
+        ensures routed { has_routes self.new ≡ false }
     {
         match self {
             Tree::Empty | Tree::Bare(_) => {}
@@ -112,9 +112,9 @@ impl<K: Packed, R: Drop> Tree<K, R> {
                 }
                 *routed = false;
                 let node = &mut **node;
-                node.slot.take_route(taken);
-                node.left.take_routes(taken);
-                node.right.take_routes(taken);
+                node.slot.drain_route(taken);
+                node.left.drain_routes(taken);
+                node.right.drain_routes(taken);
             }
             Tree::Forked(routed, _, fork) => {
                 if !*routed {
@@ -122,53 +122,54 @@ impl<K: Packed, R: Drop> Tree<K, R> {
                 }
                 *routed = false;
                 let fork = &mut **fork;
-                fork.left.take_routes(taken);
-                fork.right.take_routes(taken);
+                fork.left.drain_routes(taken);
+                fork.right.drain_routes(taken);
             }
         }
     }
 }
 
 /// Swaps the route at `key` in the child `below` and `route`, as [`Tree::exchange`] does, and sets
-/// the mark `routed` of its parent to the mark of the child. The parent has no routes elsewhere.
+/// the mark `routed` of the child's parent to the mark of the child. The parent must have no routes
+/// elsewhere.
 #[cycle(exchange)]
 #[inline(never)]
-fn exchange_marking<K: Packed, R: Drop>(
+fn exchange_and_update_mark<K: PackedPrefix, R: Drop>(
     routed: &mut bool,
     below: &mut Tree<K, R>,
     key: &Prefix,
     route: &mut Option<R>,
 )
-    requires shaped { IsShaped (shape_of K.network below.old) }
-    requires marked { IsMarked below.old }
+    requires shaped { IsRadixTree (shape_of K.network below.old) }
+    requires marked { HasCorrectMarks below.old }
     requires key { IsSome (at (shape_of K.network below.old) (way key.now)) }
-    ensures shaped { IsShaped (shape_of K.network below.new) }
-    ensures marked { IsMarked below.new }
-    ensures slots { IsPut (at (shape_of K.network below.old)) (way key.now) (Some route.old)
+    ensures shaped { IsRadixTree (shape_of K.network below.new) }
+    ensures marked { HasCorrectMarks below.new }
+    ensures slots { IsUpdatedAt (at (shape_of K.network below.old)) (way key.now) (Some route.old)
         (at (shape_of K.network below.new)) }
-    ensures given { at (shape_of K.network below.old) (way key.now) ≡ Some route.new }
-    ensures brought { is_some route.old ≡ true → is_routed below.new ≡ true }
+    ensures taken_out { at (shape_of K.network below.old) (way key.now) ≡ Some route.new }
+    ensures brought { is_some route.old ≡ true → has_routes below.new ≡ true }
     ensures root { root (shape_of K.network below.new) ≡ root (shape_of K.network below.old) }
-    ensures routed { routed.new ≡ is_routed below.new }
+    ensures routed { routed.new ≡ has_routes below.new }
 {
     below.exchange(key, route);
-    *routed = below.is_routed();
+    *routed = below.has_routes();
 }
 
 /// Swaps the route at `prefix`, the only key of the tree, and `route`, either of which may be
 /// `None`.
-pub(crate) fn exchange_leaf<K: Packed, R: Drop>(
+pub(crate) fn exchange_leaf<K: PackedPrefix, R: Drop>(
     tree: &mut Tree<K, R>,
     prefix: K,
     route: &mut Option<R>,
 )
     requires { IsLeaf prefix tree.old }
     ensures leaf { IsLeaf prefix tree.new }
-    ensures marked { IsMarked tree.new }
-    ensures slot { leaf_slot tree.new ≡ route.old }
-    ensures given { leaf_slot tree.old ≡ route.new }
+    ensures marked { HasCorrectMarks tree.new }
+    ensures slot { leaf_route tree.new ≡ route.old }
+    ensures taken_out { leaf_route tree.old ≡ route.new }
 {
-    let new = leaf_with(prefix, route);
+    let new = new_leaf(prefix, route);
     if let Tree::Leaf(_, old) = mem::replace(tree, new) {
         *route = Some(old);
     }
@@ -180,7 +181,7 @@ impl<R: Drop> Slot<R> {
     pub(crate) fn exchange(&mut self, route: &mut Option<R>)
         requires { IsSome (slot_of self.old) }
         ensures slot { slot_of self.new ≡ Some route.old }
-        ensures given { slot_of self.old ≡ Some route.new }
+        ensures taken_out { slot_of self.old ≡ Some route.new }
     {
         let new = match route.take() {
             Some(route) => Slot::Filled(route),
@@ -195,10 +196,10 @@ impl<R: Drop> Slot<R> {
     /// one of a key. Returns `true` if it wasn't before; `route` becomes `None` then.
     pub(crate) fn put(&mut self, route: &mut Option<R>) -> bool
         ensures slot { slot_of self.new ≡ Some route.old }
-        ensures given { route.new ≡ route_found (slot_of self.old) }
+        ensures taken_out { route.new ≡ route_of_slot (slot_of self.old) }
         ensures made { result ≡ not (is_some (slot_of self.old)) }
     {
-        let made = self.kept().is_none();
+        let made = self.route_if_key().is_none();
         if made {
             *self = Slot::Vacant;
         }
@@ -207,11 +208,11 @@ impl<R: Drop> Slot<R> {
     }
 
     /// Moves the route, if there is one, to the end of `taken`, which must have spare capacity for
-    /// it.
-    fn take_route(&mut self, taken: &mut Vec<R>)
+    /// it. The key stays.
+    fn drain_route(&mut self, taken: &mut Vec<R>)
         requires { length taken.old.items < vec_capacity taken.old ⊎ is_filled self.old ≡ false }
         ensures taken { taken.new.items ≡ taken.old.items
-            ++ option_to_list (route_found (slot_of self.old)) }
+            ++ option_to_list (route_of_slot (slot_of self.old)) }
         ensures room { vec_capacity taken.new ≡ vec_capacity taken.old }
         ensures slot { self.new ≡ vacated self.old }
     {
@@ -223,9 +224,9 @@ impl<R: Drop> Slot<R> {
     }
 
     /// Makes the slot one of no key, and drops its route.
-    pub(crate) fn vacate(&mut self)
+    pub(crate) fn remove_key(&mut self)
         ensures { slot_of self.new ≡ None }
     {
-        *self = Slot::Branch;
+        *self = Slot::NoKey;
     }
 }

@@ -21,8 +21,8 @@ fn long_texts_are_kept_as_they_grow(rt: HostRuntime) -> Result<(), Fail> {
 /// Appends 64496 and a space, the greatest number of 64 bits, and 7.
 fn put_numbers(text: &mut Text) -> Result<(), AllocError> {
     text.put_ended_decimal(64_496, b' ')?;
-    text.put_long_decimal(18_446_744_073_709_551_615)?;
-    text.put_long_decimal(7)
+    text.put_decimal_u64(18_446_744_073_709_551_615)?;
+    text.put_decimal_u64(7)
 }
 
 #[test]
@@ -83,7 +83,7 @@ fn assert_piece(rt: &impl Abort, alloc: Global, octets: &[u8], piece: u32) -> Re
 fn put_all_kinds(text: &mut Text) -> Result<(), AllocError> {
     text.push(b'|')?;
     text.put_decimal(1)?;
-    text.put_long_decimal(4_294_967_296)?;
+    text.put_decimal_u64(4_294_967_296)?;
     text.put_ended_decimal(2, b',')?;
     text.put_led_decimal(b'=', 3)?;
     text.put_ended_decimals(&[4, 5], b';')?;

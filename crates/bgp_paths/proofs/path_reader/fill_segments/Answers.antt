@@ -6,8 +6,8 @@ use Rattle.octet_forms.proofs.Lists.{nonempty}
 use Rattle.octet_forms.proofs.Sequences.{one_more, none_at_all}
 use Rattle.bgp_paths.specs.declared.segment.Segment.{Segment}
 use Rattle.bgp_paths.specs.Path.{SpellsSegment}
-use Rattle.bgp_paths.specs.Readers.{IsFramed, Refuses}
-use Rattle.bgp_paths.proofs.OneFront.{segment_code}
+use Rattle.bgp_paths.specs.Readers.{IsSplitSegment, Refuses}
+use Rattle.bgp_paths.proofs.HasOneFront.{segment_code}
 use Rattle.bgp_paths.proofs.Refusing.{refused_rest, refused_numbers, segment_framed}
 use Rattle.bgp_paths.proofs.path_reader.fill_segments.Goals as goal
 
@@ -24,7 +24,7 @@ returns-in_err-fill_numbers-clause-refused c =
     let octets = c.args.octets.now in
     let rest = c.loop-rest.rest.now in
     let f = c.in-Some.framed in
-    let framed : (count : ℕ) × IsFramed width f.kind count f.body.now f.rest.now rest = c.in-Some.ensures.some in
+    let framed : (count : ℕ) × IsSplitSegment width f.kind count f.body.now f.rest.now rest = c.in-Some.ensures.some in
     let some : rest ≡ [] → ⊥ = λ e. nonempty rest (sym c.is_empty.ensures ∙ c.loop-rest-test.true) e in
     let fault = c.in_err-fill_numbers.field-0.0 in
     let none = refused_numbers width f.kind framed.0 f.body.now f.rest.now rest fault framed.1 c.in_err-fill_numbers.ensures.refused in
@@ -38,7 +38,7 @@ loop-rest-preserved c =
     let octets = c.args.octets.now in
     let f = c.in-Some.framed in
     let count = c.loop-rest.count in
-    let framed : (count : ℕ) × IsFramed width f.kind count f.body.now f.rest.now c.loop-rest.rest.now = c.in-Some.ensures.some in
+    let framed : (count : ℕ) × IsSplitSegment width f.kind count f.body.now f.rest.now c.loop-rest.rest.now = c.in-Some.ensures.some in
     let segment : Segment = record { numbers = c.fill_numbers.new.numbers.items; kind = f.kind } in
     let put : take (count + 1) (slice_set c.if-count-len.segments.items count segment) ≡ take count c.loop-rest.segments.items ++ segment ∷ [] = grind (arith, common_steps) in
     record {

@@ -5,29 +5,29 @@ use Rattle.ip_prefix.specs.Network.{SpellsNetwork}
 use Rattle.bgp_wire.specs.Attribute.{SpellsAttribute}
 use Rattle.bgp_wire.specs.Parts.{SpellsParts}
 use Rattle.bgp_wire.specs.Reach.{reach_hop, reach_prefixes}
-use Rattle.bgp_wire.specs.Update.{sized_octets, IsUpdate, SpellsUpdate}
+use Rattle.bgp_wire.specs.Update.{with_u16_length, IsUpdate, SpellsUpdate}
 use Rattle.bgp_paths.proofs.Refusing.{refused_on}
 use Rattle.bgp_wire.proofs.Reaching.{same_sized, same_update}
 use Rattle.bgp_wire.proofs.update.fill_update.Goals as goal
 
-pub returns-in_default-split_sized-clause-refused : goal.returns-in_default-split_sized-clause-refused
-returns-in_default-split_sized-clause-refused c update s =
+pub returns-in_default-split_length_prefixed-clause-refused : goal.returns-in_default-split_length_prefixed-clause-refused
+returns-in_default-split_length_prefixed-clause-refused c update s =
     let first = c.in-Some.ensures.some in
-    c.in_default-split_sized.ensures.none s.attributes s.announced s.whole.attributes_fit
-    (same_sized c.in-Some.withdrawn.now s.withdrawn c.in-Some.rest.now (sized_octets s.attributes ++ s.announced) first.0 s.whole.withdrawn_fits (sym first.1 ∙ s.whole.whole)).1
+    c.in_default-split_length_prefixed.ensures.none s.attributes s.announced s.whole.attributes_fit
+    (same_sized c.in-Some.withdrawn.now s.withdrawn c.in-Some.rest.now (with_u16_length s.attributes ++ s.announced) first.0 s.whole.withdrawn_fits (sym first.1 ∙ s.whole.whole)).1
 
 -- the parts that were found are those of any UPDATE of the body
-found : (withdrawn rest attributes announced body : List ℕ) → (length withdrawn < 2 ^ 16) × (body ≡ sized_octets withdrawn ++ rest) → (length attributes < 2 ^ 16) × (rest ≡ sized_octets attributes ++ announced)
+found : (withdrawn rest attributes announced body : List ℕ) → (length withdrawn < 2 ^ 16) × (body ≡ with_u16_length withdrawn ++ rest) → (length attributes < 2 ^ 16) × (rest ≡ with_u16_length attributes ++ announced)
     → (others : List ℕ × (List ℕ × List ℕ)) → IsUpdate others.0 others.1.0 others.1.1 body → (others.0 ≡ withdrawn) × (others.1.0 ≡ attributes) × (others.1.1 ≡ announced)
 found withdrawn rest attributes announced body first second others s =
     same_update others.0 others.1.0 others.1.1 withdrawn attributes announced body s
-    record { withdrawn_fits = first.0; attributes_fit = second.0; whole = first.1 ∙ ap (λ l. sized_octets withdrawn ++ l) second.1 }
+    record { withdrawn_fits = first.0; attributes_fit = second.0; whole = first.1 ∙ ap (λ l. with_u16_length withdrawn ++ l) second.1 }
 
-pub returns-in_err-fill_said-clause-refused : goal.returns-in_err-fill_said-clause-refused
-returns-in_err-fill_said-clause-refused c =
-    let f = c.in-Some-split_sized in
+pub returns-in_err-fill_from_attributes-clause-refused : goal.returns-in_err-fill_from_attributes-clause-refused
+returns-in_err-fill_from_attributes-clause-refused c =
+    let f = c.in-Some-split_length_prefixed in
     let same = found c.in-Some.withdrawn.now c.in-Some.rest.now f.attributes.now f.announced.now c.args.body.now c.in-Some.ensures.some f.ensures.some in
-    refused_on (SpellsUpdate c.args.width) (SpellsParts c.args.width) c.args.body.now f.attributes.now c.in_err-fill_said.field-0.0 c.from_residual.result c.from_residual.ensures.1
+    refused_on (SpellsUpdate c.args.width) (SpellsParts c.args.width) c.args.body.now f.attributes.now c.in_err-fill_from_attributes.field-0.0 c.from_residual.result c.from_residual.ensures.1
     (λ update s. (
       record {
         withdrawn = update.withdrawn;
@@ -43,11 +43,11 @@ returns-in_err-fill_said-clause-refused c =
         said = record { reach = s.said.reach; together = s.said.together; hop = refl; announced = refl };
       },
     ))
-    c.in_err-fill_said.ensures.refused
+    c.in_err-fill_from_attributes.ensures.refused
 
 pub returns-in_err-fill_prefixes-clause-refused : goal.returns-in_err-fill_prefixes-clause-refused
 returns-in_err-fill_prefixes-clause-refused c =
-    let f = c.in-Some-split_sized in
+    let f = c.in-Some-split_length_prefixed in
     let passed = c.from_residual-in_err-fill_prefixes in
     let same = found c.in-Some.withdrawn.now c.in-Some.rest.now f.attributes.now f.announced.now c.args.body.now c.in-Some.ensures.some f.ensures.some in
     let Spells = SpellsAll (SpellsNetwork V4) in
@@ -57,7 +57,7 @@ returns-in_err-fill_prefixes-clause-refused c =
 
 pub returns-in_err-fill_prefixes-2-clause-refused : goal.returns-in_err-fill_prefixes-2-clause-refused
 returns-in_err-fill_prefixes-2-clause-refused c =
-    let f = c.in-Some-split_sized in
+    let f = c.in-Some-split_length_prefixed in
     let passed = c.from_residual-in_err-fill_prefixes-2 in
     let same = found c.in-Some.withdrawn.now c.in-Some.rest.now f.attributes.now f.announced.now c.args.body.now c.in-Some.ensures.some f.ensures.some in
     let Spells = SpellsAll (SpellsNetwork V4) in

@@ -1,7 +1,7 @@
 use Rattle.std.proofs.Common.{◌≡◌, ◌⊎◌, ◌∙◌, [], subst, sym}
 use Rattle.std.specs.Io.Buffered.{writer_contents}
 use Rattle.std.specs.Io.KnownBytes.{Consumes}
-use Rattle.mrt_wire.specs.Results.{Took}
+use Rattle.mrt_wire.specs.Results.{TakesFront}
 use Rattle.bgpdump.specs.Endings.{left_of}
 use Rattle.bgpdump_tool.specs.Course.{cut_texts, play_texts}
 use Rattle.bgpdump_tool.specs.Run.{EndedByInput, all_results, outputs_of}
@@ -20,7 +20,7 @@ pub returns-clause-whole_records : goal.returns-clause-whole_records
 returns-clause-whole_records g c lines reads by = of_input _ c.close.result.input c.run_play-outcome.new.input c.close.ensures.input (λ taken after frames rest took splits.
     leaves_written g.O.Write.contents g.E.Write.contents _ _ _ c.run_play-outcome.result c.close.result.outcome (cut_texts lines (all_results c.args.stamp frames [])) c.close.result.writers
     c.in-Ok.ensures.written by
-    (λ input. c.run_play-outcome.ensures.whole_records input lines reads taken after frames rest (subst (λ old. Took old (left_of g.R.Read.remaining c.run_play-outcome.new.input) taken after) (sym c.in-Ok.ensures.left) took) splits)
+    (λ input. c.run_play-outcome.ensures.whole_records input lines reads taken after frames rest (subst (λ old. TakesFront old (left_of g.R.Read.remaining c.run_play-outcome.new.input) taken after) (sym c.in-Ok.ensures.left) took) splits)
     c.close.ensures.told c.close.ensures.kept)
 
 pub returns-clause-taken : goal.returns-clause-taken
@@ -31,7 +31,7 @@ pub returns-clause-too_long : goal.returns-clause-too_long
 returns-clause-too_long g c long = of_input _ c.close.result.input c.run_play-outcome.new.input c.close.ensures.input (λ taken after took.
     c.run_play-outcome.ensures.too_long
     (sym (told_by_input c.run_play-outcome.result c.close.result.outcome c.close.result.writers c.close.ensures.told c.close.ensures.lost (subst EndedByInput (sym long) tt)) ∙ long)
-    taken after (subst (λ old. Took old (left_of g.R.Read.remaining c.run_play-outcome.new.input) taken after) (sym c.in-Ok.ensures.left) took))
+    taken after (subst (λ old. TakesFront old (left_of g.R.Read.remaining c.run_play-outcome.new.input) taken after) (sym c.in-Ok.ensures.left) took))
 
 pub returns-clause-read_fault : goal.returns-clause-read_fault
 returns-clause-read_fault g c fault = of_input _ c.close.result.input c.run_play-outcome.new.input c.close.ensures.input

@@ -17,7 +17,7 @@ returns-in-Ok c = record {
 
 pub returns : goal.returns
 returns c = record {
-  answers = subst (λ words. Answers (map string_bytes words) (Err c.parse_fault.result)) c.as_slice.ensures.value
-      (answers_failed (app_of c.in_ok-command.field-0) (map string_bytes c.as_slice.result.now) c.in-Err.error c.parse_fault.result
-      c.in_ok-command.ensures.app c.in-Err.ensures.kinds c.parse_fault.ensures);
+  answers = subst (λ words. Answers (map string_bytes words) (Err c.fault_of_parse_error.result)) c.as_slice.ensures.value
+      (answers_failed (app_of c.in_ok-command.field-0) (map string_bytes c.as_slice.result.now) c.in-Err.error c.fault_of_parse_error.result
+      c.in_ok-command.ensures.app c.in-Err.ensures.kinds c.fault_of_parse_error.ensures);
 }

@@ -1,7 +1,7 @@
 use Rattle.std.proofs.Common.{◌||◌}
 use Rattle.bgpdump_lines.specs.KnownOctets.{ends_on_octets}
-use Rattle.bgpdump_tool.specs.Course.{PlaySawEnd, play_texts}
-use Rattle.bgpdump_tool.proofs.PlayEndLaws.{PlayEnds-finished, PlayEnds-stopped, Writes-cut, IsTaken-finished, IsTaken-ended, length-ended, TakesWanted-finished, TakesWanted-stopped, Began-finished, Began-stopped}
+use Rattle.bgpdump_tool.specs.Course.{ScriptSawEnd, play_texts}
+use Rattle.bgpdump_tool.proofs.PlayEndLaws.{PlayEnds-finished, PlayEnds-stopped, Writes-cut, IsTaken-finished, IsTaken-ended, length-ended, TakesWanted-finished, TakesWanted-stopped, HasBegun-finished, HasBegun-stopped}
 use Rattle.bgpdump_tool.proofs.play.run_play.Goals as goal
 
 pub returns-in-Ok-clause-text : goal.returns-in-Ok-clause-text
@@ -33,18 +33,18 @@ returns-in-Err-clause-wanted g c = TakesWanted-stopped c.args.stamp _ c.args.scr
 
 pub returns-in-Ok-clause-began : goal.returns-in-Ok-clause-began
 returns-in-Ok-clause-began g c = λ broken lines reading.
-    Began-finished c.args.stamp _ c.args.script.now _ _ _ _ (rw c.new-session.ensures.source at c.in-Ok.ensures.plays) c.finish_outputs-outcome.ensures.out c.finish_outputs-outcome.ensures.err lines reading
+    HasBegun-finished c.args.stamp _ c.args.script.now _ _ _ _ (rw c.new-session.ensures.source at c.in-Ok.ensures.plays) c.finish_outputs-outcome.ensures.out c.finish_outputs-outcome.ensures.err lines reading
 
 pub returns-in-Err-clause-began : goal.returns-in-Err-clause-began
 returns-in-Err-clause-began g c = λ broken lines reading.
-    Began-stopped c.args.stamp _ c.args.script.now _ _ _ c.in-Err.outcome (rw c.new-session.ensures.source at c.in-Err.ensures.plays) lines reading
+    HasBegun-stopped c.args.stamp _ c.args.script.now _ _ _ c.in-Err.outcome (rw c.new-session.ensures.source at c.in-Err.ensures.plays) lines reading
 
 pub returns-in-Ok-clause-octets : goal.returns-in-Ok-clause-octets
 returns-in-Ok-clause-octets g c short lines reading =
     let taken = returns-in-Ok-clause-taken g c short in
-    ends_on_octets c.args.stamp _ (PlaySawEnd c.args.stamp _ lines) (play_texts lines) _ _ _ _ taken.0 taken.1 (returns-in-Ok-clause-text g c short lines reading)
+    ends_on_octets c.args.stamp _ (ScriptSawEnd c.args.stamp _ lines) (play_texts lines) _ _ _ _ taken.0 taken.1 (returns-in-Ok-clause-text g c short lines reading)
 
 pub returns-in-Err-clause-octets : goal.returns-in-Err-clause-octets
 returns-in-Err-clause-octets g c short lines reading =
     let taken = returns-in-Err-clause-taken g c short in
-    ends_on_octets c.args.stamp _ (PlaySawEnd c.args.stamp _ lines) (play_texts lines) _ _ _ _ taken.0 taken.1 (returns-in-Err-clause-text g c short lines reading)
+    ends_on_octets c.args.stamp _ (ScriptSawEnd c.args.stamp _ lines) (play_texts lines) _ _ _ _ taken.0 taken.1 (returns-in-Err-clause-text g c short lines reading)

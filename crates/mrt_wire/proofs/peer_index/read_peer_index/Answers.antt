@@ -15,7 +15,7 @@ pub returns-in_err-peers : goal.returns-in_err-peers
 returns-in_err-peers c =
     let id = rw c.in_ok-after_id.ensures.ok_part at c.skip.ensures.some in
     reads_none _ SpellsPeerIndex c.args.octets.now c.from_residual-in_err-peers.result c.from_residual-in_err-peers.ensures.1
-    (λ peers s. none_second _ _ (octets_front ID_SIZE) id.0 c.in_ok-after_id.after_id.now c.args.octets.now id.1 (rw c.in_err-peers.ensures.ok_part at c.split_sized.ensures.none) s.0 s.1.rest s.1.first)
+    (λ peers s. none_second _ _ (octets_front ID_SIZE) id.0 c.in_ok-after_id.after_id.now c.args.octets.now id.1 (rw c.in_err-peers.ensures.ok_part at c.split_length_prefixed.ensures.none) s.0 s.1.rest s.1.first)
 
 pub returns : goal.returns
 returns c =
@@ -23,4 +23,4 @@ returns c =
     let view = c.in_ok-peers.field-0-0.now in
     let peers = c.in_ok-peers.peers.now in
     reads_behind _ _ view_front (id.0, view) peers c.args.octets.now c.read_peers.result
-    (both_front _ _ id.0 view c.in_ok-after_id.after_id.now peers c.args.octets.now id.1 (rw c.in_ok-peers.ensures.ok_part at c.split_sized.ensures.some)) c.read_peers.ensures
+    (both_front _ _ id.0 view c.in_ok-after_id.after_id.now peers c.args.octets.now id.1 (rw c.in_ok-peers.ensures.ok_part at c.split_length_prefixed.ensures.some)) c.read_peers.ensures

@@ -3,4 +3,4 @@ use Rattle.mrt_wire.proofs.TellingLaws.{ItemsSoFar}
 use Rattle.mrt_wire.proofs.rib.read_entries.Given as goal
 
 abbrev pub invariant-loop : goal.invariant-loop
-invariant-loop l = ItemsSoFar l.snapshot l.prefix l.counter l.told l.rest l.initial.rest
+invariant-loop l = ItemsSoFar l.context l.prefix l.counter l.parsed l.rest l.initial.rest

@@ -2,9 +2,9 @@ use Rattle.std.proofs.Common.{ℕ, List, subst}
 use Rattle.ip_prefix.specs.Fronts.{BeginsWithNone}
 use Rattle.ip_prefix.specs.Sequences.{Begins}
 use Rattle.octet_forms.proofs.Fields.{both_front, none_first, none_second}
-use Rattle.bgp_wire.specs.Path.{octets_at}
+use Rattle.bgp_wire.specs.Path.{asn_size}
 use Rattle.mrt_wire.specs.Fields.{AreOctets}
-use Rattle.mrt_wire.specs.Session.{AreSystems}
+use Rattle.mrt_wire.specs.Session.{AreAsnFields}
 use Rattle.mrt_wire.proofs.FieldFronts.{address_front, asn_front, octets_front}
 use Rattle.mrt_wire.proofs.SessionLaws.{family_front, no_systems, no_addresses, a_session}
 use Rattle.mrt_wire.proofs.session.fill_session_peer.Goals as goal
@@ -26,11 +26,11 @@ returns-in_err-after_systems-clause-none c =
     let local = c.in_ok-after_local.ensures.some in
     rw c.from_residual-in_err-after_systems.ensures
     (no_systems c.args.width c.args.octets.now (none_second _ _ (asn_front c.args.width) asn.value asn.rest.now c.args.octets.now c.in_ok-asn.ensures
-    (none_second _ _ (octets_front (octets_at c.args.width)) local.0 c.in_ok-after_local.after_local.now asn.rest.now
+    (none_second _ _ (octets_front (asn_size c.args.width)) local.0 c.in_ok-after_local.after_local.now asn.rest.now
     (subst (λ n. Begins (AreOctets n) local.0 c.in_ok-after_local.after_local.now asn.rest.now) c.octets.ensures local.1) c.in_err-after_systems.ensures.none)))
 
 -- both AS numbers and the interface stand there
-systems : (c : In_ok-after_systems) → (local interface : List ℕ) × Begins (AreSystems c.args.width) (c.in_ok-asn.asn.value, (local, interface)) c.in_ok-after_systems.after_systems.now c.args.octets.now
+systems : (c : In_ok-after_systems) → (local interface : List ℕ) × Begins (AreAsnFields c.args.width) (c.in_ok-asn.asn.value, (local, interface)) c.in_ok-after_systems.after_systems.now c.args.octets.now
 systems c =
     let asn = c.in_ok-asn.asn in
     let local = c.in_ok-after_local.ensures.some in

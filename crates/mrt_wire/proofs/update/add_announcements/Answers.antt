@@ -1,7 +1,7 @@
 use Rattle.std.proofs.Common.{ap, subst, ◌∙◌, take_all}
 use Rattle.mrt_events.specs.Event.{Announced}
 use Rattle.mrt_wire.specs.Items.{announcements}
-use Rattle.mrt_wire.specs.Judging.{Adds}
+use Rattle.mrt_wire.specs.Decoding.{AddsItems}
 use Rattle.mrt_wire.proofs.TellingLaws.{one_more_prefix}
 use Rattle.mrt_wire.proofs.update.add_announcements.Goals as goal
 
@@ -17,5 +17,5 @@ returns-clause-added c =
     let old = c.args.items.now.items in
     let new = c.loop-prefix.items.items in
     let all = take_all c.loop-prefix.prefix-index c.as_slice-prefix-items.result.now c.loop-prefix-test.false ∙ c.as_slice-prefix-items.ensures in
-    subst (λ route. Adds old new (announcements peer route c.args.announcement.prefixes.now)) c.in_ok-route.ensures.made
-    (subst (λ l. Adds old new (announcements peer c.in_ok-route.route.value l)) all c.loop-prefix.invariant)
+    subst (λ route. AddsItems old new (announcements peer route c.args.announcement.prefixes.now)) c.in_ok-route.ensures.made
+    (subst (λ l. AddsItems old new (announcements peer c.in_ok-route.route.value l)) all c.loop-prefix.invariant)

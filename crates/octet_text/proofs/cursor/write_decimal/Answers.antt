@@ -3,5 +3,5 @@ use Rattle.std.proofs.Common.{arith}
 use Rattle.std.proofs.lemmas.Grind.{common_steps}
 use Rattle.octet_text.proofs.cursor.write_decimal.Goals as goal
 
-pub write_six-requires : goal.write_six-requires
-write_six-requires c = grind (arith, common_steps)
+pub write_below_million-requires : goal.write_below_million-requires
+write_below_million-requires c = grind (arith, common_steps)

@@ -8,12 +8,12 @@ use Rattle.rib_player.specs.Changes.{noted_effect, found, is_lost, effect_of, it
 use Rattle.rib_player.proofs.ChangesLaws.{effect-parts, effects-sayings}
 use Rattle.rib_player.proofs.changes.changes_of.Goals as goal
 
-pub note_shared-requires : goal.note_shared-requires
-note_shared-requires g c =
+pub note_items_of_one_route-requires : goal.note_items_of_one_route-requires
+note_items_of_one_route-requires g c =
     said_range c.as_slice-items.result.now _ c.shared_ranges-shared.result.middle _ c.as_slice-items.ensures c.shared_ranges-shared.ensures.second.alike
 
-pub note_shared-requires-2 : goal.note_shared-requires-2
-note_shared-requires-2 g c =
+pub note_items_of_one_route-requires-2 : goal.note_items_of_one_route-requires-2
+note_items_of_one_route-requires-2 g c =
     said_range c.as_slice-items.result.now _ c.shared_ranges-shared.result.start _ c.as_slice-items.ensures c.shared_ranges-shared.ensures.first.alike
 
 pub returns : goal.returns
@@ -22,12 +22,12 @@ returns g c =
     let ranges = c.shared_ranges-shared.result in
     let shared = c.shared_ranges-shared.ensures in
     λ (q : Pair). effect-parts q items ranges.start ranges.middle ranges.end
-    (noted_effect c.note_each.new.self q) (noted_effect c.note_shared.new.self q) (noted_effect c.note_shared-2.new.self q) (noted_effect c.note_each-2.new.self q)
+    (noted_effect c.note_items.new.self q) (noted_effect c.note_items_of_one_route.new.self q) (noted_effect c.note_items_of_one_route-2.new.self q) (noted_effect c.note_items-2.new.self q)
     shared.first.ordered shared.second.ordered
-    (c.in_ok-note_each.ensures q
+    (c.in_ok-note_items.ensures q
     ∙ ap₂ (λ l before. later (items_effect q l) before) (take_all _ (drop ranges.end items) (omega (arith, length-drop ranges.end items)))
     (ap₂ (λ (entries : List Entry) peers. effect_of (found (sides_of entries) q) (is_lost peers q)) c.in_ok-with_capacity.ensures.items c.new.ensures.empty))
-    (c.in_ok-note_shared.ensures q)
-    (c.in_ok-note_shared-2.ensures q)
-    (c.in_ok-note_each-2.ensures q)
+    (c.in_ok-note_items_of_one_route.ensures q)
+    (c.in_ok-note_items_of_one_route-2.ensures q)
+    (c.in_ok-note_items-2.ensures q)
     ∙ ap last_effect (sym (effects-sayings q items) ∙ ap (map (item_effect q)) c.as_slice-items.ensures)

@@ -9,4 +9,4 @@ pub returns : goal.returns
 unfolding group_at
 returns c =
     let place_in = rw (← c.self.view_is) at c.requires in
-    rw (c.get.ensures, ← c.self.view_is) (low_group _ ∙ sym (group_of_highest _ c.args.place _ (bit_count_le c.self.inside.family) place_in))
+    rw (c.get.ensures, ← c.self.view_is) (low_group _ ∙ sym (group_of_highest _ c.args.index _ (bit_count_le c.self.inside.family) place_in))

@@ -9,5 +9,5 @@ pub returns : goal.returns
 unfolding octet_at
 returns c =
     let place_in = rw (← c.self.view_is) at c.requires in
-    let octet_in : 8 * c.args.place + 8 ≤ bit_count c.self.inside.family = omega (arith, octets_fill c.self.inside.family) in
-    rw (c.get.ensures, ← c.self.view_is) (low_octet _ ∙ sym (octet_of_highest _ c.args.place _ (bit_count_le c.self.inside.family) octet_in))
+    let octet_in : 8 * c.args.index + 8 ≤ bit_count c.self.inside.family = omega (arith, octets_fill c.self.inside.family) in
+    rw (c.get.ensures, ← c.self.view_is) (low_octet _ ∙ sym (octet_of_highest _ c.args.index _ (bit_count_le c.self.inside.family) octet_in))

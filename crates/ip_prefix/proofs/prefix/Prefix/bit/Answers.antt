@@ -16,7 +16,7 @@ pub returns : goal.returns
 returns c =
     let long = ap (λ (n : Network). length n.bits) c.self.view_is in
     let within : c.self.inside.len ≤ 128 = omega (arith, c.self.invariant.1, bit_count_le c.self.inside.family) in
-    let place : c.args.place < c.self.inside.len = omega (arith, c.requires, long, length-masked c.self.inside.number c.self.inside.len) in
-    ap (λ (n : Network). slice_get n.bits c.args.place) (sym c.self.view_is)
-    ∙ bit_of_highest c.self.inside.len c.args.place c.self.inside.number within place
+    let place : c.args.index < c.self.inside.len = omega (arith, c.requires, long, length-masked c.self.inside.number c.self.inside.len) in
+    ap (λ (n : Network). slice_get n.bits c.args.index) (sym c.self.view_is)
+    ∙ bit_of_highest c.self.inside.len c.args.index c.self.inside.number within place
     ∙ ap Some (sym c.bit.ensures)

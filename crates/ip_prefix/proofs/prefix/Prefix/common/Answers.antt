@@ -14,4 +14,4 @@ returns c =
     let all = length-shared m.bits n.bits (128 - length m.bits) (128 - length n.bits) fits in
     let len : c.min-2.result ≡ length (shared m.bits n.bits) = omega (arith, c.min-2.ensures, c.min.ensures, c.len.ensures.value, c.len-2.ensures.value, all, count) in
     let bits = ap (λ k. take k m.bits) len ∙ shared-front m.bits n.bits in
-    c.front.ensures ∙ (λ i. record { family = m.family; bits = bits i })
+    c.shortened.ensures ∙ (λ i. record { family = m.family; bits = bits i })

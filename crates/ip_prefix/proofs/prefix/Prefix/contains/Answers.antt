@@ -12,7 +12,7 @@ returns-then-eq c =
     let address = c.args.addr.now in
     let family : p.family ≡ address.family = family_same p.family c.family.result (sym c.eq.ensures ∙ c.if-eq.true) ∙ c.family.ensures.value in
     let within : p.len ≤ bit_count address.family = omega (arith, c.self.invariant.1, ap bit_count family) in
-    (λ i. c.highest.ensures i == c.get.ensures i)
+    (λ i. c.keep_highest_bits.ensures i == c.get.ensures i)
     ∙ begin_with-highest p.len (bit_count address.family) p.number c.number.result within (bit_count_le address.family) c.self.invariant.0 c.number.ensures.aligned.0 c.self.invariant.2
     ∙ ap (begin_with (the_view p).bits) (sym c.number.ensures.bits)
     ∙ sym (contains_same (the_view p) address family)

@@ -16,7 +16,7 @@ returns-then-self-other c =
           let family : p.family ≡ q.family = family_same p.family q.family (sym c.eq.ensures ∙ w.if-eq.true) in
           let within : p.len ≤ q.len = leb-true p.len q.len (sym w.value-is ∙ c.if-self-other.true) in
           let q_len : q.len ≤ 128 = omega (arith, c.other.invariant.1, bit_count_le q.family) in
-          (λ i. c.highest.ensures i == c.get-then-self-other.ensures i)
+          (λ i. c.keep_highest_bits.ensures i == c.get-then-self-other.ensures i)
           ∙ ap (λ n. highest_part p.len n == p.number) c.get.ensures
           ∙ begin_with-highest p.len q.len p.number q.number within q_len c.self.invariant.0 c.other.invariant.0 c.self.invariant.2
           ∙ sym (covers_same (the_view p) (the_view q) family)

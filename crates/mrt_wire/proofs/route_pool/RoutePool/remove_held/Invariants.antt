@@ -2,8 +2,8 @@ use Rattle.std.proofs.Common.{◌≡◌, ◌-◌, vec_len}
 use Rattle.mrt_wire.proofs.route_pool.RoutePool.remove_held.Given as goal
 
 abbrev pub invariant-routes : goal.invariant-routes
-invariant-routes l = (l.self.given ≡ 0) × (l.self.most ≡ l.initial.self.most)
+invariant-routes l = (l.self.used ≡ 0) × (l.self.most ≡ l.initial.self.most)
 
 -- how many aren't looked at yet
 abbrev pub decreases-routes : goal.decreases-routes
-decreases-routes l = vec_len l.self.routes - l.place
+decreases-routes l = vec_len l.self.routes - l.index

@@ -6,6 +6,6 @@ use Rattle.octet_text.proofs.buffer.Text.put_ended_words.Given as goal
 -- the words so far are written, within their room
 abbrev pub invariant-loop-number : goal.invariant-loop-number
 invariant-loop-number g l = record {
-  written : IsWritten l.initial.text l.initial.place (ended_words l.end (map g.W.Word.word (take l.number-index l.numbers))) l.text l.place;
+  written : IsWritten l.initial.text l.initial.place (ended_words l.end (map g.W.WordFormat.word (take l.number-index l.numbers))) l.text l.place;
   within : l.place ≤ l.initial.place + l.number-index * WORD_ROOM;
 }

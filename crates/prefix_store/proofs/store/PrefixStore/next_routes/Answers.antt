@@ -2,7 +2,7 @@ use Rattle.std.proofs.Common.{slice_get, sym, ap, ◌∙◌, arith, option_map}
 use Rattle.std.proofs.lemmas.Grind.{common_steps}
 use Rattle.std.specs.FinMap as finite
 use Rattle.prefix_store.specs.Lookups.{above}
-use Rattle.prefix_store.proofs.AboveLaws.{above-next, none-above, keys-in_order, length-pointed}
+use Rattle.prefix_store.proofs.AboveLaws.{above-next, none-above, keys-in_order, length-dereferenced}
 use Rattle.prefix_store.proofs.store.PrefixStore.next_routes.Goals as goal
 
 pub routes-preserved : goal.routes-preserved
@@ -18,5 +18,5 @@ returns-in_default-clause-found g c =
     let entries = finite.entries (g.Self.PrefixStore.routes c.args.self.now) in
     let over = none-above (above c.routes.last entries)
     (ap (λ low. slice_get (above low entries) 0) (sym c.as_ref.ensures.value) ∙ sym c.after.ensures ∙ ap (option_map (λ p. (p.0, p.1.now))) c.in_default.is) in
-    let many = length-pointed c.routes.found.items in
+    let many = length-dereferenced c.routes.found.items in
     grind (arith, common_steps)

@@ -17,9 +17,9 @@ returns g c = λ q.
     let pushed : sides_of c.push.new.self.items ≡ sides ++ (pair, route_in c.args.route) ∷ [] =
     ap sides_of c.in_ok-push.ensures.items ∙ map-append side_of old.entries.items (c.in_ok-entry.entry ∷ []) ∙ ap (λ (s : Side). sides ++ s ∷ []) side in
     ap (λ ss. effect_of (found ss q) (is_lost old.lost.keys q)) pushed
-    ∙ noted_effect-first sides old.lost.keys (pair, route_in c.args.route) q (sym c.has_lost.ensures ∙ c.if-has_lost.false)
+    ∙ noted_effect-first sides old.lost.keys (pair, route_in c.args.route) q (sym c.is_peer_lost.ensures ∙ c.if-is_peer_lost.false)
 
-pub returns-then-has_lost : goal.returns-then-has_lost
-returns-then-has_lost g c =
+pub returns-then-is_peer_lost : goal.returns-then-is_peer_lost
+returns-then-is_peer_lost g c =
     let old = c.args.self.now in
-    λ q. noted_effect-lost (sides_of old.entries.items) old.lost.keys (pair_of c.args.peer.now c.args.prefix.now) (effect_of (Some (route_in c.args.route)) false) q (sym c.has_lost.ensures ∙ c.if-has_lost.true)
+    λ q. noted_effect-lost (sides_of old.entries.items) old.lost.keys (pair_of c.args.peer.now c.args.prefix.now) (effect_of (Some (route_in c.args.route)) false) q (sym c.is_peer_lost.ensures ∙ c.if-is_peer_lost.true)

@@ -10,13 +10,13 @@ use Rattle.rib_player.proofs.player.Player.forget.Goals.{After-saturating_sub-co
 count : (g : Over) (c : After-saturating_sub-count g) → c.saturating_sub-count.result ≡ forgettable c.args.self.now c.args.keep
 count g c = omega (arith, c.saturating_sub-count.ensures, ap (λ (t : Timeline). t.floor) c.self.view_is, ap (λ (t : Timeline). t.cursor) c.self.view_is)
 
-pub forget_first-requires : goal.forget_first-requires
-forget_first-requires g c =
-    let b = (goal.at.forget_first-requires g c).After-saturating_sub-count in
+pub forget_oldest-requires : goal.forget_oldest-requires
+forget_oldest-requires g c =
+    let b = (goal.at.forget_oldest-requires g c).After-saturating_sub-count in
     omega (arith, c.steps-test.true, count g b, ap (λ (t : Timeline). t.floor) c.steps.invariant, ap (λ (t : Timeline). t.cursor) c.steps.invariant)
 
 pub steps-preserved : goal.steps-preserved
-steps-preserved g c = c.forget_first.ensures ∙ ap (without_first 1) c.steps.invariant ∙ without_first-more c.args.self.now c.steps.counter 1
+steps-preserved g c = c.forget_oldest.ensures ∙ ap (without_first 1) c.steps.invariant ∙ without_first-more c.args.self.now c.steps.counter 1
 
 pub returns-clause-after_forget : goal.returns-clause-after_forget
 returns-clause-after_forget g c =

@@ -1,8 +1,8 @@
 use Rattle.std.proofs.Common.{ap, ◌∙◌, arith, sum_by, take_all}
 use Rattle.std.specs.FinSet as set
 use Rattle.std.proofs.lemmas.List.Sums.{sum_by_more}
-use Rattle.prefix_store.specs.Stored.{counted}
-use Rattle.rib_player.specs.Marks.{entry_count}
+use Rattle.prefix_store.specs.Stored.{saturated_count}
+use Rattle.rib_player.specs.Sides.{entry_count}
 use Rattle.rib_player.proofs.CountLaws.{named-total}
 use Rattle.rib_player.proofs.player.Player.named.Goals as goal
 
@@ -21,5 +21,5 @@ steps-preserved g c =
 pub returns : goal.returns
 returns g c =
     let steps = c.self.inside.journal.steps.items in
-    c.steps.invariant ∙ ap (λ ss. counted (sum_by entry_count ss)) (take_all c.steps.index steps (omega (arith, c.steps-test.false, c.len-index-end.ensures)))
-    ∙ ap counted (named-total steps c.self.invariant.played.distinct ∙ ap (λ t. sum_by set.len t.steps) c.self.view_is)
+    c.steps.invariant ∙ ap (λ ss. saturated_count (sum_by entry_count ss)) (take_all c.steps.index steps (omega (arith, c.steps-test.false, c.len-index-end.ensures)))
+    ∙ ap saturated_count (named-total steps c.self.invariant.played.distinct ∙ ap (λ t. sum_by set.len t.steps) c.self.view_is)

@@ -1,8 +1,8 @@
 use Rattle.std.proofs.Common.{◌≡◌, take, sum_by}
-use Rattle.prefix_store.specs.Stored.{counted}
-use Rattle.rib_player.specs.Marks.{entry_count}
+use Rattle.prefix_store.specs.Stored.{saturated_count}
+use Rattle.rib_player.specs.Sides.{entry_count}
 use Rattle.rib_player.proofs.player.Player.named.Given as goal
 
 -- the pairs of the steps so far are counted
 abbrev pub invariant-steps : goal.invariant-steps
-invariant-steps g l = l.total ≡ counted (sum_by entry_count (take l.index l.steps.items))
+invariant-steps g l = l.total ≡ saturated_count (sum_by entry_count (take l.index l.steps.items))

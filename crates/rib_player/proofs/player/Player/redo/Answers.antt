@@ -6,19 +6,19 @@ use Rattle.rib_player.proofs.PlayedLaws.{played-kept, redone-played, length-cros
 use Rattle.rib_player.proofs.CursorLaws.{timeline-after_redo}
 use Rattle.rib_player.proofs.player.Player.redo.Goals as goal
 
-pub cross_step-requires-clause-kept : goal.cross_step-requires-clause-kept
-cross_step-requires-clause-kept g c =
+pub apply_or_undo_step-requires-clause-kept : goal.apply_or_undo_step-requires-clause-kept
+apply_or_undo_step-requires-clause-kept g c =
     played-kept c.self.invariant.played c.self.inside.journal.cursor (omega (arith, c.self.invariant.played.within, c.self.inside.journal.steps.ok.0))
 
 pub invariant_of-self : goal.invariant_of-self
 invariant_of-self g c =
     record {
-      played = redone-played c.self.invariant.played c.cross_step.ensures refl (omega (arith, c.self.invariant.played.within, c.self.inside.journal.steps.ok.0));
-      counted = omega (arith, c.self.invariant.counted, length-crossed c.self.invariant.played c.cross_step.ensures);
+      played = redone-played c.self.invariant.played c.apply_or_undo_step.ensures refl (omega (arith, c.self.invariant.played.within, c.self.inside.journal.steps.ok.0));
+      saturated_count = omega (arith, c.self.invariant.saturated_count, length-crossed c.self.invariant.played c.apply_or_undo_step.ensures);
     }
 
 pub returns-clause-after_redo : goal.returns-clause-after_redo
 returns-clause-after_redo g c =
     let journal = c.self.inside.journal in
-    ap₂ (timeline_of journal.floor (journal.cursor + 1)) c.cross_step.ensures.sides c.cross_step.ensures.routes
+    ap₂ (timeline_of journal.floor (journal.cursor + 1)) c.apply_or_undo_step.ensures.sides c.apply_or_undo_step.ensures.routes
     ∙ timeline-after_redo journal.floor journal.cursor (steps_of journal.steps.items) c.self.inside.table.routes (omega (arith, c.self.invariant.played.within, journal.steps.ok.0, length-map journal.steps.items step_sides)) ∙ ap after_redo c.self.view_is

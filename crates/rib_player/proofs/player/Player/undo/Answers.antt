@@ -5,19 +5,19 @@ use Rattle.rib_player.proofs.PlayedLaws.{within-played, played-kept, undone-play
 use Rattle.rib_player.proofs.CursorLaws.{timeline-after_undo}
 use Rattle.rib_player.proofs.player.Player.undo.Goals as goal
 
-pub cross_step-requires-clause-kept : goal.cross_step-requires-clause-kept
-cross_step-requires-clause-kept g c =
+pub apply_or_undo_step-requires-clause-kept : goal.apply_or_undo_step-requires-clause-kept
+apply_or_undo_step-requires-clause-kept g c =
     played-kept c.self.invariant.played (c.self.inside.journal.cursor - 1) (omega (arith, c.self.invariant.played.within))
 
 pub invariant_of-self : goal.invariant_of-self
 invariant_of-self g c =
     record {
-      played = undone-played c.self.invariant.played c.cross_step.ensures (omega arith);
-      counted = omega (arith, c.self.invariant.counted, length-crossed c.self.invariant.played c.cross_step.ensures);
+      played = undone-played c.self.invariant.played c.apply_or_undo_step.ensures (omega arith);
+      saturated_count = omega (arith, c.self.invariant.saturated_count, length-crossed c.self.invariant.played c.apply_or_undo_step.ensures);
     }
 
 pub returns-clause-after_undo : goal.returns-clause-after_undo
 returns-clause-after_undo g c =
     let journal = c.self.inside.journal in
-    ap₂ (timeline_of journal.floor (journal.cursor - 1)) c.cross_step.ensures.sides c.cross_step.ensures.routes
+    ap₂ (timeline_of journal.floor (journal.cursor - 1)) c.apply_or_undo_step.ensures.sides c.apply_or_undo_step.ensures.routes
     ∙ timeline-after_undo journal.floor journal.cursor (steps_of journal.steps.items) c.self.inside.table.routes (omega arith) (within-played c.self.invariant.played) ∙ ap after_undo c.self.view_is

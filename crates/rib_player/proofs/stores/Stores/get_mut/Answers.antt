@@ -14,14 +14,14 @@ returns-in_err-found g c =
       (sym (ap ghost_name_of none), λ w. never _ c.from_residual.result none, record { stores = refl; routed = refl }),
       record {
         writes_back = tt;
-        value = ap option_copied_mut none ∙ found-store c.args.self.now.numbered c.args.peer.now None (sym c.in_err-found.was ∙ c.number_of.ensures);
+        value = ap option_copied_mut none ∙ found-store c.args.self.now.numbered c.args.peer.now None (sym c.in_err-found.was ∙ c.find_number_by_hint.ensures);
         number = if_none _ c.from_residual.result none;
       },
     )
 
 -- the peer has this number
 found : (g : Over) (c : In_ok-found g) → lookup (same_peer c.args.peer.now) c.args.self.now.order.entries ≡ Some c.in_ok-found.found
-found g c = sym (sym c.in_ok-found.was ∙ c.number_of.ensures)
+found g c = sym (sym c.in_ok-found.was ∙ c.find_number_by_hint.ensures)
 
 pub invariant_of-self-lent : goal.invariant_of-self-lent
 invariant_of-self-lent g c r =

@@ -3,7 +3,7 @@ use Rattle.std.specs.declared.rc.Rc.{Rc}
 use Rattle.std.proofs.lemmas.List.{map-append}
 use Rattle.mrt_events.specs.declared.peer.Peer.{Peer}
 use Rattle.rib_player.specs.Numbered.{peers_in, AreNumbered}
-use Rattle.rib_player.specs.Kept.{IsWritten}
+use Rattle.rib_player.specs.Representation.{IsUpdatedAt}
 use Rattle.rib_player.specs.StoresByPeer.{stores_of, stores_in}
 use Rattle.rib_player.proofs.NumberLaws.{no-number, numbered-along, numbered-added}
 use Rattle.rib_player.proofs.stores.Stores.insert.Goals as goal
@@ -21,7 +21,7 @@ named g c =
 
 -- the stores and their numbers then
 then : (g : Over) (c : After-push_reserved-2 g) → AreNumbered c.push_reserved.new.self.items (peers_in c.push_reserved-2.new.self.items) c.insert.new.self.entries
-    × IsWritten (stores_in c.args.self.now) (stores_of c.push_reserved.new.self.items c.insert.new.self.entries) c.args.peer (Some c.args.store)
+    × IsUpdatedAt (stores_in c.args.self.now) (stores_of c.push_reserved.new.self.items c.insert.new.self.entries) c.args.peer (Some c.args.store)
 then g c =
     let s = c.args.self.now in
     numbered-added s.numbered (no-number s.numbered c.args.peer c.requires)

@@ -4,7 +4,7 @@ use Rattle.std.proofs.lemmas.List.{length-map}
 use Rattle.std.specs.declared.rc.Rc.{Rc}
 use Rattle.mrt_events.specs.declared.peer.Peer.{Peer}
 use Rattle.rib_player.specs.Numbered.{peers_in}
-use Rattle.rib_player.proofs.ListLaws.{IsSwapped, swapped, swapped-map}
+use Rattle.rib_player.proofs.ListLaws.{IsSwapRemoved, swapped, swapped-map}
 use Rattle.rib_player.proofs.RowLaws.{name-there, no-name}
 use Rattle.rib_player.proofs.StoreLaws.{same_peer}
 use Rattle.rib_player.proofs.NumberLaws.{held-there, named-there, numbered-along, moved-found, renumbered-moved, renumbered-gone, stores-remove, stores-absent}
@@ -40,14 +40,14 @@ remove-requires-2 g c =
     omega (arith, held-there s.numbered c.args.peer.now c.in-Some.number (found g (goal.at.remove-requires-2 g c).In-Some), s.each)
 
 -- the last store and the last peer have its places
-stores : (g : Over) (c : After-swap_remove-2 g) → IsSwapped c.args.self.now.held.items c.swap_remove.new.self.items c.in-Some.number
+stores : (g : Over) (c : After-swap_remove-2 g) → IsSwapRemoved c.args.self.now.held.items c.swap_remove.new.self.items c.in-Some.number
 stores g c =
     let held = c.args.self.now.held in
     let new = c.swap_remove.new.self in
     swapped held.items new.items held.len new.len c.in-Some.number c.swap_remove.result
     (omega (arith, held.ok)) (omega (arith, new.ok)) c.swap_remove.ensures.len c.swap_remove.ensures.by_index.0 c.swap_remove.ensures.by_index.1
 
-peers : (g : Over) (c : After-swap_remove-2 g) → IsSwapped (peers_in c.args.self.now.names.items) (peers_in c.swap_remove-2.new.self.items) c.in-Some.number
+peers : (g : Over) (c : After-swap_remove-2 g) → IsSwapRemoved (peers_in c.args.self.now.names.items) (peers_in c.swap_remove-2.new.self.items) c.in-Some.number
 peers g c =
     let names = c.args.self.now.names in
     let new = c.swap_remove-2.new.self in

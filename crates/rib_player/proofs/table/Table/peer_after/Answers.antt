@@ -7,11 +7,11 @@ use Rattle.std.proofs.Math.Bool.{and-true}
 use Rattle.std.proofs.lemmas.Map.Iter.{rest_all}
 use Rattle.mrt_events.specs.declared.peer.Peer.{Peer}
 use Rattle.mrt_events.specs.Event.{peer_cmp}
-use Rattle.prefix_store.specs.Stored.{counted}
+use Rattle.prefix_store.specs.Stored.{saturated_count}
 use Rattle.rib_player.specs.Tables.{Stores, peer_routes, routed_peers}
 use Rattle.rib_player.specs.StoresByPeer.{stores_in, stores_of}
 use Rattle.rib_player.specs.Lookups.{peers_above}
-use Rattle.rib_player.specs.Kept.{routed_stores, peer_count}
+use Rattle.rib_player.specs.Representation.{routed_stores, peer_count}
 use Rattle.rib_player.proofs.PeerLaws.{first_counted, routed-more, routed-none}
 use Rattle.rib_player.proofs.NumberLaws.{sorted-stores_of, stores_of-filter, stores_of-some, stores_of-none}
 use Rattle.rib_player.proofs.table.Table.peer_after.Given.{Over}
@@ -33,11 +33,11 @@ numbers-init g c =
       | in-Some w ↦
           first_counted g.S.PrefixStore.routes (Some w.in-Some.peer.now) (range_contains peer_cmp (Excluded w.in-Some.peer.now) Unbounded) stores (stores_of held c.range-numbers.result) all (λ p. and-true (is_lt (peer_cmp w.in-Some.peer.now p)))
           sorted (ap (stores_of held) (c.range-numbers.ensures.between tt ∙ ap (λ b. entries_between peer_cmp b Unbounded order) w.low-is) ∙ stores_of-filter held (range_contains peer_cmp (Excluded w.in-Some.peer.now) Unbounded) order) (ap (λ s. s.routes) c.self.view_is)
-          ∙ ap (λ low. option_map (λ p. (p, counted (finite.len (peer_routes all p)))) (slice_get (peers_above (option_copied low) (routed_peers all)) 0)) (sym w.in-Some.is)
+          ∙ ap (λ low. option_map (λ p. (p, saturated_count (finite.len (peer_routes all p)))) (slice_get (peers_above (option_copied low) (routed_peers all)) 0)) (sym w.in-Some.is)
       | in-None w ↦
           first_counted g.S.PrefixStore.routes None (range_contains peer_cmp Unbounded Unbounded) stores (stores_of held c.range-numbers.result) all (λ p. refl)
           sorted (ap (stores_of held) (c.range-numbers.ensures.between tt ∙ ap (λ b. entries_between peer_cmp b Unbounded order) w.low-is) ∙ stores_of-filter held (range_contains peer_cmp Unbounded Unbounded) order) (ap (λ s. s.routes) c.self.view_is)
-          ∙ ap (λ low. option_map (λ p. (p, counted (finite.len (peer_routes all p)))) (slice_get (peers_above (option_copied low) (routed_peers all)) 0)) (sym w.in-None.is)
+          ∙ ap (λ low. option_map (λ p. (p, saturated_count (finite.len (peer_routes all p)))) (slice_get (peers_above (option_copied low) (routed_peers all)) 0)) (sym w.in-None.is)
     ]
 
 -- the stores that are left begin with this one

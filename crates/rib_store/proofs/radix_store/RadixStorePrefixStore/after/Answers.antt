@@ -5,8 +5,8 @@ use Rattle.ip_prefix.specs.declared.addr.Family.TheVariants.{V4}
 use Rattle.ip_prefix.specs.Network.{Network}
 use Rattle.prefix_store.specs.Contents.{Contents}
 use Rattle.prefix_store.specs.Lookups.{above}
-use Rattle.rib_store.specs.Store.{Trees, trees_of, contents_of, IsPlanted}
-use Rattle.rib_store.specs.Walks.{either_of, first, behind}
+use Rattle.rib_store.specs.Store.{Trees, trees_of, contents_of, AreRadixTrees}
+use Rattle.rib_store.specs.Walks.{first_some, first, first_after}
 use Rattle.rib_store.proofs.WalkLaws.{found_is}
 use Rattle.rib_store.proofs.FillLaws.{after_none, after_v4, after_v6}
 use Rattle.rib_store.proofs.radix_store.RadixStorePrefixStore.after.Goals as goal
@@ -18,22 +18,22 @@ next contents prefix = slice_get (above (option_copied prefix) (finite.entries c
 
 -- what was found in the tree of IPv4, or else the first of IPv6
 abbrev found_or_first : {R : Type 0} → Trees R → Option (Network × Bor R) → Option (Network × R)
-found_or_first trees found = either_of (option_map (λ p. (p.0, p.1.now)) found) (first trees.v6)
+found_or_first trees found = first_some (option_map (λ p. (p.0, p.1.now)) found) (first trees.v6)
 
-from_start : {R : Type 0} (trees : Trees R) (contents : Contents R) (prefix : Option (Bor Network)) (found : Option (Network × Bor R)) → IsPlanted trees → contents_of trees ≡ contents → prefix ≡ None
+from_start : {R : Type 0} (trees : Trees R) (contents : Contents R) (prefix : Option (Bor Network)) (found : Option (Network × Bor R)) → AreRadixTrees trees → contents_of trees ≡ contents → prefix ≡ None
     → MatchOption found (first trees.v4 ≡ None) (λ p. first trees.v4 ≡ Some (p.0, p.1.now)) → found_or_first trees found ≡ next contents prefix
 from_start f contents prefix found planted holds is told =
-    ap (λ found. either_of found (first f.v6)) (found_is (λ p. (p.0, p.1.now)) found (first f.v4) told) ∙ after_none f planted ∙ ap₂ next holds (sym is)
+    ap (λ found. first_some found (first f.v6)) (found_is (λ p. (p.0, p.1.now)) found (first f.v4) told) ∙ after_none f planted ∙ ap₂ next holds (sym is)
 
-from_v4 : {R : Type 0} (trees : Trees R) (contents : Contents R) (prefix : Option (Bor Network)) (low : Bor Network) (found : Option (Network × Bor R)) → IsPlanted trees → contents_of trees ≡ contents → prefix ≡ Some low → low.now.family ≡ V4
-    → MatchOption found (behind trees.v4 low.now ≡ None) (λ p. behind trees.v4 low.now ≡ Some (p.0, p.1.now)) → found_or_first trees found ≡ next contents prefix
+from_v4 : {R : Type 0} (trees : Trees R) (contents : Contents R) (prefix : Option (Bor Network)) (low : Bor Network) (found : Option (Network × Bor R)) → AreRadixTrees trees → contents_of trees ≡ contents → prefix ≡ Some low → low.now.family ≡ V4
+    → MatchOption found (first_after trees.v4 low.now ≡ None) (λ p. first_after trees.v4 low.now ≡ Some (p.0, p.1.now)) → found_or_first trees found ≡ next contents prefix
 from_v4 f contents prefix low found planted holds is family told =
-    ap (λ found. either_of found (first f.v6)) (found_is (λ p. (p.0, p.1.now)) found (behind f.v4 low.now) told) ∙ after_v4 f planted low.now family ∙ ap₂ next holds (sym is)
+    ap (λ found. first_some found (first f.v6)) (found_is (λ p. (p.0, p.1.now)) found (first_after f.v4 low.now) told) ∙ after_v4 f planted low.now family ∙ ap₂ next holds (sym is)
 
 pub returns-in-V6 : goal.returns-in-V6
 returns-in-V6 g c =
     let f = trees_of c.self.inside.v4 c.self.inside.v6 in
-    found_is (λ p. (p.0, p.1.now)) c.after-in-V6.result (behind f.v6 c.in-Some.low.now) c.after-in-V6.ensures
+    found_is (λ p. (p.0, p.1.now)) c.after-in-V6.result (first_after f.v6 c.in-Some.low.now) c.after-in-V6.ensures
     ∙ after_v6 f c.self.invariant.planted c.in-Some.low.now (sym c.family.ensures ∙ c.in-V6.is)
     ∙ ap₂ next c.self.view_is (sym c.in-Some.is)
 

@@ -3,8 +3,8 @@ use Rattle.std.specs.FinMap as finite
 use Rattle.std.specs.FinSet as set
 use Rattle.ip_prefix.specs.declared.addr.Family.TheVariants.{V4, V6}
 use Rattle.prefix_store.specs.Contents.{v4_network, v6_network}
-use Rattle.prefix_store.specs.Stored.{counted}
-use Rattle.rib_store.specs.Tree.{shape_of, IsMarked}
+use Rattle.prefix_store.specs.Stored.{saturated_count}
+use Rattle.rib_store.specs.Tree.{shape_of, HasCorrectMarks}
 use Rattle.rib_store.specs.Slots.{keys_in, routes_in}
 use Rattle.rib_store.specs.Store.{slots_in, trees_of}
 use Rattle.rib_store.proofs.SlotLaws.{keys_in-less, routes_in-less}
@@ -17,7 +17,7 @@ use Rattle.rib_store.proofs.radix_store.RadixStorePrefixStore.discard.Goals.{Joi
 
 -- the prefix has no slot any more
 vacated : (g : Over) (c : Joined-family g) → let s = c.match-family.self-inside in
-    IsReplaced (trees_of c.self.inside.v4 c.self.inside.v6) c.args.prefix.now None (trees_of s.v4 s.v6) × (IsMarked s.v4 × IsMarked s.v6) × (s.key_count ≡ c.self.inside.key_count) × (s.route_count ≡ c.self.inside.route_count)
+    IsReplaced (trees_of c.self.inside.v4 c.self.inside.v6) c.args.prefix.now None (trees_of s.v4 s.v6) × (HasCorrectMarks s.v4 × HasCorrectMarks s.v6) × (s.key_count ≡ c.self.inside.key_count) × (s.route_count ≡ c.self.inside.route_count)
 vacated g c =
     let old = trees_of c.self.inside.v4 c.self.inside.v6 in
     let planted = c.self.invariant.planted in
@@ -31,7 +31,7 @@ vacated g c =
     ]
 
 -- and is one key less
-less : (g : Over) (c : Joined-family g) → let s = c.match-family.self-inside in s.key_count ≡ counted (set.len (keys_in (slots_in (trees_of s.v4 s.v6))) + 1)
+less : (g : Over) (c : Joined-family g) → let s = c.match-family.self-inside in s.key_count ≡ saturated_count (set.len (keys_in (slots_in (trees_of s.v4 s.v6))) + 1)
 less g c =
     let (put, marks, keys, routes) = vacated g c in
     let old = slots_in (trees_of c.self.inside.v4 c.self.inside.v6) in

@@ -4,7 +4,7 @@ use Rattle.std.specs.FinMap as finite
 use Rattle.ip_prefix.specs.Network.{Network}
 use Rattle.prefix_store.specs.Stored.{Routes, put}
 use Rattle.prefix_store.proofs.StoredLaws.{put-same}
-use Rattle.rib_store.specs.Slots.{route_found}
+use Rattle.rib_store.specs.Slots.{route_of_slot}
 use Rattle.rib_store.proofs.SlotLaws.{keys-there}
 use Rattle.rib_store.proofs.radix_store.RadixStorePrefixStore.ensure.Goals as goal
 
@@ -23,5 +23,5 @@ returns-then-is_some-clause-keys g c =
 
 pub returns-clause-routes : goal.returns-clause-routes
 returns-clause-routes g c =
-    let free = ap (λ slot. route_found (option_map (λ s. option_copied s) slot)) (sym (none_is c.slot.result (sym c.is_some.ensures ∙ c.if-is_some.false))) ∙ c.slot.ensures.route in
+    let free = ap (λ slot. route_of_slot (option_map (λ s. option_copied s) slot)) (sym (none_is c.slot.result (sym c.is_some.ensures ∙ c.if-is_some.false))) ∙ c.slot.ensures.route in
     unchanged c.put.result c.args.self.now.routes c.put.new.self.routes c.args.prefix (sym free) c.put.ensures.routes c.put.ensures.held

@@ -1,7 +1,7 @@
 use Rattle.std.proofs.Common.{◌≡◌, None, cond, refl, sym, ap, ◌∙◌}
 use Rattle.ip_prefix.specs.declared.turn.Turn.TheVariants.{Outside, Here, Left, Right}
 use Rattle.ip_prefix.specs.Turns.{way, turn_of}
-use Rattle.rib_store.specs.declared.tree.Slot.TheVariants.{Branch}
+use Rattle.rib_store.specs.declared.tree.Slot.TheVariants.{NoKey}
 use Rattle.rib_store.specs.Tree.{Rooted, shape_of, at, same_way, slot_of, IsRooted}
 use Rattle.rib_store.proofs.TreeLaws.{at_rooted}
 use Rattle.rib_store.proofs.ShapeLaws.{fork_other}
@@ -11,7 +11,7 @@ use Rattle.rib_store.proofs.tree.Tree.+discard.Goals as goal
 
 pub returns-in-Outside-clause-slots : goal.returns-in-Outside-clause-slots
 returns-in-Outside-clause-slots g t c = λ q.
-    let net = g.K.Packed.network in
+    let net = g.K.PackedPrefix.network in
     let n = c.deref_mut-node.result.now in
     let prefix = net c.in-Rooted.prefix in
     let key = way c.args.key.now in
@@ -22,17 +22,17 @@ returns-in-Outside-clause-slots g t c = λ q.
 
 pub returns-after-turn-clause-slots : goal.returns-after-turn-clause-slots
 returns-after-turn-clause-slots g t c = λ q.
-    let net = g.K.Packed.network in
+    let net = g.K.PackedPrefix.network in
     let n = c.deref_mut-node.result.now in
     let m = c.match-turn.node in
     let prefix = net c.in-Rooted.prefix in
     let key = way c.args.key.now in
     let new = Rooted prefix m.slot (shape_of net m.left) (shape_of net m.right) in
     let was : IsRooted prefix (slot_of n.slot) (shape_of net n.left) (shape_of net n.right) (shape_of net c.args.self.now) = rw c.in-Rooted.is (cc, cc, cc, cc) in
-    ap (λ t. at t q) c.fold_leaf.ensures.shape ∙ c.join.ensures.slots q ∙ elim c.match-turn.branch [
+    ap (λ t. at t q) c.unbox_leaf.ensures.shape ∙ c.replace_by_only_child.ensures.slots q ∙ elim c.match-turn.branch [
       | in-Here w ↦
           let turn : turn_of (way prefix) key ≡ Here = cc in
-          let is : IsRooted prefix None (shape_of net n.left) (shape_of net n.right) new = rw w.node-is (refl, refl, refl, w.vacate.ensures) in
+          let is : IsRooted prefix None (shape_of net n.left) (shape_of net n.right) new = rw w.node-is (refl, refl, refl, w.remove_key.ensures) in
           fork_here (shape_of net c.args.self.now) new prefix (slot_of n.slot) None (shape_of net n.left) (shape_of net n.right) key was is turn q
       | in-Left w ↦
           let turn : turn_of (way prefix) key ≡ Left = cc in
@@ -46,7 +46,7 @@ returns-after-turn-clause-slots g t c = λ q.
 
 pub returns-in_default-clause-slots : goal.returns-in_default-clause-slots
 returns-in_default-clause-slots g t c = λ q.
-    let net = g.K.Packed.network in
+    let net = g.K.PackedPrefix.network in
     let n = c.deref_mut-fork.result.now in
     let prefix = net c.in-Forked.prefix in
     let key = way c.args.key.now in
@@ -59,15 +59,15 @@ returns-in_default-clause-slots g t c = λ q.
 
 pub returns-after-turn-2-clause-slots : goal.returns-after-turn-2-clause-slots
 returns-after-turn-2-clause-slots g t c = λ q.
-    let net = g.K.Packed.network in
+    let net = g.K.PackedPrefix.network in
     let n = c.deref_mut-fork.result.now in
     let m = c.match-turn-2.fork in
     let prefix = net c.in-Forked.prefix in
     let key = way c.args.key.now in
     let old = shape_of net c.args.self.now in
-    let new = Rooted prefix Branch (shape_of net m.left) (shape_of net m.right) in
+    let new = Rooted prefix NoKey (shape_of net m.left) (shape_of net m.right) in
     let was : IsRooted prefix None (shape_of net n.left) (shape_of net n.right) old = rw c.in-Forked.is (cc, cc, cc, refl) in
-    c.join-in-Forked.ensures.slots q ∙ elim c.match-turn-2.branch [
+    c.replace_by_only_child-in-Forked.ensures.slots q ∙ elim c.match-turn-2.branch [
       | in-Left-turn w ↦
           let turn : turn_of (way prefix) key ≡ Left = cc in
           let is : IsRooted prefix None (shape_of net w.discard-in-Left-turn.new.self) (shape_of net n.right) new = rw w.fork-is (refl, refl, refl, refl) in

@@ -1,6 +1,6 @@
 use Rattle.std.proofs.Common.{◌≡◌, ◌||◌, Some, None, is_some, refl, sym, ap, subst, ◌∙◌}
 use Rattle.ip_prefix.specs.Turns.{way}
-use Rattle.rib_store.specs.Tree.{Rooted, shape_of, is_routed, any_routed, IsFork, IsMarked, IsRooted}
+use Rattle.rib_store.specs.Tree.{Rooted, shape_of, has_routes, any_has_routes, IsFork, HasCorrectMarks, IsRooted}
 use Rattle.rib_store.proofs.GrowthLaws.{placed_here}
 use Rattle.rib_store.proofs.tree.puts.put_at_fork.Given.{Over}
 use Rattle.rib_store.proofs.tree.puts.put_at_fork.Goals as goal
@@ -14,20 +14,20 @@ below g c = (
 
 pub returns-in-Forked-clause-placed : goal.returns-in-Forked-clause-placed
 returns-in-Forked-clause-placed g c = λ key there.
-    let net = g.K.Packed.network in
+    let net = g.K.PackedPrefix.network in
     let n = c.in-Forked.fork.value in
     let prefix = net c.args.prefix in
-    let new = Rooted prefix c.slot_in-slot.result (shape_of net c.replace-left.result) (shape_of net c.replace-right.result) in
+    let new = Rooted prefix c.leaf_to_slot-slot.result (shape_of net c.replace-left.result) (shape_of net c.replace-right.result) in
     let same = subst (IsFork c.args.prefix) c.in-Forked.is c.requires.fork in
     let was : IsRooted prefix None (shape_of net n.left) (shape_of net n.right) (shape_of net c.args.tree.now) = rw c.in-Forked.is (ap net same, refl, refl, refl) in
     let is : IsRooted prefix (Some c.args.route.now) (shape_of net n.left) (shape_of net n.right) new =
-    (refl, ap (shape_of net) (below g c).0, ap (shape_of net) (below g c).1, c.slot_in-slot.ensures.slot ∙ ap Some c.leaf_with.ensures.slot) in
+    (refl, ap (shape_of net) (below g c).0, ap (shape_of net) (below g c).1, c.leaf_to_slot-slot.ensures.slot ∙ ap Some c.new_leaf.ensures.slot) in
     placed_here (way key) prefix None (Some c.args.route.now) (shape_of net n.left) (shape_of net n.right) was is there c.requires.shaped tt
 
 pub returns-in-Forked-clause-routed : goal.returns-in-Forked-clause-routed
 returns-in-Forked-clause-routed g c =
-    let mark = (subst IsMarked c.in-Forked.is c.requires.marked).0 in
-    c.is_routed-routed.ensures
-    ∙ ap (λ m. any_routed m.slot m.left m.right) c.deref.ensures
-    ∙ (λ i. (c.slot_in-slot.ensures.filled ∙ ap is_some c.leaf_with.ensures.slot) i || (is_routed ((below g c).0 i) || is_routed ((below g c).1 i)))
-    ∙ ap (λ below. is_some c.args.route.now || below) (sym mark ∙ sym (ap is_routed c.in-Forked.is))
+    let mark = (subst HasCorrectMarks c.in-Forked.is c.requires.marked).0 in
+    c.has_routes-routed.ensures
+    ∙ ap (λ m. any_has_routes m.slot m.left m.right) c.deref.ensures
+    ∙ (λ i. (c.leaf_to_slot-slot.ensures.filled ∙ ap is_some c.new_leaf.ensures.slot) i || (has_routes ((below g c).0 i) || has_routes ((below g c).1 i)))
+    ∙ ap (λ below. is_some c.args.route.now || below) (sym mark ∙ sym (ap has_routes c.in-Forked.is))

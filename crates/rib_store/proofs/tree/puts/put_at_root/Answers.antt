@@ -8,7 +8,7 @@ use Rattle.rib_store.proofs.tree.puts.put_at_root.Goals as goal
 
 pub returns-in-Here-clause-placed : goal.returns-in-Here-clause-placed
 returns-in-Here-clause-placed g c =
-    let net = g.K.Packed.network in
+    let net = g.K.PackedPrefix.network in
     let n = c.deref_mut-node.result.now in
     let prefix = net c.in-Rooted.prefix in
     let key = way c.args.key.now in

@@ -1,5 +1,0 @@
-use Rattle.bgp_paths.proofs.Merging.{same_weight}
-use Rattle.bgp_paths.proofs.laws.merge_keeps_the_weight.Goals as goal
-
-pub returns : goal.returns
-returns c = same_weight

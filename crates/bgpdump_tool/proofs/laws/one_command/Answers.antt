@@ -1,7 +1,0 @@
-use Rattle.bgpdump_lines.specs.Lines.{space}
-use Rattle.bgpdump_tool.specs.Script.{pieces}
-use Rattle.bgpdump_tool.proofs.CommandLaws.{one_of_words}
-use Rattle.bgpdump_tool.proofs.laws.one_command.Goals as goal
-
-pub returns : goal.returns
-returns c = λ a b line. one_of_words a b (pieces space line)

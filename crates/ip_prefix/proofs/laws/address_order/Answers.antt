@@ -1,5 +1,0 @@
-use Rattle.ip_prefix.specs.OrderLaws.{address_cmp_total, address_cmp-IsAntisymmetric}
-use Rattle.ip_prefix.proofs.laws.address_order.Goals as goal
-
-pub returns : goal.returns
-returns c = record { total = address_cmp_total; ties = address_cmp-IsAntisymmetric }

@@ -1,7 +1,0 @@
-use Rattle.ip_prefix.specs.Network.{SpellsNetwork}
-use Rattle.octet_forms.proofs.Sequences.{one_list}
-use Rattle.ip_prefix.proofs.Wires.{network_code}
-use Rattle.ip_prefix.proofs.laws.one_network.Goals as goal
-
-pub returns : goal.returns
-returns c = record { single = network_code; lists = λ family. one_list (SpellsNetwork family) (network_code family) }

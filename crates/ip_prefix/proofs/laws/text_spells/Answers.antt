@@ -1,5 +1,0 @@
-use Rattle.ip_prefix.proofs.Spelled.{address_text_spells, network_text_spells}
-use Rattle.ip_prefix.proofs.laws.text_spells.Goals as goal
-
-pub returns : goal.returns
-returns c = record { addresses = address_text_spells; prefixes = network_text_spells }

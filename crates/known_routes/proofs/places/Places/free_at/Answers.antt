@@ -1,7 +1,0 @@
-use Rattle.std.proofs.Common.{refl}
-use Rattle.known_routes.specs.declared.place.Place.TheVariants.{Free}
-use Rattle.known_routes.proofs.PlacesLaws.{tagged-set}
-use Rattle.known_routes.proofs.places.Places.free_at.Goals as goal
-
-pub invariant_of-self-clause-tagged : goal.invariant_of-self-clause-tagged
-invariant_of-self-clause-tagged c = tagged-set c.args.self.now.places.items c.args.self.now.tags.items c.args.index Free 0 c.args.self.now.tagged refl

@@ -1,0 +1,163 @@
+//! The slots of the hash table of `slots.rt`, which calls the searches here. A row is a bucket of
+//! four slots, and a hash has two rows. Each slot has a tag, an octet of the hash of its route,
+//! which a search compares first. Read [`Slot`] first, then [`find_in_row`].
+
+ghost use Rattle.std.specs.Prelude.{◌≡◌, true, IfSome};
+ghost use Rattle.known_routes.specs.InternTable.{is_taken, is_tagged};
+
+use mrt_events::{Route, route_size, same_route};
+use std::rc::Rc;
+
+/// The number of slots in a row. A route may be in two rows, so in eight slots. With one more, a
+/// row would begin in one line of the cache and end in the next.
+const ROW: usize = 4;
+
+/// The number of slots before the first row, which have no route. A large block begins 16 octets
+/// after the start of a page, the size of one slot, so that each row is in one line of the cache.
+/// With one more, none would be.
+const BEFORE_ROWS: usize = 3;
+
+/// The factor by which a hash is multiplied for its second row: the prime nearest to 2^32 divided
+/// by the golden ratio. An even factor would lose the highest bit of the hash.
+const SECOND_ROW: u32 = 0x9e37_79b1;
+
+/// The number of bits of a hash. With one more, only rows of the first half would be taken.
+const HASH_BITS: u32 = 32;
+
+/// The tag of a slot without a route. The numbers above it are tags of slots with a route.
+pub(crate) const FREE: u8 = 0;
+
+/// A slot of the hash table.
+#[derive(Drop)]
+pub(crate) enum Slot {
+    /// No route.
+    Free,
+    /// The hash of a route, and the route.
+    Taken(u32, Rc<Route>),
+}
+
+/// Returns `true` if the slot has a route.
+#[inline]
+pub(crate) fn is_taken(slot: &Slot) -> bool
+    ensures { result ≡ is_taken slot.now }
+{
+    matches!(slot, Slot::Taken(_, _))
+}
+
+/// Returns `true` if the slot has a route that nothing else owns.
+pub(crate) fn is_only_owner(slot: &Slot) -> bool {
+    matches!(slot, Slot::Taken(_, route) if Rc::strong_count(route) == 1)
+}
+
+/// Returns the number of octets that the route of the slot takes ([`route_size`]), or 0 if it has
+/// none.
+pub(crate) fn route_size_at(slot: &Slot) -> u64 {
+    match slot {
+        Slot::Free => 0,
+        Slot::Taken(_, route) => route_size(route),
+    }
+}
+
+/// Returns the tag of a slot whose route has the hash `hash`: the lowest octet of the hash, or 1 if
+/// that is 0. It is never [`FREE`].
+#[inline]
+pub(crate) fn tag_of(hash: u32) -> u8
+    ensures { is_tagged result ≡ true }
+{
+    // The lowest bits have the least influence on the row. Tags lie together, so that a search
+    // mostly reads them alone.
+    hash.to_le_bytes()[0].max(FREE + 1)
+}
+
+/// Returns `true` if `tag` is the tag of the slot at the index. Returns `false` if the index is out
+/// of bounds.
+#[inline]
+fn has_tag(tags: &[u8], index: usize, tag: u8) -> bool {
+    tags.get(index).is_some_and(|other| *other == tag)
+}
+
+/// Returns the index of the first slot of the row of `hash` in a table of `count` slots. The index
+/// is out of bounds if the table has no slots.
+#[inline]
+fn row_start(hash: u32, count: usize) -> usize {
+    let rows = (count.saturating_sub(BEFORE_ROWS) / ROW) as u64;
+    let row = (u64::from(hash).wrapping_mul(rows) >> HASH_BITS) as usize;
+    row.wrapping_mul(ROW).wrapping_add(BEFORE_ROWS)
+}
+
+/// Returns the indices of the first slots of the two rows of `hash` in a table of `count` slots.
+/// They are out of bounds if the table has no slots.
+#[inline]
+pub(crate) fn row_starts(hash: u32, count: usize) -> [usize; 2] {
+    [
+        row_start(hash, count),
+        row_start(hash.wrapping_mul(SECOND_ROW), count),
+    ]
+}
+
+/// Returns a route of this hash that equals `route`, with the index of its slot, from the row whose
+/// first slot is at the index `start`. Returns `None` if the row has none. `tags` has the tag of
+/// each slot.
+#[inline]
+pub(crate) fn find_in_row<'a>(
+    tags: &[u8],
+    slots: &'a [Slot],
+    start: usize,
+    hash: u32,
+    route: &Route,
+) -> Option<(usize, &'a Rc<Route>)>
+    ensures { IfSome result (λ found. found.1.now.value ≡ route.now) }
+{
+    let tag = tag_of(hash);
+    'slots: for index in start..start.saturating_add(ROW) {
+        if has_tag(tags, index, tag) {
+            if let Some(Slot::Taken(other, known)) = slots.get(index) {
+                if *other == hash && same_route(known, route) {
+                    return Some((index, known));
+                }
+            }
+        }
+    }
+    None
+}
+
+/// Returns `true` if the last slot of the row whose first slot is at the index `start` is free.
+/// Returns `false` if it is out of bounds.
+#[inline]
+pub(crate) fn ends_with_free_slot(tags: &[u8], start: usize) -> bool {
+    has_tag(tags, start.saturating_add(ROW - 1), FREE)
+}
+
+/// Returns the index of the first free slot of the row whose first slot is at the index `start`, or
+/// `None` if it has none. `tags` has the tag of each slot.
+#[inline]
+fn find_free_in_row(tags: &[u8], start: usize) -> Option<usize> {
+    (start..start.saturating_add(ROW)).find(|index| has_tag(tags, *index, FREE))
+}
+
+/// Returns the index of the slot that a route of this hash is to be put into: the first free one of
+/// its two rows, or the first slot of its first row if both are full. `tags` has the tag of each
+/// slot; if it is empty, the index is out of bounds.
+#[inline]
+pub(crate) fn slot_for(tags: &[u8], hash: u32) -> usize {
+    let [first, second] = row_starts(hash, tags.len());
+    find_free_in_row(tags, first)
+        .or_else(|| find_free_in_row(tags, second))
+        .unwrap_or(first)
+}
+
+/// Returns the index of the slot that has `route` itself, not one that equals it, in the row whose
+/// first slot is at the index `start`. Returns `None` if the row doesn't have it.
+#[inline]
+fn index_in_row(slots: &[Slot], start: usize, route: &Rc<Route>) -> Option<usize> {
+    (start..start.saturating_add(ROW)).find(|index| {
+        matches!(slots.get(*index), Some(Slot::Taken(_, known)) if Rc::ptr_eq(known, route))
+    })
+}
+
+/// Returns the index of the slot that has `route` itself, not one that equals it, in the two rows
+/// of its hash. Returns `None` if they don't have it.
+pub(crate) fn index_of(slots: &[Slot], hash: u32, route: &Rc<Route>) -> Option<usize> {
+    let [first, second] = row_starts(hash, slots.len());
+    index_in_row(slots, first, route).or_else(|| index_in_row(slots, second, route))
+}

@@ -1,0 +1,318 @@
+//! A hash table of routes. Each route is in a slot of one of the two rows of its hash, or in an
+//! overflow if these were full. `routes.rt` looks up and adds routes by it. Read [`InternTable`]
+//! first, then `slot.rt`.
+
+ghost use Rattle.std.specs.Prelude.{◌≡◌, ◌<◌, ◌≤◌, ◌+◌, ◌*◌, true, IfOk, IfSome, OnOk, OnErr, IsTrue, slice_index_or, vec_len, count_by};
+ghost use Rattle.known_routes.specs.InternTable.{is_taken, is_tagged, AreTagged};
+ghost use Rattle.known_routes.specs.declared.slot.TheConstants.{FREE};
+ghost use Rattle.known_routes.specs.declared.slots.TheConstants.{MIN_SLOTS, MAX_SLOTS, MOST_TIMES};
+
+use crate::ordered_routes::{HashedRoute, OrderedRoutes};
+use crate::slot::{
+    FREE, Slot, ends_with_free_slot, find_in_row, index_of, is_only_owner, is_taken, route_size_at,
+    row_starts, slot_for, tag_of,
+};
+use mrt_events::{Route, route_size};
+use std::alloc::{AllocError, Global};
+use std::mem;
+use std::rc::Rc;
+
+/// The number of slots of the first table, and the smallest number of a later one. The table grows
+/// when a route is added while three quarters of its slots are taken.
+const MIN_SLOTS: usize = 1024;
+
+/// The largest number of slots. A table of so many doesn't grow; a route whose rows are full goes
+/// to the overflow, where a search takes longer.
+pub(crate) const MAX_SLOTS: usize = 1 << 24;
+
+/// The largest number of slots for each route, besides [`MIN_SLOTS`]. If a play begins with one
+/// more than that, the routes move to a smaller table.
+const MOST_TIMES: usize = 3;
+
+/// The ratio of the routes in slots to those that may be in the overflow before searches go on
+/// there after a row with a free slot. With one route more there, they do.
+const CROWDED_SHARE: usize = 16;
+
+/// The ratio of the routes in slots to those that may replace another because both of their rows
+/// are full. Of routes with random hashes, fewer do. One more goes to the overflow, where a search
+/// takes longer.
+const OVERWRITTEN_SHARE: usize = 12;
+
+/// The index of a route in the overflow, which is in no slot. No number is above it.
+const IN_OVERFLOW: usize = usize::MAX;
+
+/// A hash table of routes, with an overflow for those whose rows are full.
+#[derive(Drop)]
+pub(crate) struct InternTable {
+    /// The slots.
+    pub(crate) slots: Vec<Slot>,
+    /// The tag of each slot: [`tag_of`] the hash of its route, or [`FREE`] if it has no route.
+    pub(crate) tags: Vec<u8>,
+    /// The number of slots that have a route.
+    pub(crate) taken: usize,
+    /// The overflow: routes that found both of their rows full.
+    overflow: OrderedRoutes,
+    /// The number of routes that replaced another in its slot.
+    overwritten: usize,
+    /// The number of octets that all routes of the table take ([`route_size`]), as far as they were
+    /// counted.
+    pub(crate) held_octets: u64,
+    ghost counted: { taken ≡ count_by is_taken slots.items },
+    ghost tagged: { AreTagged slots.items tags.items },
+}
+
+impl InternTable {
+    /// Returns a table without slots. Allocates no memory.
+    pub(crate) fn empty(alloc: Global) -> InternTable
+        ensures { vec_len result.slots ≡ 0 }
+    {
+        InternTable {
+            slots: Vec::new(alloc),
+            tags: Vec::new(alloc),
+            taken: 0,
+            overflow: OrderedRoutes::empty(alloc),
+            overwritten: 0,
+            held_octets: 0,
+        }
+    }
+
+    /// Returns a table of `count` slots without routes. Fails if memory allocation fails.
+    pub(crate) fn with_slots(alloc: Global, count: usize) -> Result<InternTable, AllocError>
+        ensures { IfOk result (λ free. vec_len free.slots ≡ count) }
+    {
+        let mut slots = Vec::with_capacity(alloc, count)?;
+        let mut tags = Vec::with_capacity(alloc, count)?;
+        'slots: for _ in 0..count {
+            slots.push(Slot::Free)?;
+            tags.push(FREE)?;
+        }
+        Ok(InternTable {
+            slots,
+            tags,
+            taken: 0,
+            overflow: OrderedRoutes::empty(alloc),
+            overwritten: 0,
+            held_octets: 0,
+        })
+    }
+
+    /// Returns `true` if the overflow has so many routes that a search goes on there after a row
+    /// with a free slot ([`CROWDED_SHARE`]).
+    #[inline]
+    fn is_overflow_crowded(&self) -> bool {
+        self.overflow.count > self.taken / CROWDED_SHARE
+    }
+
+    /// Returns `true` if a search ends after the row whose first slot is at the index `row`: its
+    /// last slot is free, and few routes are in the overflow.
+    #[inline]
+    fn ends_search(&self, row: usize) -> bool {
+        // Rows are filled from the front.
+        ends_with_free_slot(&self.tags, row) && !self.is_overflow_crowded()
+    }
+
+    /// Returns a route of this hash that equals `route`, with the index of its slot, or with
+    /// [`IN_OVERFLOW`] if it is in the overflow. Returns `None` if none is found. One that was put
+    /// while a row was full may not be found once that row has a free slot.
+    #[inline]
+    pub(crate) fn find_route(&self, hash: u32, route: &Route) -> Option<(usize, &Rc<Route>)>
+        ensures { IfSome result (λ found. found.1.now.value ≡ route.now) }
+    {
+        let [first, second] = row_starts(hash, self.slots.len());
+        if let Some(found) = find_in_row(&self.tags, &self.slots, first, hash, route) {
+            return Some(found);
+        }
+        if self.ends_search(first) {
+            return None;
+        }
+        if let Some(found) = find_in_row(&self.tags, &self.slots, second, hash, route) {
+            return Some(found);
+        }
+        if self.ends_search(second) {
+            return None;
+        }
+        Some((IN_OVERFLOW, self.overflow.find_route(hash, route)?))
+    }
+
+    /// Returns `true` if a route whose rows are full is to replace another: if few did so far
+    /// ([`OVERWRITTEN_SHARE`]), or if the overflow is full.
+    fn may_overwrite(&self) -> bool {
+        self.overwritten < self.taken / OVERWRITTEN_SHARE || self.overflow.is_full()
+    }
+
+    /// Adds a route of this hash to the overflow, and returns [`IN_OVERFLOW`]. Fails if memory
+    /// allocation fails; the route is dropped then.
+    #[inline(never)]
+    fn put_into_overflow(&mut self, hash: u32, route: Rc<Route>) -> Result<usize, AllocError>
+        ensures slots { vec_len self.new.slots ≡ vec_len self.old.slots }
+        ensures taken { self.new.taken ≡ self.old.taken }
+    {
+        // It isn't inlined, since few routes go there.
+        self.overflow.insert_route(hash, route)?;
+        Ok(IN_OVERFLOW)
+    }
+
+    /// Puts a route of this hash into a free slot of its two rows, and returns the index of the
+    /// slot. If they are full, the route replaces the first one of the first row
+    /// ([`InternTable::may_overwrite`]), or else goes to the overflow, at [`IN_OVERFLOW`]. A table
+    /// without slots drops it. Its octets aren't added to `held_octets`. Fails if memory allocation fails;
+    /// the route is dropped then.
+    pub(crate) fn put(&mut self, hash: u32, route: Rc<Route>) -> Result<usize, AllocError>
+        ensures slots { vec_len self.new.slots ≡ vec_len self.old.slots }
+        ensures taken { self.old.taken ≤ self.new.taken }
+    {
+        // A free slot isn't read, since its tag shows that it is free: few slots are in the cache.
+        let index = slot_for(&self.tags, hash);
+        if index >= self.tags.len() {
+            return Ok(IN_OVERFLOW);
+        }
+        if self.tags[index] == FREE {
+            let slot = mem::replace(&mut self.slots[index], Slot::Taken(hash, route));
+            mem::forget(slot);
+            self.tags[index] = tag_of(hash);
+            self.taken += 1;
+            return Ok(index);
+        }
+        if !self.may_overwrite() {
+            return self.put_into_overflow(hash, route);
+        }
+        self.overwritten = self.overwritten.saturating_add(1);
+        self.held_octets = self
+            .held_octets
+            .saturating_sub(route_size_at(&self.slots[index]));
+        self.slots[index] = Slot::Taken(hash, route);
+        self.tags[index] = tag_of(hash);
+        Ok(index)
+    }
+
+    /// Removes the route of the slot at the index. Does nothing if the slot has no route, or if the
+    /// index is out of bounds.
+    pub(crate) fn clear_slot(&mut self, index: usize)
+        ensures { vec_len self.new.slots ≡ vec_len self.old.slots }
+    {
+        if index < self.slots.len() && is_taken(&self.slots[index]) {
+            self.taken -= 1;
+            self.held_octets = self
+                .held_octets
+                .saturating_sub(route_size_at(&self.slots[index]));
+            self.slots[index] = Slot::Free;
+            self.tags[index] = FREE;
+        }
+    }
+
+    /// Removes `route` itself, not one that equals it. Does nothing if it isn't found. Its hash is
+    /// `hash`.
+    pub(crate) fn remove_route(&mut self, hash: u32, route: &Rc<Route>)
+        ensures { vec_len self.new.slots ≡ vec_len self.old.slots }
+    {
+        if let Some(index) = index_of(&self.slots, hash, route) {
+            self.clear_slot(index);
+        } else if self.overflow.remove_route(hash, route) {
+            self.held_octets = self.held_octets.saturating_sub(route_size(route));
+        }
+    }
+
+    /// Puts the routes of a run of another table's overflow into this table. Fails if memory
+    /// allocation fails; the routes that weren't put are dropped then.
+    fn put_run(&mut self, run: Vec<HashedRoute>) -> Result<(), AllocError>
+        ensures { vec_len self.new.slots ≡ vec_len self.old.slots }
+    {
+        'routes: for hashed in run {
+            self.put(hashed.hash, hashed.route)?;
+        }
+        Ok(())
+    }
+
+    /// Puts the routes of another table's overflow into this table. Fails if memory allocation
+    /// fails; the routes that weren't put are dropped then.
+    fn put_runs(&mut self, overflow: OrderedRoutes) -> Result<(), AllocError>
+        ensures { vec_len self.new.slots ≡ vec_len self.old.slots }
+    {
+        'runs: for run in overflow.runs {
+            self.put_run(run)?;
+        }
+        Ok(())
+    }
+
+    /// Moves the routes of another table into this one, which must have none. Fails if memory
+    /// allocation fails; the routes that weren't moved are dropped then.
+    fn move_from(&mut self, mut others: InternTable) -> Result<(), AllocError>
+        ensures { vec_len self.new.slots ≡ vec_len self.old.slots }
+    {
+        // A large overflow is moved as it is, since putting its routes would take longer than
+        // putting those in slots.
+        if others.is_overflow_crowded() {
+            mem::swap(&mut self.overflow, &mut others.overflow);
+        }
+        let InternTable {
+            slots,
+            overflow,
+            overwritten,
+            held_octets,
+            ..
+        } = others;
+        self.overwritten = overwritten;
+        self.held_octets = self.held_octets.saturating_add(held_octets);
+        'slots: for slot in slots {
+            if let Slot::Taken(hash, route) = slot {
+                self.put(hash, route)?;
+            }
+        }
+        self.put_runs(overflow)
+    }
+
+    /// Returns a table of [`MIN_SLOTS`] slots with the routes of this one. Fails if memory
+    /// allocation fails; the routes are dropped then.
+    fn move_to_smallest(self, alloc: Global) -> Result<InternTable, AllocError>
+        ensures { IfOk result (λ fewest. vec_len fewest.slots ≡ MIN_SLOTS) }
+    {
+        let mut fewest = InternTable::with_slots(alloc, MIN_SLOTS)?;
+        fewest.move_from(self)?;
+        Ok(fewest)
+    }
+
+    /// Removes the routes that have no other owner. Allocates no memory but for smaller blocks of
+    /// the overflow, and keeps the larger ones if that fails.
+    pub(crate) fn sweep(&mut self)
+        ensures { vec_len self.new.slots ≡ vec_len self.old.slots }
+    {
+        'slots: for index in 0..self.slots.len() {
+            if is_only_owner(&self.slots[index]) {
+                self.clear_slot(index);
+            }
+        }
+        let octets = self.overflow.remove_unowned();
+        self.held_octets = self.held_octets.saturating_sub(octets);
+    }
+
+    /// Returns `true` if there aren't too many slots for the routes in them ([`MOST_TIMES`]).
+    pub(crate) fn is_small_enough(&self) -> bool
+        ensures { IsTrue result →
+            vec_len self.now.slots ≤ MOST_TIMES * self.now.taken + MIN_SLOTS }
+    {
+        let most = self
+            .taken
+            .saturating_mul(MOST_TIMES)
+            .saturating_add(MIN_SLOTS);
+        self.slots.len() <= most
+    }
+
+    /// Moves the routes to a new table of two and a third slots for each, but at least
+    /// [`MIN_SLOTS`] and at most [`MAX_SLOTS`]. Fails if memory allocation fails; the table is
+    /// unchanged then, or has no slots and no routes.
+    pub(crate) fn resize(&mut self, alloc: Global) -> Result<(), AllocError>
+        ensures most { OnOk result (vec_len self.new.slots ≤ MAX_SLOTS) }
+        ensures fitting { OnOk result
+            (vec_len self.new.slots ≤ MOST_TIMES * self.new.taken + MIN_SLOTS) }
+        ensures refused { OnErr result (vec_len self.new.slots ≤ vec_len self.old.slots) }
+    {
+        let count = (self.taken.saturating_mul(7) / 3).clamp(MIN_SLOTS, MAX_SLOTS);
+        let mut others = InternTable::with_slots(alloc, count)?;
+        others.move_from(mem::replace(self, InternTable::empty(alloc)))?;
+        if !others.is_small_enough() {
+            others = others.move_to_smallest(alloc)?;
+        }
+        *self = others;
+        Ok(())
+    }
+}

@@ -1,0 +1,122 @@
+//! The MRT types and subtypes that are supported, and the format of the body of each (RFC 6396,
+//! section 4). `FrameReader::take_record` asks [`SupportedTypes`] for the format of each record,
+//! and `decode_record` matches on it. Read [`BodyFormat`] first.
+
+ghost use Rattle.std.specs.Prelude.{◌≡◌};
+ghost use Rattle.mrt_wire.specs.RecordTypes.{body_format, session_format};
+
+use bgp_wire::AsWidth;
+use ip_prefix::Family;
+use mrt_frames::RecordTypes;
+
+/// The MRT type of TABLE_DUMP records (RFC 6396, section 4.2). Their subtypes are address family
+/// numbers.
+const TABLE_DUMP: u16 = 12;
+
+/// The TABLE_DUMP subtype of an IPv4 prefix.
+const AFI_IPV4: u16 = 1;
+
+/// The TABLE_DUMP subtype of an IPv6 prefix.
+const AFI_IPV6: u16 = 2;
+
+/// The MRT type of TABLE_DUMP_V2 records (RFC 6396, section 4.3).
+const TABLE_DUMP_V2: u16 = 13;
+
+/// The TABLE_DUMP_V2 subtype of the peers of a table (RFC 6396, section 4.3.1).
+const PEER_INDEX_TABLE: u16 = 1;
+
+/// The TABLE_DUMP_V2 subtype of the entries for an IPv4 prefix (RFC 6396, section 4.3.2).
+const RIB_IPV4_UNICAST: u16 = 2;
+
+/// The TABLE_DUMP_V2 subtype of the entries for an IPv6 prefix (RFC 6396, section 4.3.2).
+const RIB_IPV6_UNICAST: u16 = 4;
+
+/// The MRT type of BGP4MP records (RFC 6396, section 4.4).
+const BGP4MP: u16 = 16;
+
+/// The MRT type of BGP4MP records whose bodies begin with microseconds (RFC 6396, section 3).
+const BGP4MP_ET: u16 = 17;
+
+/// The BGP4MP subtype of a state change, with AS numbers of two octets (RFC 6396, section 4.4.1).
+const BGP4MP_STATE_CHANGE: u16 = 0;
+
+/// The BGP4MP subtype of a message, with AS numbers of two octets (RFC 6396, section 4.4.2).
+const BGP4MP_MESSAGE: u16 = 1;
+
+/// The BGP4MP subtype of a message, with AS numbers of four octets (RFC 6396, section 4.4.3).
+const BGP4MP_MESSAGE_AS4: u16 = 4;
+
+/// The BGP4MP subtype of a state change, with AS numbers of four octets (RFC 6396, section 4.4.4).
+const BGP4MP_STATE_CHANGE_AS4: u16 = 5;
+
+/// The kind of a BGP4MP record, by what it reports of a session.
+#[derive(Clone, Copy)]
+pub(crate) enum SessionKind {
+    /// A state change (RFC 6396, sections 4.4.1 and 4.4.4).
+    StateChange,
+    /// A BGP message from the peer (RFC 6396, sections 4.4.2 and 4.4.3).
+    Message,
+}
+
+/// The format of the body of a BGP4MP or BGP4MP_ET record.
+#[derive(Clone, Copy)]
+pub(crate) struct SessionFormat {
+    /// The kind of the record.
+    pub(crate) kind: SessionKind,
+    /// The width of AS numbers, both in the session fields and in the paths of an UPDATE.
+    pub(crate) width: AsWidth,
+    /// Whether the body begins with microseconds, as those of BGP4MP_ET do (RFC 6396, section 3).
+    pub(crate) timed: bool,
+}
+
+/// The format of the body of a supported record.
+#[derive(Clone, Copy)]
+pub(crate) enum BodyFormat {
+    /// One peer and its route to a prefix of this family: TABLE_DUMP (RFC 6396, section 4.2).
+    Entry(Family),
+    /// The peers of a table: PEER_INDEX_TABLE (RFC 6396, section 4.3.1).
+    Peers,
+    /// The entries of a table for one prefix of this family: RIB_IPV4_UNICAST or RIB_IPV6_UNICAST
+    /// (RFC 6396, section 4.3.2).
+    Entries(Family),
+    /// A state change or a message of a session: BGP4MP or BGP4MP_ET (RFC 6396, section 4.4).
+    Session(SessionFormat),
+}
+
+/// The supported types and subtypes of records, each with its [`BodyFormat`].
+pub(crate) struct SupportedTypes;
+
+impl RecordTypes for SupportedTypes {
+    type BodyFormat = BodyFormat;
+
+    ghost format_at = { λ _ kind subtype. body_format kind subtype };
+
+    fn body_format(&self, kind: u16, subtype: u16) -> Option<BodyFormat> {
+        match (kind, subtype) {
+            (TABLE_DUMP, AFI_IPV4) => Some(BodyFormat::Entry(Family::V4)),
+            (TABLE_DUMP, AFI_IPV6) => Some(BodyFormat::Entry(Family::V6)),
+            (TABLE_DUMP_V2, PEER_INDEX_TABLE) => Some(BodyFormat::Peers),
+            (TABLE_DUMP_V2, RIB_IPV4_UNICAST) => Some(BodyFormat::Entries(Family::V4)),
+            (TABLE_DUMP_V2, RIB_IPV6_UNICAST) => Some(BodyFormat::Entries(Family::V6)),
+            (BGP4MP, _) => session_format(false, subtype),
+            (BGP4MP_ET, _) => session_format(true, subtype),
+            _ => None,
+        }
+    }
+}
+
+/// Returns the format of the body of a BGP4MP record of this subtype, or `None` if the subtype
+/// isn't supported. `timed` tells whether the body begins with microseconds, as those of BGP4MP_ET
+/// do.
+fn session_format(timed: bool, subtype: u16) -> Option<BodyFormat>
+    ensures { result ≡ session_format timed subtype }
+{
+    let (kind, width) = match subtype {
+        BGP4MP_STATE_CHANGE => (SessionKind::StateChange, AsWidth::Two),
+        BGP4MP_MESSAGE => (SessionKind::Message, AsWidth::Two),
+        BGP4MP_MESSAGE_AS4 => (SessionKind::Message, AsWidth::Four),
+        BGP4MP_STATE_CHANGE_AS4 => (SessionKind::StateChange, AsWidth::Four),
+        _ => return None,
+    };
+    Some(BodyFormat::Session(SessionFormat { kind, width, timed }))
+}

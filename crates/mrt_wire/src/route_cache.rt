@@ -1,0 +1,336 @@
+//! A cache of the routes that table entries were parsed into, with the octets that each was parsed
+//! from. Peers mostly send the same attributes in record after record, which are parsed once.
+//! `rib.rt` and `table_dump.rt` call [`RouteCache::get_or_read`] for each entry; read that first,
+//! then [`CachedRoute`].
+
+ghost use Rattle.std.specs.Prelude.{◌≡◌, ◌≤◌, ◌<◌, IsTrue, IfOk, IfErr, IfSome, OnOk, vec_len};
+ghost use Rattle.bgp_wire.specs.Content.{SpellsRibAttrs};
+ghost use Rattle.mrt_wire.specs.declared.peers.TheConstants.{PEER_SLOTS};
+ghost use Rattle.mrt_wire.specs.declared.route_cache.TheConstants.{MOST_SPARES};
+ghost use Rattle.mrt_wire.specs.Decoding.{IsRouteFrom, RefusesRaw};
+
+use crate::peers::PEER_SLOTS;
+use crate::rib_route::{RawAttrs, fill_or_replace, new_route};
+use crate::route_pool::RoutePool;
+use bgp_wire::{AS_PATH, AsWidth, EXTENDED_LENGTH, MP_REACH_NLRI, ORIGIN, WireFault};
+use ip_prefix::Family;
+use mrt_events::Route;
+use std::alloc::{AllocError, Global};
+use std::marker::Model;
+use std::mem;
+use std::rc::Rc;
+
+/// The size of the value of ORIGIN, in octets (RFC 4271, section 4.3).
+const ORIGIN_SIZE: u8 = 1;
+
+/// The largest size of the attributes of a cached route, in octets. Attributes of one octet more
+/// are parsed for each entry, into a route of the pool.
+const LONGEST_CACHED: usize = 192;
+
+/// The largest number of path segments of a cached route. A slot whose route has one segment more
+/// is emptied, so that the next entry there is parsed into new memory.
+const MOST_SEGMENTS: usize = 2;
+
+/// The largest number of octets of memory that a slot takes, with all capacity of its route. It was
+/// computed for the path that takes most, one of AS numbers of two octets. Nothing compares it at
+/// run time; the bound `MOST_OCTETS` of `pool.rt` is proved with it.
+pub(crate) const LARGEST_SLOT: usize = 1344;
+
+/// The largest number of spare routes. A record with more entries whose routes have other owners
+/// allocates memory for the further ones.
+pub(crate) const MOST_SPARES: usize = 64;
+
+/// A ring of routes that are swapped for routes with other owners. By the time that a route's turn
+/// comes again, its other owners have mostly dropped it.
+#[derive(Drop)]
+struct SpareRoutes {
+    routes: Vec<Rc<Route>>,
+    /// The index of the route that is swapped next.
+    next: usize,
+    ghost few: { vec_len routes ≤ MOST_SPARES },
+    ghost within: { next < MOST_SPARES },
+}
+
+impl SpareRoutes {
+    /// Returns an empty ring, without allocating memory.
+    fn new(alloc: Global) -> SpareRoutes {
+        SpareRoutes {
+            routes: Vec::new(alloc),
+            next: 0,
+        }
+    }
+
+    /// Swaps `route` for the next route of the ring, which may have other owners too, or for a
+    /// blank one as long as the ring has fewer than [`MOST_SPARES`] routes. On error, which means
+    /// that memory allocation fails, `route` is unspecified.
+    #[inline(always)]
+    fn swap_route(&mut self, alloc: Global, route: &mut Rc<Route>) -> Result<(), AllocError> {
+        match self.routes.get_mut(self.next) {
+            Some(spare) => mem::swap(spare, route),
+            None => self.add_route(alloc, route)?,
+        }
+        self.next = (self.next + 1) % MOST_SPARES;
+        Ok(())
+    }
+
+    /// Moves `route` to the end of the ring, and sets `route` to a new one without attributes. On
+    /// error, which means that memory allocation fails, `route` is unspecified.
+    #[inline(never)]
+    fn add_route(&mut self, alloc: Global, route: &mut Rc<Route>) -> Result<(), AllocError>
+        requires { vec_len self.old.routes < MOST_SPARES }
+        ensures { self.new.next ≡ self.old.next }
+    {
+        let blank = new_route(alloc)?;
+        self.routes.push(mem::replace(route, blank))?;
+        Ok(())
+    }
+}
+
+/// A route of a table entry, with the octets that its attributes were parsed from. In contracts it
+/// is the route.
+#[derive(Drop)]
+struct CachedRoute {
+    route: Rc<Route>,
+    /// The path attributes, unparsed (RFC 4271, section 4.3).
+    octets: Vec<u8>,
+    /// The family of the prefix that `octets` were parsed for.
+    family: Family,
+    /// The width of the AS numbers in `octets`.
+    width: AsWidth,
+    /// Whether `route` was parsed from `octets`. It is `false` before the first entry, and after one that
+    /// couldn't be parsed.
+    known: bool,
+}
+
+impl Model for CachedRoute {
+    ghost use Rattle.std.specs.Prelude.{◌≡◌, true};
+    ghost use Rattle.bgp_wire.specs.Content.{SpellsRibAttrs};
+    ghost use Rattle.mrt_events.specs.declared.event.Route.{Route};
+
+    ghost Value = { Route };
+
+    ghost view = { λ a. a.route.value };
+
+    ghost invariant = { λ a. a.known ≡ true →
+        SpellsRibAttrs a.family a.width a.route.value.attrs a.octets.items };
+}
+
+impl CachedRoute {
+    /// Returns a route without attributes, which was parsed from no octets. Fails if memory
+    /// allocation fails.
+    fn new(alloc: Global) -> Result<CachedRoute, AllocError> {
+        let route = new_route(alloc)?;
+        Ok(CachedRoute {
+            route,
+            octets: Vec::with_capacity(alloc, LONGEST_CACHED)?,
+            family: Family::V4,
+            width: AsWidth::Four,
+            known: false,
+        })
+    }
+
+    /// Returns `true` if the attributes of the route were parsed from the octets of `raw`, for its
+    /// family and at its width.
+    #[inline(always)]
+    fn was_read_from(&self, raw: RawAttrs<'_>) -> bool
+        ensures { IsTrue result → SpellsRibAttrs raw.entry.family raw.entry.width
+            self.now.attrs raw.entry.octets.now }
+    {
+        self.known
+            && self.family == raw.family
+            && self.width == raw.width
+            && self.octets.as_slice() == raw.octets
+    }
+
+    /// Sets the time of the route, in seconds since 1970, and returns `true`. If the route has
+    /// another time and another owner, it is left as it is, and `false` is returned.
+    #[inline(always)]
+    fn try_set_time(&mut self, time: u32) -> bool
+        ensures time { IsTrue result → self.new.time ≡ time }
+        ensures attrs { self.new.attrs ≡ self.old.attrs }
+    {
+        if self.route.time == time {
+            return true;
+        }
+        match Rc::get_mut(&mut self.route) {
+            Some(route) => {
+                route.time = time;
+                true
+            }
+            None => false,
+        }
+    }
+
+    /// Parses attributes into the route, sets its time, in seconds since 1970, and returns it. If
+    /// it has other owners, a route of `spares` or a new one replaces it first. Fails with
+    /// `Malformed` if the attributes are malformed, or with `Memory` if memory allocation fails;
+    /// the route isn't reused then until it was parsed anew.
+    #[inline(always)]
+    fn read(
+        &mut self,
+        alloc: Global,
+        spares: &mut SpareRoutes,
+        raw: RawAttrs<'_>,
+        time: u32,
+    ) -> Result<Rc<Route>, WireFault>
+        ensures read { IfOk result (λ route. IsRouteFrom raw.entry time route.value) }
+        ensures refused { IfErr result (RefusesRaw raw.entry) }
+    {
+        self.known = false;
+        if Rc::strong_count(&self.route) > 1 {
+            spares.swap_route(alloc, &mut self.route)?;
+        }
+        fill_or_replace(&mut self.route, alloc, raw, time)?;
+        self.octets.clear();
+        self.octets.extend_from_slice(raw.octets)?;
+        self.family = raw.family;
+        self.width = raw.width;
+        self.known = true;
+        Ok(self.route.clone()?)
+    }
+}
+
+/// Returns `true` if path attributes begin as routers mostly send them, in the order of their types
+/// (RFC 4271, section 5): with ORIGIN, and then an AS_PATH of one segment, whose AS numbers have
+/// this width. It is `false` for an empty AS_PATH, which has no segment.
+#[inline(always)]
+fn has_usual_layout(octets: &[u8], width: AsWidth) -> bool {
+    let (size, count) = match octets {
+        [
+            _,
+            ORIGIN,
+            ORIGIN_SIZE,
+            _,
+            flags,
+            AS_PATH,
+            size,
+            _,
+            count,
+            ..
+        ] if flags & EXTENDED_LENGTH == 0 => { (*size, *count) }
+        [_, ORIGIN, ORIGIN_SIZE, _, _, AS_PATH, 0, size, _, count, ..] => (*size, *count),
+        _ => return false,
+    };
+    usize::from(size) == usize::from(count) * width.octets() + 2
+}
+
+/// Returns `true` if path attributes begin with MP_REACH_NLRI (RFC 7606, section 5.1), with its
+/// length in one octet, and then as [`has_usual_layout`] tests it.
+#[inline(never)]
+fn has_usual_layout_after_mp_reach(octets: &[u8], width: AsWidth) -> bool {
+    match octets {
+        [flags, MP_REACH_NLRI, size, rest @ ..] if flags & EXTENDED_LENGTH == 0 => rest
+            .get(usize::from(*size)..)
+            .is_some_and(|behind| has_usual_layout(behind, width)),
+        _ => false,
+    }
+}
+
+/// The cached routes of table entries, each in a slot. A peer has one slot, by its peer index or
+/// its hash, which it may share with other peers.
+#[derive(Drop)]
+pub(crate) struct RouteCache {
+    /// The slots, up to the last that was needed. An empty one is `None`.
+    slots: Vec<Option<CachedRoute>>,
+    spares: SpareRoutes,
+    /// The routes of entries that aren't cached.
+    pub(crate) routes: RoutePool,
+    ghost bounded: { vec_len slots ≤ PEER_SLOTS },
+}
+
+impl RouteCache {
+    /// Returns a cache without slots, without allocating memory.
+    pub(crate) fn new(alloc: Global) -> RouteCache {
+        RouteCache {
+            slots: Vec::new(alloc),
+            spares: SpareRoutes::new(alloc),
+            routes: RoutePool::new(alloc),
+        }
+    }
+
+    /// Adds empty slots until there is one with index `slot`. Fails if memory allocation fails.
+    fn ensure_slot(&mut self, slot: usize) -> Result<(), AllocError>
+        requires { slot < PEER_SLOTS }
+        ensures { OnOk result (slot < vec_len self.new.slots) }
+    {
+        'slots: while self.slots.len() <= slot {
+            self.slots.push(None)?;
+        }
+        Ok(())
+    }
+
+    /// Empties a slot, given by its index. Frees the memory of its route unless that has other
+    /// owners.
+    #[inline(never)]
+    fn clear(&mut self, slot: usize)
+        requires { slot < vec_len self.old.slots }
+    {
+        self.slots[slot] = None;
+    }
+
+    /// Parses attributes into the slot with index `slot`, and returns their route, with this time,
+    /// in seconds since 1970. Fails with `Malformed` if the attributes are malformed, or with
+    /// `Memory` if memory allocation fails; the slot's route isn't reused then until it was parsed
+    /// anew.
+    #[inline(always)]
+    fn read(
+        &mut self,
+        alloc: Global,
+        slot: usize,
+        raw: RawAttrs<'_>,
+        time: u32,
+    ) -> Result<Rc<Route>, WireFault>
+        requires { slot < vec_len self.old.slots }
+        ensures read { IfOk result (λ route. IsRouteFrom raw.entry time route.value) }
+        ensures refused { IfErr result (RefusesRaw raw.entry) }
+        ensures slots { vec_len self.new.slots ≡ vec_len self.old.slots }
+    {
+        // One call of it, so that a compiler puts it here whole.
+        if self.slots[slot].is_none() {
+            self.slots[slot] = Some(CachedRoute::new(alloc)?);
+        }
+        match &mut self.slots[slot] {
+            Some(read) => read.read(alloc, &mut self.spares, raw, time),
+            None => unreachable!(),
+        }
+    }
+
+    /// Returns a route with these attributes and this time, in seconds since 1970. `number` is the
+    /// peer index of the entry or a hash of its peer, which selects the slot. If the slot's route
+    /// was parsed from the same octets, nothing is parsed. A route that may take more memory than a
+    /// slot may is parsed into the pool. Fails with `Malformed` if the attributes are malformed, or
+    /// with `Memory` if memory allocation fails.
+    #[inline(always)]
+    pub(crate) fn get_or_read(
+        &mut self,
+        alloc: Global,
+        number: usize,
+        raw: RawAttrs<'_>,
+        time: u32,
+    ) -> Result<Rc<Route>, WireFault>
+        ensures read { IfOk result (λ route. IsRouteFrom raw.entry time route.value) }
+        ensures refused { IfErr result (RefusesRaw raw.entry) }
+    {
+        // Which routes are cached changes time and memory alone, so the contract doesn't tell them apart.
+        if raw.octets.len() > LONGEST_CACHED {
+            return self.routes.rib_route(alloc, raw, time);
+        }
+        let slot = number % PEER_SLOTS;
+        self.ensure_slot(slot)?;
+        if let Some(read) = &mut self.slots[slot] {
+            if read.was_read_from(raw) && read.try_set_time(time) {
+                return Ok(read.route.clone()?);
+            }
+        }
+        if !has_usual_layout(raw.octets, raw.width)
+            && !has_usual_layout_after_mp_reach(raw.octets, raw.width)
+        {
+            return self.routes.rib_route(alloc, raw, time);
+        }
+        let route = self.read(alloc, slot, raw, time)?;
+        if route.attrs.path.segments.as_slice().len() > MOST_SEGMENTS {
+            self.clear(slot);
+        }
+        Ok(route)
+    }
+}

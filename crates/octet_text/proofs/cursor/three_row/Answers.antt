@@ -1,5 +1,0 @@
-use Rattle.octet_text.proofs.DigitRows.{three_row_at}
-use Rattle.octet_text.proofs.cursor.three_row.Goals as goal
-
-pub returns : goal.returns
-returns c = three_row_at c.args.number c.requires

@@ -1,9 +1,0 @@
-use Rattle.std.proofs.Common.{arith}
-use Rattle.octet_text.proofs.DigitRows.{decimal_thousands}
-use Rattle.octet_text.proofs.Writing.{written_then}
-use Rattle.octet_text.proofs.cursor.write_six.Goals as goal
-
-pub returns-clause-written : goal.returns-clause-written
-returns-clause-written c =
-    let whole = decimal_thousands c.args.number (omega (arith, c.if-number-lt-THOUSAND.false)) (omega (arith, c.requires)) in
-    rw whole (written_then _ _ _ _ _ _ _ _ c.write_short-thousands.ensures.written c.write_three.ensures)

@@ -1,5 +1,0 @@
-use Rattle.prefix_store.proofs.LongestLaws.{longest-one}
-use Rattle.prefix_store.proofs.laws.one_longest.Goals as goal
-
-pub returns : goal.returns
-returns g c = longest-one

@@ -1,5 +1,0 @@
-use Rattle.rib_player.proofs.TimelineLaws.{StandsFor-after_call}
-use Rattle.rib_player.proofs.laws.history_after_one_call.Goals as goal
-
-pub returns : goal.returns
-returns c = StandsFor-after_call

@@ -1,0 +1,10 @@
+use Rattle.std.proofs.Common.{subst, sym, take}
+use Rattle.rib_player.specs.Indices.{ListsAll}
+use Rattle.rib_player.specs.SparseSet.{choices}
+use Rattle.rib_player.proofs.ChosenLaws.{front-listed}
+use Rattle.rib_player.proofs.sparse_set.SparseSet.numbers.Goals as goal
+
+pub returns : goal.returns
+returns c =
+    let s = c.args.self.now in
+    subst (λ ns. ListsAll (choices s) (take s.count ns)) (sym c.deref.ensures.value) (front-listed s.count s.inverse)

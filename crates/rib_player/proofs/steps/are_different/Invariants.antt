@@ -1,8 +1,0 @@
-use Rattle.std.proofs.Common.{take}
-use Rattle.rib_player.specs.Journal.{sides_of}
-use Rattle.rib_player.specs.Marks.{AreDistinct}
-use Rattle.rib_player.proofs.steps.are_different.Given as goal
-
--- no two of the entries so far are of one pair
-abbrev pub invariant-entries : goal.invariant-entries
-invariant-entries l = AreDistinct (sides_of (take l.index l.entries))

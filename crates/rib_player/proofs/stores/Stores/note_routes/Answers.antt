@@ -1,8 +1,0 @@
-use Rattle.rib_player.proofs.NumberLaws.{numbered-along, stores-replaced}
-use Rattle.std.proofs.Common.{sym}
-use Rattle.rib_player.proofs.stores.Stores.note_routes.Goals as goal
-
-pub returns-clause-noted : goal.returns-clause-noted
-returns-clause-noted g c peer found =
-    let s = c.args.self.now in
-    stores-replaced (numbered-along s.numbered (sym s.each)) c.choose.ensures peer found

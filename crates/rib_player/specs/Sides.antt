@@ -1,0 +1,129 @@
+-- Private.
+-- The sides of steps, what they must fulfil, and on which sides of its step each pair has a route.
+use Rattle.std.specs.Prelude.{◌≡◌, ℕ, true, None, List, [], map, slice_index_or, Bool, false, ◌&&◌, ◌||◌, not, is_some, ◌∷◌, length}
+use Rattle.std.specs.List.{AllByRecursion, IsDistinct, list_any}
+use Rattle.std.specs.Ordering.{eq_by_cmp}
+use Rattle.std.specs.FinMap.{get, keys}
+use Rattle.std.specs.FinSet.{contains, from_list}
+use Rattle.ip_prefix.specs.Network.{Network}
+use Rattle.mrt_events.specs.declared.peer.Peer.{Peer}
+use Rattle.mrt_events.specs.declared.event.Event.{Event}
+use Rattle.rib_player.specs.History.{pair_cmp, pair_of}
+use Rattle.rib_player.specs.Tables.{Routes, Pairs, table_after, named_pairs, peer_routes}
+use Rattle.rib_player.specs.Journal.{Side, pairs_in}
+use Rattle.rib_player.specs.declared.pair.Pair.{Pair}
+use Rattle.rib_player.specs.declared.entry.Step.{Step}
+use Rattle.rib_player.specs.declared.entry.JournalEnd.{JournalEnd}
+use Rattle.rib_player.specs.declared.entry.JournalEnd.TheVariants.{First, Last}
+use Rattle.rib_player.specs.Entries.{Entry}
+use Rattle.rib_player.specs.Claims.{is_routed}
+
+-- ---- the sides of steps, what they must fulfil, and those that an event makes
+
+-- the sides of a step after it is applied or undone, given the table before that: its pairs, with the routes
+-- that the table had
+abbrev pub sides_across : Routes → List Side → List Side
+sides_across routes sides = map (λ side. (side.0, get routes side.0)) sides
+
+-- the side of a pair without a route
+abbrev pub cleared_side : Peer → Network → Side
+cleared_side peer prefix = (pair_of peer prefix, None)
+
+-- the sides clear all routes of a peer: one for each pair of it that has a route, in order, without a route
+-- on the other side
+abbrev pub ClearAllOf : Routes → Peer → List Side → Type 0
+ClearAllOf routes peer sides = sides ≡ map (cleared_side peer) (keys (peer_routes routes peer))
+
+-- no two sides are of one pair
+abbrev pub AreDistinct : List Side → Type 0
+AreDistinct sides = IsDistinct (eq_by_cmp pair_cmp) (pairs_in sides)
+
+-- no two sides are of one pair, and each pair is a key
+pub record AreDistinctKeys (all : Pairs) (sides : List Side) : Type 0 where
+  pub distinct : AreDistinct sides
+  pub among_keys : AllByRecursion (λ pair. contains all pair ≡ true) (pairs_in sides)
+
+-- the sides of the step at an index; none past the end
+abbrev pub sides_at : List (List Side) → ℕ → List Side
+sides_at steps index = slice_index_or steps index []
+
+-- the sides are those of the step that an event makes on a table, before it is applied: they name the pairs
+-- that the event names, each once, with the routes after the event
+pub record IsStepFor (routes : Routes) (event : Event) (sides : List Side) : Type 0 where
+  pub distinct : AreDistinct sides
+  pub after : sides ≡ sides_across (table_after routes event) sides
+  pub names : from_list (pairs_in sides) ≡ named_pairs routes event
+
+-- ---- on which sides of its step each pair has a route, as entries are marked
+
+-- a pair, and whether it has a route before a step and after it
+pub record Mark : Type 0 where
+  pub pair : Pair
+  pub before : Bool
+  pub after : Bool
+
+-- the mark of an entry
+abbrev pub mark_of : Entry → Mark
+mark_of entry = record { pair = entry.pair; before = entry.before; after = entry.after }
+
+-- the marks of entries, in order
+abbrev pub marks_of : List Entry → List Mark
+marks_of entries = map mark_of entries
+
+-- the marks of a step's entries
+abbrev pub step_marks : Step → List Mark
+step_marks step = marks_of step.entries.items
+
+-- the marks of each step's entries, in order
+abbrev pub marks_by_step : List Step → List (List Mark)
+marks_by_step steps = map step_marks steps
+
+-- how many entries a step has
+abbrev pub entry_count : Step → ℕ
+entry_count step = length step.entries.items
+
+-- whether a pair is among those of the marks
+abbrev pub named_by : List Mark → Pair → Bool
+named_by marks q = list_any (eq_by_cmp pair_cmp q) (map (λ mark. mark.pair) marks)
+
+-- whether removing a step at an end of the journal releases a claim of a pair, given whether the pair has a
+-- route before and after the step: at the first end if the step clears it, at the last end if the step brings
+-- it
+abbrev pub releases_at : JournalEnd → Bool → Bool → Bool
+releases_at First before after = before && not after
+releases_at Last before after = not before && after
+
+-- whether removing a step at an end of the journal releases a claim of the pair of this mark
+abbrev pub releases_claim : JournalEnd → Mark → Bool
+releases_claim end mark = releases_at end mark.before mark.after
+
+-- whether removing a step at an end of the journal releases a claim of `q`, by this mark
+abbrev pub releases_claim_of : JournalEnd → Mark → Pair → Bool
+releases_claim_of end mark q = releases_claim end mark && eq_by_cmp pair_cmp q mark.pair
+
+-- whether removing a step with these marks at an end of the journal releases a claim of `q`
+abbrev pub any_releases_claim_of : JournalEnd → List Mark → Pair → Bool
+any_releases_claim_of end marks q = list_any (λ mark. releases_claim_of end mark q) marks
+
+-- the marks of a step that is being applied, given the table before it and its sides, which have the routes
+-- after it
+abbrev pub marks_across : Routes → List Side → List Mark
+marks_across routes sides = map (λ side. record { pair = side.0; before = is_routed side.0 routes; after = is_some side.1 }) sides
+
+-- a mark is right for a step between these tables, and its pair has a route in one of them
+pub record IsMarkOf (before after : Routes) (mark : Mark) : Type 0 where
+  pub mark_before : mark.before ≡ is_routed mark.pair before
+  pub mark_after : mark.after ≡ is_routed mark.pair after
+  pub some : (mark.before || mark.after) ≡ true
+
+-- all marks are right for a step between these tables, and each pair that isn't marked has a route in both of
+-- them or in neither
+pub record AreMarksOf (before after : Routes) (marks : List Mark) : Type 0 where
+  pub right : AllByRecursion (IsMarkOf before after) marks
+  pub unnamed : (q : Pair) → named_by marks q ≡ false → is_routed q before ≡ is_routed q after
+
+-- the marks of each step are right between the tables before and after it; there is one table more than steps
+abbrev pub AreMarked : List Routes → List (List Mark) → Type 0
+AreMarked (last ∷ []) [] = Unit {0}
+AreMarked (before ∷ after ∷ tables) (marks ∷ steps) = AreMarksOf before after marks × AreMarked (after ∷ tables) steps
+AreMarked tables steps = ⊥
