@@ -10,7 +10,7 @@ use Rattle.mrt_wire.specs.Results.{RecordResult}
 use Rattle.bgpdump_tool.specs.Run.{all_results}
 use Rattle.bgpdump.specs.declared.run.Devices.{Devices}
 use Rattle.bgpdump.specs.declared.run.FinishedRun.{FinishedRun}
-use Rattle.bgpdump.specs.Endings.{outcome_without_writers, KeepsBoth, HoldsForWriters, LeavesTexts, HoldTexts}
+use Rattle.bgpdump.specs.Endings.{outcome_without_writers, KeepsBoth, HoldsForWriters, LeavesTexts, WritersHoldTexts}
 
 -- ---- what stays behind a text
 
@@ -88,7 +88,7 @@ told_unless_lost outcome told ended None same is = inr refl
 
 -- over known octets a run leaves just its texts
 pub hold_texts : {R O E : Type 0} (devices : Devices R O E) (ended : FinishedRun R O E) (remaining : R → Option (List ℕ)) (contents : O → Option (List ℕ)) (contents' : E → Option (List ℕ)) (stamp : Stamp) (texts : List RecordResult → Texts) (octets : List ℕ)
-    → remaining devices.reader ≡ Some octets → contents devices.out ≡ Some [] → contents' devices.err ≡ Some [] → LeavesTexts remaining contents contents' stamp texts devices ended → HoldTexts contents contents' stamp texts octets ended
+    → remaining devices.reader ≡ Some octets → contents devices.out ≡ Some [] → contents' devices.err ≡ Some [] → LeavesTexts remaining contents contents' stamp texts devices ended → WritersHoldTexts contents contents' stamp texts octets ended
 hold_texts devices ended remaining contents contents' stamp texts octets known none none' leaves frames rest splits =
     let with_out : Option (List ℕ) → Outputs = λ out. record { out = out; err = contents' devices.err } in
     let with_err : Option (List ℕ) → Outputs = λ err. record { out = Some []; err = err } in

@@ -52,8 +52,8 @@ has_failed buffered = IsTrue buffered.input.failed
 
 -- `Relates` holds between the octets that the reader had before the run and those that the input has left
 -- after it. Holds if the run gives no input back.
-abbrev pub HasTaken : {R : Type 0} → (R → Option (List ℕ)) → (Option (List ℕ) → Option (List ℕ) → Type 0) → R → Option (BufferedInput R) → Type 0
-HasTaken remaining Relates reader input = IfSome input (λ input. Relates (remaining reader) (left_of remaining input))
+abbrev pub HoldsForInput : {R : Type 0} → (R → Option (List ℕ)) → (Option (List ℕ) → Option (List ℕ) → Type 0) → R → Option (BufferedInput R) → Type 0
+HoldsForInput remaining Relates reader input = IfSome input (λ input. Relates (remaining reader) (left_of remaining input))
 
 -- If the reader shows its octets, the writers have got the texts of their results as `EndsWithTexts` says.
 -- Holds if the run gives no writers back.
@@ -64,8 +64,8 @@ LeavesTexts remaining contents contents' stamp texts devices ended =
 
 -- Writers that held nothing before the run hold the texts of the results of `octets` as `EndsWithTexts` says,
 -- and nothing else. Holds if the run gives no writers back.
-abbrev pub HoldTexts : {R O E : Type 0} → (O → Option (List ℕ)) → (E → Option (List ℕ)) → Stamp → (List RecordResult → Texts) → List ℕ → FinishedRun R O E → Type 0
-HoldTexts contents contents' stamp texts octets ended =
+abbrev pub WritersHoldTexts : {R O E : Type 0} → (O → Option (List ℕ)) → (E → Option (List ℕ)) → Stamp → (List RecordResult → Texts) → List ℕ → FinishedRun R O E → Type 0
+WritersHoldTexts contents contents' stamp texts octets ended =
     (frames : List Frame) (rest : List ℕ) → Splits stamp None octets frames rest
     → HoldsForWriters contents contents' (EndsWithTexts ended.outcome (texts (all_results stamp frames rest)) (record { out = Some []; err = Some [] })) ended.writers
 
@@ -74,14 +74,14 @@ HoldTexts contents contents' stamp texts octets ended =
 abbrev pub LeavesWholeRecords : {R O E : Type 0} → (R → Option (List ℕ)) → (O → Option (List ℕ)) → (E → Option (List ℕ)) → Stamp → (List RecordResult → Texts) → Devices R O E → FinishedRun R O E → Type 0
 LeavesWholeRecords remaining contents contents' stamp texts devices ended =
     EndedByInput ended.outcome
-    → HasTaken remaining (λ left left'. HoldsForTaken stamp left left' (λ frames rest. Leaves contents contents' (Writes (texts (all_results stamp frames []))) devices ended))
+    → HoldsForInput remaining (λ left left'. HoldsForTaken stamp left left' (λ frames rest. Leaves contents contents' (Writes (texts (all_results stamp frames []))) devices ended))
     devices.reader ended.input
 
 -- If the script isn't too long, writers that held nothing before the run hold the script's texts over the
 -- results of `octets` as `EndsWithTexts` says, and nothing else.
-abbrev pub HoldReplies : {R O E : Type 0} → (O → Option (List ℕ)) → (E → Option (List ℕ)) → Stamp → List ℕ → List ℕ → FinishedRun R O E → Type 0
-HoldReplies contents contents' stamp script octets ended =
-    length script ≤ LONGEST_SCRIPT → HoldsForLines script (λ lines. HoldTexts contents contents' stamp (play_texts lines) octets ended)
+abbrev pub WritersHoldReplies : {R O E : Type 0} → (O → Option (List ℕ)) → (E → Option (List ℕ)) → Stamp → List ℕ → List ℕ → FinishedRun R O E → Type 0
+WritersHoldReplies contents contents' stamp script octets ended =
+    length script ≤ LONGEST_SCRIPT → HoldsForLines script (λ lines. WritersHoldTexts contents contents' stamp (play_texts lines) octets ended)
 
 -- 2^40 octets were taken from the input, where they are known.
 abbrev pub TookInputLimit : Option (List ℕ) → Option (List ℕ) → Type 0
@@ -101,14 +101,14 @@ ending_status (NotRead instructions error) = exit_status ReadFault
 ending_status (Ran outcome) = exit_status outcome
 
 -- The outcome is one of a run that an error of reading keeps from starting: ReadFault or Memory.
-abbrev pub IsReadOutcome : Outcome → Type 0
-IsReadOutcome outcome = (outcome ≡ ReadFault) ⊎ (outcome ≡ Memory)
+abbrev pub IsOutcomeOfReadError : Outcome → Type 0
+IsOutcomeOfReadError outcome = (outcome ≡ ReadFault) ⊎ (outcome ≡ Memory)
 
 -- The program ends as it couldn't read these instructions, or had no memory for them.
-abbrev pub IsNotRead : Instructions → Ending → Type 0
-IsNotRead instructions (Ran outcome) = outcome ≡ Memory
-IsNotRead instructions (NotRead others error) = others ≡ instructions
-IsNotRead instructions other = ⊥
+abbrev pub IsEndingOfReadError : Instructions → Ending → Type 0
+IsEndingOfReadError instructions (Ran outcome) = outcome ≡ Memory
+IsEndingOfReadError instructions (NotRead others error) = others ≡ instructions
+IsEndingOfReadError instructions other = ⊥
 
 -- The outcome of a run that ended with this outcome, and whose writers then failed: Memory stays, any other
 -- one becomes WriteFault.

@@ -3,7 +3,7 @@
 
 ghost use Rattle.std.specs.Prelude.{◌≡◌, ◌≢◌, ◌↔◌, ◌+◌, ℕ, List, Some, IsTrue, take, IfOk, IfErr};
 ghost use Rattle.std.specs.IoError.{error_kind};
-ghost use Rattle.bgpdump.specs.Endings.{IsReadOutcome, IsNotRead};
+ghost use Rattle.bgpdump.specs.Endings.{IsOutcomeOfReadError, IsEndingOfReadError};
 
 use crate::ending::{Ending, Instructions, OpenFailure};
 use bgpdump_tool::{LONGEST_SCRIPT, Mode, Outcome, STANDARD_INPUT, Settings};
@@ -32,7 +32,7 @@ struct FileIdentity {
 /// or else `ReadFault`.
 pub fn outcome_of_read_error(error: &io::Error) -> Outcome
     ensures memory { (result ≡ Outcome.Memory) ↔ (error_kind error.now ≡ ErrorKind.OutOfMemory) }
-    ensures other { IsReadOutcome result }
+    ensures other { IsOutcomeOfReadError result }
 {
     match error.kind() {
         ErrorKind::OutOfMemory => Outcome::Memory,
@@ -61,7 +61,7 @@ pub fn ending_of_read_error<'a>(instructions: Instructions, error: &io::Error) -
         result ≡ Ending.Ran Outcome.Memory }
     ensures other { error_kind error.now ≢ ErrorKind.OutOfMemory →
         result ≡ Ending.NotRead instructions error.now }
-    ensures either { IsNotRead instructions result }
+    ensures either { IsEndingOfReadError instructions result }
 {
     match outcome_of_read_error(error) {
         Outcome::Memory => Ending::Ran(Outcome::Memory),
@@ -175,7 +175,7 @@ fn is_same_identity(one: FileIdentity, other: FileIdentity) -> bool
 pub fn read_script<'a, R: Read + Drop>(alloc: Global, reader: R) -> Result<Vec<u8>, Ending<'a>>
     ensures octets { IfOk result (λ script. (octets : List ℕ) → R.remaining reader ≡ Some octets →
         script.items ≡ take (LONGEST_SCRIPT + 1) octets) }
-    ensures fault { IfErr result (IsNotRead Instructions.Script) }
+    ensures fault { IfErr result (IsEndingOfReadError Instructions.Script) }
 {
     let mut script = Vec::new(alloc);
     let mut front = reader.take(LONGEST_SCRIPT as u64 + 1);

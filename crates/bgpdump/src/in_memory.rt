@@ -4,7 +4,7 @@
 
 ghost use Rattle.std.specs.Prelude.{◌≡◌, [], Some, IfOk};
 ghost use Rattle.bgpdump_tool.specs.Run.{dump_texts};
-ghost use Rattle.bgpdump.specs.Endings.{HoldTexts, HoldReplies};
+ghost use Rattle.bgpdump.specs.Endings.{WritersHoldTexts, WritersHoldReplies};
 
 use crate::hints::{NotedDevices, NotedReader};
 use crate::run::{Devices, FinishedRun, dump, play};
@@ -54,7 +54,7 @@ fn dump_in_memory<R: Read + Drop, O: Write + Drop, E: Write + Drop>(
     requires reader { R.remaining devices.reader ≡ Some octets.now }
     requires out { O.contents devices.out ≡ Some [] }
     requires err { E.contents devices.err ≡ Some [] }
-    ensures { IfOk result (HoldTexts O.contents E.contents stamp dump_texts octets.now) }
+    ensures { IfOk result (WritersHoldTexts O.contents E.contents stamp dump_texts octets.now) }
 {
     let noted = NotedDevices::new(alloc, devices)?;
     Ok(dump(alloc, stamp, noted.devices))
@@ -72,7 +72,7 @@ fn play_in_memory<R: Read + Drop, O: Write + Drop, E: Write + Drop>(
     requires reader { R.remaining devices.reader ≡ Some octets.now }
     requires out { O.contents devices.out ≡ Some [] }
     requires err { E.contents devices.err ≡ Some [] }
-    ensures { IfOk result (HoldReplies O.contents E.contents stamp script.now octets.now) }
+    ensures { IfOk result (WritersHoldReplies O.contents E.contents stamp script.now octets.now) }
 {
     let noted = NotedDevices::new(alloc, devices)?;
     Ok(play(alloc, stamp, script, noted.devices))

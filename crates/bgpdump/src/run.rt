@@ -6,7 +6,7 @@ ghost use Rattle.std.specs.Io.Buffered.{writer_contents};
 ghost use Rattle.std.specs.Io.KnownBytes.{Consumes, Keeps};
 ghost use Rattle.bgpdump_tool.specs.Course.{HoldsForLines, cut_texts, play_texts};
 ghost use Rattle.bgpdump_tool.specs.Run.{dump_texts, outputs_of};
-ghost use Rattle.bgpdump.specs.Endings.{outcome_without_writers, HasTaken, Leaves, LeavesTexts, LeavesWholeRecords, TookInputLimit, KeepsBoth, HoldsForWriters, buffered_outputs, has_failed};
+ghost use Rattle.bgpdump.specs.Endings.{outcome_without_writers, HoldsForInput, Leaves, LeavesTexts, LeavesWholeRecords, TookInputLimit, KeepsBoth, HoldsForWriters, buffered_outputs, has_failed};
 
 use crate::files::outcome_of_read_error;
 use bgpdump_tool::{BufferedOutput, LONGEST_SCRIPT, Outcome, Output, run_dump, run_play};
@@ -73,10 +73,10 @@ pub fn dump<R: Read + Drop, O: Write + Drop, E: Write + Drop>(
         stamp dump_texts devices result }
 
     // The octets that are read.
-    ensures taken { HasTaken R.remaining (λ left left'. (taken : List ℕ)
+    ensures taken { HoldsForInput R.remaining (λ left left'. (taken : List ℕ)
         × Consumes left left' taken) devices.reader result.input }
     ensures too_long { result.outcome ≡ Outcome.InputTooLong →
-        HasTaken R.remaining TookInputLimit devices.reader result.input }
+        HoldsForInput R.remaining TookInputLimit devices.reader result.input }
 
     // Which runs end with a read fault, which don't begin, and which leave no writers.
     ensures read_fault { result.outcome ≡ Outcome.ReadFault → IfSome result.input has_failed }
@@ -119,10 +119,10 @@ pub fn play<R: Read + Drop, O: Write + Drop, E: Write + Drop>(
         LeavesWholeRecords R.remaining O.contents E.contents stamp (cut_texts lines) devices result) }
 
     // The octets that are read.
-    ensures taken { length script.now ≤ LONGEST_SCRIPT → HasTaken R.remaining
+    ensures taken { length script.now ≤ LONGEST_SCRIPT → HoldsForInput R.remaining
         (λ left left'. (taken : List ℕ) × Consumes left left' taken) devices.reader result.input }
     ensures too_long { result.outcome ≡ Outcome.InputTooLong →
-        HasTaken R.remaining TookInputLimit devices.reader result.input }
+        HoldsForInput R.remaining TookInputLimit devices.reader result.input }
 
     // A script that is too long leaves the writers as they were.
     ensures script_too_long { LONGEST_SCRIPT < length script.now →

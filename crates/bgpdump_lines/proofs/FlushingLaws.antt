@@ -6,14 +6,14 @@ use Rattle.mrt_wire.specs.declared.next.Next.{Next}
 use Rattle.mrt_wire.specs.declared.next.Next.TheVariants.{End}
 use Rattle.mrt_wire.specs.declared.next.Phase.{Phase}
 use Rattle.mrt_wire.specs.declared.next.Phase.TheVariants as phase
-use Rattle.mrt_wire.specs.Taken.{is_read}
+use Rattle.mrt_wire.specs.Taken.{is_err_read}
 use Rattle.mrt_wire.specs.Buffered.{HoldsRecord}
 use Rattle.bgpdump_lines.specs.declared.outcome.Outcome.{Outcome}
-use Rattle.bgpdump_lines.specs.Flushing.{AreFlushed, IsReadyToRead}
-use Rattle.bgpdump_lines.specs.WrittenSoFar.{is_read_fault, outcome_of_source_fault}
+use Rattle.bgpdump_lines.specs.Flushing.{AreFlushed}
+use Rattle.bgpdump_lines.specs.WrittenSoFar.{IsReadyToRead, is_read_fault, outcome_of_source_fault}
 
 -- a read that failed was one of a record that isn't buffered, so both outputs were flushed before it
-pub AreFlushed-failed : {A : Type 0} → (buffered : List ℕ) (out err : Option (List ℕ)) (fault : SourceFault) → IsReadyToRead buffered out err → (HoldsRecord buffered → is_read {A = Next} (Err fault) ≡ false)
+pub AreFlushed-failed : {A : Type 0} → (buffered : List ℕ) (out err : Option (List ℕ)) (fault : SourceFault) → IsReadyToRead buffered out err → (HoldsRecord buffered → is_err_read {A = Next} (Err fault) ≡ false)
     → IsTrue (is_read_fault {A = A} (Err (outcome_of_source_fault fault))) → AreFlushed out err
 AreFlushed-failed buffered out err Read (inl holds) sound failed = absurd (cc (sound holds))
 AreFlushed-failed buffered out err Read (inr flushed) sound failed = flushed
@@ -23,7 +23,7 @@ AreFlushed-failed buffered out err Spent ready sound failed = absurd (cc failed)
 
 -- a source that reads no more has no failed read
 pub AreFlushed-phase : {A : Type 0} → (at : Phase) (buffered : List ℕ) (out err : Option (List ℕ)) (fault : SourceFault) → (at ≡ phase.Reading → IsReadyToRead buffered out err)
-    → (HoldsRecord buffered → is_read {A = Next} (Err fault) ≡ false)
+    → (HoldsRecord buffered → is_err_read {A = Next} (Err fault) ≡ false)
     → (at ≡ phase.Ended → Err {A = Next} fault ≡ Ok End) → (at ≡ phase.Spent → Err {A = Next} fault ≡ Err Spent)
     → IsTrue (is_read_fault {A = A} (Err (outcome_of_source_fault fault))) → AreFlushed out err
 AreFlushed-phase phase.Reading buffered out err fault ready sound ended spent failed = AreFlushed-failed buffered out err fault (ready refl) sound failed

@@ -1,6 +1,5 @@
 -- What the outputs of a run still hold back, where they tell it: before each read that may wait, and as the run ends.
-use Rattle.std.specs.Prelude.{◌≡◌, ℕ, List, [], Option, Some, None, Bool, Result, IsTrue, ◌⊎◌, ⊤}
-use Rattle.mrt_wire.specs.Buffered.{HoldsRecord}
+use Rattle.std.specs.Prelude.{◌≡◌, ℕ, List, [], Option, Some, None, ⊤}
 use Rattle.bgpdump_lines.specs.declared.outcome.Outcome.{Outcome}
 use Rattle.bgpdump_lines.specs.declared.outcome.Outcome.TheVariants.{Done, Reported, ReadFault}
 
@@ -12,10 +11,6 @@ IsFlushed (Some pending) = pending ≡ []
 -- both outputs of a run hold nothing back
 abbrev pub AreFlushed : Option (List ℕ) → Option (List ℕ) → Type 0
 AreFlushed out err = IsFlushed out × IsFlushed err
-
--- the next record may be read: it is buffered as a whole, so that no read waits or fails, or both outputs hold nothing back
-abbrev pub IsReadyToRead : List ℕ → Option (List ℕ) → Option (List ℕ) → Type 0
-IsReadyToRead buffered out err = HoldsRecord buffered ⊎ AreFlushed out err
 
 -- a run that ended so holds nothing back: one that came to its end, or whose input failed at a read. Any read that asks the device may fail, and nothing is flushed after a failed read, so all was flushed before each read that waits
 abbrev pub LeavesFlushed : Outcome → Option (List ℕ) → Option (List ℕ) → Type 0

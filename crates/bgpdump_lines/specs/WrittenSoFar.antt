@@ -8,6 +8,8 @@ use Rattle.mrt_wire.specs.Results.{RecordResult, Found, Bad, SourceState}
 use Rattle.bgpdump_lines.specs.declared.fault.WriteFault.{WriteFault}
 use Rattle.bgpdump_lines.specs.declared.fault.WriteFault.TheVariants.{Write, Memory}
 use Rattle.bgpdump_lines.specs.Run.{AppendsPrefix, Outputs, Writes, WritesPrefixes, IsTakenAfterFrames, dump_texts}
+use Rattle.mrt_wire.specs.Buffered.{HoldsRecord}
+use Rattle.bgpdump_lines.specs.Flushing.{AreFlushed}
 use Rattle.bgpdump_lines.specs.declared.outcome.Outcome.{Outcome}
 use Rattle.bgpdump_lines.specs.declared.outcome.Outcome.TheVariants.{Done, Reported}
 use Rattle.mrt_wire.specs.declared.SourceFault.{SourceFault}
@@ -181,3 +183,9 @@ EndsUnfinished p (Ok reported) left left' old new = (q : SourceState) × (q.phas
 EndsUnfinished p (Err outcome) left left' old new =
     ((fault : SourceFault) × (outcome ≡ outcome_of_source_fault fault) × StopsAtSource p left left' old new fault)
     ⊎ ((fault : WriteFault) × (outcome ≡ outcome_of_write_fault fault) × StopsAtWriting p left left' old new fault)
+
+-- ---- before the next record is read
+
+-- the next record may be read: it is buffered as a whole, so that no read waits or fails, or both outputs hold nothing back
+abbrev pub IsReadyToRead : List ℕ → Option (List ℕ) → Option (List ℕ) → Type 0
+IsReadyToRead buffered out err = HoldsRecord buffered ⊎ AreFlushed out err

@@ -5,8 +5,8 @@ ghost use Rattle.std.specs.Prelude.{◌≡◌, ◌≤◌, ◌<◌, ◌||◌, ℕ
 ghost use Rattle.std.specs.Io.Buffered.{writer_buffer, writer_contents};
 ghost use Rattle.std.specs.Io.KnownBytes.{WriteAppends, Appends, Keeps};
 ghost use Rattle.bgpdump_lines.specs.Run.{AppendsPrefix};
-ghost use Rattle.bgpdump_lines.specs.Flushing.{IsFlushed, IsReadyToRead, LeavesFlushed};
-ghost use Rattle.bgpdump_lines.specs.WrittenSoFar.{outcome_of_finished_run};
+ghost use Rattle.bgpdump_lines.specs.Flushing.{IsFlushed, LeavesFlushed};
+ghost use Rattle.bgpdump_lines.specs.WrittenSoFar.{IsReadyToRead, outcome_of_finished_run};
 
 use crate::outcome::Outcome;
 use mrt_wire::Input;

@@ -20,10 +20,10 @@ use Rattle.bgpdump_lines.specs.Run.{AppendsPrefix, reports}
 use Rattle.bgpdump_lines.specs.WrittenSoFar.{outcome_of_write_fault, with_outcome_error, Puts, PutsAllOrFront}
 use Rattle.bgpdump_tool.specs.Replies.{at_text, labelled_numbers_line}
 use Rattle.bgpdump_tool.specs.Meaning.{events, results_needed, loss, answer, retreat, advance, meaning, meets_end, faults_taken}
-use Rattle.bgpdump_tool.specs.Execution.{Progress, RunState, HasFound, HasProgress, state_with_unread, at_cursor, progress_after, HasRoom, GoesOn, StepsFrom, Steps, IsLed, ExecutesFrom}
+use Rattle.bgpdump_tool.specs.Execution.{Progress, RunState, HasFound, HasProgress, state_with_unread, at_cursor, progress_after, HasRoom, MovesForward, StepsFrom, Steps, IsLed, ExecutesFrom}
 use Rattle.bgpdump_tool.proofs.WalkLaws.{PutsAllOrFront-put, PutsAllOrFront-behind}
 use Rattle.bgpdump_tool.proofs.StepLaws.{kept-Appends, kept-AppendsPrefix}
-use Rattle.bgpdump_tool.proofs.MoveLaws.{HasProgress-inside, Follows-twice, GoesOn-twice, Forth, Reaches, all_over, reports-append, needed_beyond, events_few}
+use Rattle.bgpdump_tool.proofs.MoveLaws.{HasProgress-inside, FindsNothingAfterEnd-twice, MovesForward-twice, Forth, Reaches, all_over, reports-append, needed_beyond, events_few}
 use Rattle.bgpdump_lines.proofs.WritingLaws.{AppendsPrefix-none, AppendsPrefix-behind, AppendsPrefix-longer}
 
 -- ---- fronts
@@ -57,7 +57,7 @@ taken_by found more count true all few =
     (ap (take count) same ∙ take_all count found within, ap (drop count) same ∙ drop_all count found within ∙ sym none, grind (arith, nat_tests, size))
 
 -- a run that went on was led by a command that takes so many results
-pub IsLed-advance : (command : Command) (from : SourceState) (left : Option (List ℕ)) (s : Progress) (old new : RunState) (over : ℕ) (found : List RecordResult) (ended : Bool) (count : List RecordResult → ℕ) → GoesOn from left s old new over found ended
+pub IsLed-advance : (command : Command) (from : SourceState) (left : Option (List ℕ)) (s : Progress) (old new : RunState) (over : ℕ) (found : List RecordResult) (ended : Bool) (count : List RecordResult → ℕ) → MovesForward from left s old new over found ended
     → ((more : List RecordResult) → meaning command (state_with_unread s (found ++ more)) ≡ advance over (count more) (state_with_unread s (found ++ more)))
     → (ended ≡ false → (more : List RecordResult) → length found ≡ count more) → (ended ≡ true → (more : List RecordResult) → length found < count more)
     → (led : IsLed command from left s old new) × (led.reply ≡ at_text new.player.cursor ended)
@@ -117,7 +117,7 @@ Execution-moved command from left s old new out mid out' at ended result (led, i
 
 -- a step that is stopped where the command wants more than was found stops the command
 Execution-stopped : (command : Command) (from : SourceState) (left : Option (List ℕ)) (s : Progress) (a b c : RunState) (out out' : Option (List ℕ)) (over : ℕ) (found : List RecordResult) (outcome : Outcome) → Keeps out out'
-    → ((more : List RecordResult) → length found < (meaning command (state_with_unread s (found ++ more))).wanted) → GoesOn from left s a b over found false
+    → ((more : List RecordResult) → length found < (meaning command (state_with_unread s (found ++ more))).wanted) → MovesForward from left s a b over found false
     → StepsFrom from left (progress_after over found false s) b c (Err outcome) → ExecutesFrom {A = Unit {0}} command from left s a c out out' (Err outcome)
 Execution-stopped command from left s a b c out out' over found outcome kept few first (end, inl (fault, is, stop)) = inl (
   fault,
@@ -138,7 +138,7 @@ Execution-stopped command from left s a b c out out' over found outcome kept few
     taken = found ++ new;
     ended = s.ended;
     taking = subst (λ e. HasFound from left c.place c.left (s.found ++ (found ++ new)) e) (or-false s.ended) (subst (λ f. HasFound from left c.place c.left f (s.ended || false)) (append_assoc s.found found new) stop.taking);
-    follows = Follows-twice a.place b.place c.place found new first.follows stop.follows;
+    follows = FindsNothingAfterEnd-twice a.place b.place c.place found new first.follows stop.follows;
     met = λ e. ap (λ b. b || meets_end command (state_with_unread s (found ++ new))) e;
     fronts = λ more none.
         let wanted = (meaning command (state_with_unread s ((found ++ new) ++ more))).wanted in
@@ -164,7 +164,7 @@ pub Next-end : (count n : ℕ) (from : SourceState) (left : Option (List ℕ)) (
     → (led : IsLed (Next count) from left s a c) × (led.reply ≡ at_text c.player.cursor ended)
 Next-end count n from left s a b c false stands below forth e step = cc
 Next-end count n from left s a b c true stands below (over, found, sum, first) e step =
-    let goes = GoesOn-twice from left s a b c over 0 found [] true stands first (step from left (progress_after over found false s) first.stands) in
+    let goes = MovesForward-twice from left s a b c over 0 found [] true stands first (step from left (progress_after over found false s) first.stands) in
     let same : min count (length s.history - s.cursor) ≡ over + 0 = omega (arith, (goes.met refl).0, sum, below) in
     IsLed-advance (Next count) from left s a c (over + 0) (found ++ []) true (λ more. count - (over + 0)) goes
     (λ more. ap (λ o. advance o (count - o) (state_with_unread s ((found ++ []) ++ more))) same)
@@ -199,7 +199,7 @@ pub Goto-end : (k : ℕ) (from : SourceState) (left : Option (List ℕ)) (s : Pr
 Goto-end k from left s a b c false above stands below r e step = cc
 Goto-end k from left s a b c true above stands below r e step =
     let last = step from left (progress_after r.over r.found false s) r.goes.stands in
-    let goes = GoesOn-twice from left s a b c r.over 0 r.found [] true stands r.goes last in
+    let goes = MovesForward-twice from left s a b c r.over 0 r.found [] true stands r.goes last in
     let all = (goes.met refl).0 in
     let few : length (events (r.found ++ [])) < k - length s.history = omega (arith, HasProgress-inside from left a s stands, all, below, last.stands.cursor, r.goes.stands.cursor, goes.stands.cursor) in
     let same : min (k - s.cursor) (length s.history - s.cursor) ≡ r.over + 0 = omega (arith, few, all) in

@@ -8,7 +8,7 @@ use Rattle.mrt_events.specs.declared.event.Event.{Event}
 use Rattle.mrt_wire.specs.Results.{RecordResult, Found, Bad, SourceState}
 use Rattle.bgpdump_lines.specs.Run.{finding_report, reports}
 use Rattle.bgpdump_tool.specs.Meaning.{event_of, events, results_needed}
-use Rattle.bgpdump_tool.specs.Execution.{Progress, RunState, HasProgress, Follows, progress_after, at_cursor, GoesOn, Steps}
+use Rattle.bgpdump_tool.specs.Execution.{Progress, RunState, HasProgress, FindsNothingAfterEnd, progress_after, at_cursor, MovesForward, Steps}
 use Rattle.bgpdump_lines.specs.WrittenSoFar.{has_fault}
 use Rattle.bgpdump_lines.proofs.RunLaws.{has_fault-append}
 use Rattle.std.proofs.lemmas.Bool.Decides.{nat_tests}
@@ -39,8 +39,8 @@ progress_after-twice s over more found new ended =
       ended = or_assoc s.ended false ended i;
     }
 
-pub Follows-twice : (a b c : SourceState) (found new : List RecordResult) → Follows a b found → Follows b c new → Follows a c (found ++ new)
-Follows-twice a b c found new first second = record {
+pub FindsNothingAfterEnd-twice : (a b c : SourceState) (found new : List RecordResult) → FindsNothingAfterEnd a b found → FindsNothingAfterEnd b c new → FindsNothingAfterEnd a c (found ++ new)
+FindsNothingAfterEnd-twice a b c found new first second = record {
   quiet = λ e. (λ i. first.quiet e i ++ second.quiet (first.stays e) i);
   stays = λ e. second.stays (first.stays e);
 }
@@ -49,9 +49,9 @@ Follows-twice a b c found new first second = record {
 pub HasProgress-inside : (from : SourceState) (left : Option (List ℕ)) (scene : RunState) (s : Progress) → HasProgress from left scene s → s.cursor ≤ length s.history
 HasProgress-inside from left scene s stands = omega (arith, stands.history.cursor, stands.cursor)
 
-pub GoesOn-twice : (from : SourceState) (left : Option (List ℕ)) (s : Progress) (a b c : RunState) (over more : ℕ) (found new : List RecordResult) (ended : Bool) → HasProgress from left a s
-    → GoesOn from left s a b over found false → GoesOn from left (progress_after over found false s) b c more new ended → GoesOn from left s a c (over + more) (found ++ new) ended
-GoesOn-twice from left s a b c over more found new ended stands first second =
+pub MovesForward-twice : (from : SourceState) (left : Option (List ℕ)) (s : Progress) (a b c : RunState) (over more : ℕ) (found new : List RecordResult) (ended : Bool) → HasProgress from left a s
+    → MovesForward from left s a b over found false → MovesForward from left (progress_after over found false s) b c more new ended → MovesForward from left s a c (over + more) (found ++ new) ended
+MovesForward-twice from left s a b c over more found new ended stands first second =
     let inside = HasProgress-inside from left a s stands in
     let size = length-append s.history (events found) in
     let none = events_few found in
@@ -59,15 +59,15 @@ GoesOn-twice from left s a b c over more found new ended stands first second =
       few = grind (arith, first.few, second.few, first.all, inside, none, size);
       all = λ some. grind (arith, some, length-append found new, first.few, second.few, first.all, second.all, inside, none, size);
       stands = subst (HasProgress from left c) (progress_after-twice s over more found new ended) second.stands;
-      follows = Follows-twice a.place b.place c.place found new first.follows second.follows;
+      follows = FindsNothingAfterEnd-twice a.place b.place c.place found new first.follows second.follows;
       met = λ e. (grind (arith, (second.met e).0, first.few, first.all, inside, none, size), (second.met e).1);
       reported = subst (Appends a.err c.err) (sym (reports-append found new)) (Appends-trans a.err b.err c.err (reports found) (reports new) first.reported second.reported);
       told = second.told ∙ ap (λ b. b || has_fault new) first.told ∙ or_assoc a.reported (has_fault found) (has_fault new) ∙ ap (λ b. a.reported || b) (sym (has_fault-append found new));
     }
 
 -- nothing moved yet
-pub GoesOn-none : (from : SourceState) (left : Option (List ℕ)) (s : Progress) (a : RunState) → HasProgress from left a s → GoesOn from left s a a 0 [] false
-GoesOn-none from left s a stands =
+pub MovesForward-none : (from : SourceState) (left : Option (List ℕ)) (s : Progress) (a : RunState) → HasProgress from left a s → MovesForward from left s a a 0 [] false
+MovesForward-none from left s a stands =
     let sum : s.cursor ≡ s.cursor + 0 + length (events []) = omega arith in
     let same : s ≡ progress_after 0 [] false s = λ i. record { history = sym (append-nil s.history) i; cursor = sum i; floor = s.floor; found = sym (append-nil s.found) i; ended = sym (or-false s.ended) i } in
     record {
@@ -84,20 +84,20 @@ GoesOn-none from left s a stands =
 
 -- after so many
 abbrev pub Forth : ℕ → SourceState → Option (List ℕ) → Progress → RunState → RunState → Type 0
-Forth n from left s old new = (over : ℕ) × (found : List RecordResult) × (over + length found ≡ n) × GoesOn from left s old new over found false
+Forth n from left s old new = (over : ℕ) × (found : List RecordResult) × (over + length found ≡ n) × MovesForward from left s old new over found false
 
 pub Forth-none : (from : SourceState) (left : Option (List ℕ)) (s : Progress) (a : RunState) → HasProgress from left a s → Forth 0 from left s a a
-Forth-none from left s a stands = (0, [], refl, GoesOn-none from left s a stands)
+Forth-none from left s a stands = (0, [], refl, MovesForward-none from left s a stands)
 
 pub Forth-step : (n : ℕ) (from : SourceState) (left : Option (List ℕ)) (s : Progress) (a b c : RunState) (ended : Bool) → HasProgress from left a s → Forth n from left s a b → ended ≡ false → Steps b c (Ok ended)
     → Forth (n + 1) from left s a c
 Forth-step n from left s a b c true stands forth e step = cc
 Forth-step n from left s a b c false stands (over, found, sum, first) e step =
     let (more, new, one, second) = step from left (progress_after over found false s) first.stands in
-    (over + more, found ++ new, omega (arith, sum, one, length-append found new), GoesOn-twice from left s a b c over more found new false stands first second)
+    (over + more, found ++ new, omega (arith, sum, one, length-append found new), MovesForward-twice from left s a b c over more found new false stands first second)
 
 -- all steps ahead were gone over, where the next one would be read
-pub all_over : (from : SourceState) (left : Option (List ℕ)) (s : Progress) (a b : RunState) (over : ℕ) (found : List RecordResult) → HasProgress from left a s → GoesOn from left s a b over found false
+pub all_over : (from : SourceState) (left : Option (List ℕ)) (s : Progress) (a b : RunState) (over : ℕ) (found : List RecordResult) → HasProgress from left a s → MovesForward from left s a b over found false
     → (progress_after over found false s).cursor ≡ length (progress_after over found false s).history → over ≡ length s.history - s.cursor
 all_over from left s a b over found stands first end =
     omega (arith, end, first.few, HasProgress-inside from left a s stands, length-append s.history (events found))
@@ -125,7 +125,7 @@ pub record Reaches (k : ℕ) (from : SourceState) (left : Option (List ℕ)) (s 
   pub found : List RecordResult
   pub within : new.player.cursor ≤ k
   pub needs : new.player.cursor ≡ k → (more : List RecordResult) → results_needed (k - length s.history) (found ++ more) ≡ length found
-  pub goes : GoesOn from left s old new over found false
+  pub goes : MovesForward from left s old new over found false
 
 pub Reaches-none : (k : ℕ) (from : SourceState) (left : Option (List ℕ)) (s : Progress) (a : RunState) → HasProgress from left a s → a.player.cursor ≤ k → Reaches k from left s a a
 Reaches-none k from left s a stands below = record {
@@ -135,12 +135,12 @@ Reaches-none k from left s a stands below = record {
   needs = λ e more.
       let none : k - length s.history ≡ 0 = omega (arith, e, stands.cursor, HasProgress-inside from left a s stands) in
       ap (λ n. results_needed n more) none;
-  goes = GoesOn-none from left s a stands;
+  goes = MovesForward-none from left s a stands;
 }
 
 -- what one step needs
 needs_more : (k : ℕ) (from : SourceState) (left : Option (List ℕ)) (s : Progress) (a b c : RunState) (r : Reaches k from left s a b) (over : ℕ) (new : List RecordResult) → HasProgress from left a s → b.player.cursor < k → over + length new ≡ 1
-    → GoesOn from left (progress_after r.over r.found false s) b c over new false → c.player.cursor ≡ k → (more : List RecordResult) → results_needed (k - length s.history) ((r.found ++ new) ++ more) ≡ length (r.found ++ new)
+    → MovesForward from left (progress_after r.over r.found false s) b c over new false → c.player.cursor ≡ k → (more : List RecordResult) → results_needed (k - length s.history) ((r.found ++ new) ++ more) ≡ length (r.found ++ new)
 needs_more k from left s a b c r over [] stands below one goes e more =
     let inside = HasProgress-inside from left a s stands in
     let size = length-append s.history (events r.found) in
@@ -165,7 +165,7 @@ Reaches-step k from left s a b c false stands below r e step =
       found = r.found ++ new;
       within = omega (arith, below, one, goes.stands.cursor, r.goes.stands.cursor, events_few new);
       needs = needs_more k from left s a b c r over new stands below one goes;
-      goes = GoesOn-twice from left s a b c r.over over r.found new false stands r.goes goes;
+      goes = MovesForward-twice from left s a b c r.over over r.found new false stands r.goes goes;
     }
 
 -- ---- back

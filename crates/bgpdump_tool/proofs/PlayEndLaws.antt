@@ -22,7 +22,7 @@ use Rattle.bgpdump_lines.specs.WrittenSoFar.{outcome_of_finished_run, outcome_of
 use Rattle.bgpdump_lines.specs.Run.{Texts, Outputs, MayHold, Writes, EndsWithTexts, EndedByInput, IsTaken, IsTakenAfterFrames, HoldsForAllContents, all_results}
 use Rattle.bgpdump_tool.specs.Script.{Line, AreLines, IsScript, script_lines}
 use Rattle.bgpdump_tool.specs.Course.{course, play_texts, cut_texts, TakesWanted, IsEndSeen, ScriptSawEnd, WritesBeyond, HasBegun}
-use Rattle.bgpdump_tool.specs.Execution.{RunState, HasFound, Plays, PlaysBrokenOff, ExecutesScript}
+use Rattle.bgpdump_tool.specs.Execution.{RunState, HasFound, HasExecuted, ExecutionBrokenOff, ExecutesScript}
 use Rattle.bgpdump_lines.proofs.WritingLaws.{AppendsPrefix-none, WritesPrefixes-whole, Writes-kept}
 use Rattle.bgpdump_lines.proofs.HeldLaws.{rest_so_far, first_held, front_held, untold_held, whole_found, IsTaken-told, IsTaken-faulty, length-faulty}
 use Rattle.bgpdump_lines.proofs.EndLaws.{cases_none, written_all, EndsWithTexts-source}
@@ -47,7 +47,7 @@ played_held stamp q left left' found ended Saw t saw octets frames rest may spli
         record { later = later; first = first; all = λ e. absurd (false≢true (sym is ∙ t.seen e none)) }
 
 -- lines that were carried out write what was written, whatever the input may hold
-pub plays_held : (stamp : Stamp) (left : Option (List ℕ)) (lines : List Line) (scene : RunState) (old new : Outputs) (Saw : List Frame → List ℕ → Type 0) (p : Plays (start_state stamp INPUT_LIMIT) left lines scene old new)
+pub plays_held : (stamp : Stamp) (left : Option (List ℕ)) (lines : List Line) (scene : RunState) (old new : Outputs) (Saw : List Frame → List ℕ → Type 0) (p : HasExecuted (start_state stamp INPUT_LIMIT) left lines scene old new)
     → ((frames : List Frame) (rest : List ℕ) → IsEndSeen stamp lines frames rest → Saw frames rest) → (octets : List ℕ) (frames : List Frame) (rest : List ℕ) → MayHold stamp Saw left scene.left octets → Splits stamp None octets frames rest
     → play_texts lines (all_results stamp frames rest) ≡ p.texts
 plays_held stamp left lines scene old new Saw p saw octets frames rest may split =
@@ -62,7 +62,7 @@ plays_held stamp left lines scene old new Saw p saw octets frames rest may split
     ap (λ l. play_texts lines l) first.first ∙ ap (λ c. c.texts) (own first.later first.all)
 
 -- where memory or an output stopped a run, what was found is first in it
-pub broken_held : (stamp : Stamp) (left : Option (List ℕ)) (done behind lines : List Line) (line : Line) (scene : RunState) (old new : Outputs) (Saw : List Frame → List ℕ → Type 0) (p : PlaysBrokenOff (start_state stamp INPUT_LIMIT) left done line scene old new) → lines ≡ (done ++ line ∷ []) ++ behind
+pub broken_held : (stamp : Stamp) (left : Option (List ℕ)) (done behind lines : List Line) (line : Line) (scene : RunState) (old new : Outputs) (Saw : List Frame → List ℕ → Type 0) (p : ExecutionBrokenOff (start_state stamp INPUT_LIMIT) left done line scene old new) → lines ≡ (done ++ line ∷ []) ++ behind
     → ((frames : List Frame) (rest : List ℕ) → IsEndSeen stamp lines frames rest → Saw frames rest) → (octets : List ℕ) (frames : List Frame) (rest : List ℕ) → MayHold stamp Saw left scene.left octets → Splits stamp None octets frames rest
     → FirstSoFar (start_state stamp INPUT_LIMIT) scene.place p.found frames rest
 broken_held stamp left done behind lines line scene old new Saw p is saw octets frames rest may split =
@@ -106,7 +106,7 @@ PlayEnds stamp left left' script outcome old new = (lines : List Line) → IsScr
 pub PlayEnds-finished : (stamp : Stamp) (left : Option (List ℕ)) (script : List ℕ) (scene : RunState) (old mid new : Outputs) (failed : Bool) (outcome : Outcome) → ExecutesScript (start_state stamp INPUT_LIMIT) left script scene old mid (Ok tt)
     → outcome ≡ outcome_of_finished_run failed scene.reported → Keeps mid.out new.out → Keeps mid.err new.err → PlayEnds stamp left scene.left script outcome old new
 PlayEnds-finished stamp left script scene old mid new failed outcome (done, are, plays) is out err lines reading =
-    let p : Plays (start_state stamp INPUT_LIMIT) left lines scene old mid = subst (λ l. Plays (start_state stamp INPUT_LIMIT) left l scene old mid) (one_reading done lines (script_lines script) are reading) plays in
+    let p : HasExecuted (start_state stamp INPUT_LIMIT) left lines scene old mid = subst (λ l. HasExecuted (start_state stamp INPUT_LIMIT) left l scene old mid) (one_reading done lines (script_lines script) are reading) plays in
     let how = outcome_of_finished_run failed scene.reported in
     subst (λ o. (octets : List ℕ) (frames : List Frame) (rest : List ℕ) → MayHold stamp (ScriptSawEnd stamp o lines) left scene.left octets → Splits stamp None octets frames rest → EndsWithTexts o (play_texts lines (all_results stamp frames rest)) old new) (sym is)
     (λ octets frames rest may split.
@@ -185,7 +185,7 @@ pub TakesWanted-finished : (stamp : Stamp) (left : Option (List ℕ)) (script : 
     → outcome ≡ outcome_of_finished_run failed scene.reported → (lines : List Line) → IsScript lines script → (taken after : List ℕ) (frames : List Frame) (rest : List ℕ) → TakesFront left scene.left taken after → Splits stamp None taken frames rest
     → TakesWanted stamp outcome lines frames rest
 TakesWanted-finished stamp left script scene old new failed outcome (done, are, plays) is lines reading taken after frames rest took split =
-    let p : Plays (start_state stamp INPUT_LIMIT) left lines scene old new = subst (λ l. Plays (start_state stamp INPUT_LIMIT) left l scene old new) (one_reading done lines (script_lines script) are reading) plays in
+    let p : HasExecuted (start_state stamp INPUT_LIMIT) left lines scene old new = subst (λ l. HasExecuted (start_state stamp INPUT_LIMIT) left l scene old new) (one_reading done lines (script_lines script) are reading) plays in
     let found = p.standing.found in
     let same = results_taken stamp scene.place left scene.left found p.stands.taking.so_far taken after frames rest took split in
     let none = ap (λ l. (course false lines l).left) (same ∙ sym (append-nil found)) ∙ ap (λ c. c.left) (course_of_done (start_state stamp INPUT_LIMIT) left lines scene old new [] p (λ _. refl)) in
@@ -213,7 +213,7 @@ TakesWanted-stopped stamp left script scene old new outcome (done, line, first, 
 pub HasBegun-finished : (stamp : Stamp) (left : Option (List ℕ)) (script : List ℕ) (scene : RunState) (old mid new : Outputs) → ExecutesScript (start_state stamp INPUT_LIMIT) left script scene old mid (Ok tt)
     → Keeps mid.out new.out → Keeps mid.err new.err → (lines : List Line) → IsScript lines script → HasBegun stamp lines left scene.left old new
 HasBegun-finished stamp left script scene old mid new (done, are, plays) out err lines reading =
-    let p : Plays (start_state stamp INPUT_LIMIT) left lines scene old mid = subst (λ l. Plays (start_state stamp INPUT_LIMIT) left l scene old mid) (one_reading done lines (script_lines script) are reading) plays in
+    let p : HasExecuted (start_state stamp INPUT_LIMIT) left lines scene old mid = subst (λ l. HasExecuted (start_state stamp INPUT_LIMIT) left l scene old mid) (one_reading done lines (script_lines script) are reading) plays in
     let all = append-nil lines in
     record {
       done = lines;

@@ -20,7 +20,7 @@ use Rattle.bgpdump_lines.specs.WrittenSoFar.{has_fault}
 use Rattle.bgpdump_tool.specs.Script.{Line, Empty, HasCommand, NoCommand, IsLine, AreLines, script_lines, bad_line_report}
 use Rattle.bgpdump_tool.specs.Meaning.{State, start, meaning, meets_end, faults_taken}
 use Rattle.bgpdump_tool.specs.Course.{Course, course_after, course_from, course, play_texts, WritesBeyond}
-use Rattle.bgpdump_tool.specs.Execution.{RunState, HasFound, HasProgress, Follows, HasRoom, state_with_unread, IsLed, IsCutOff, IsBrokenOff, ExecutesLineFrom, ExecutesLine, Plays, PlaysCutOff, PlaysBrokenOff, PlayDoes, ExecutesScript}
+use Rattle.bgpdump_tool.specs.Execution.{RunState, HasFound, HasProgress, FindsNothingAfterEnd, HasRoom, state_with_unread, IsLed, IsCutOff, IsBrokenOff, ExecutesLineFrom, ExecutesLine, HasExecuted, ExecutionCutOff, ExecutionBrokenOff, ExecutesNextLine, ExecutesScript}
 use Rattle.bgpdump_lines.proofs.WritingLaws.{AppendsPrefix-none, Writes-append, WritesPrefixes-behind, WritesPrefixes-longer, AppendsPrefix-longer}
 use Rattle.bgpdump_tool.proofs.CarryLaws.{AppendsPrefix-whole, take_over}
 use Rattle.bgpdump_tool.proofs.MoveLaws.{reports-append}
@@ -51,9 +51,9 @@ next_number cut done lines line s = ap (λ n. course_from cut n lines s) (omega 
 
 -- ---- the start
 
-pub Plays-start : (stamp : Stamp) (left : Option (List ℕ)) (scene : RunState) (outputs : Outputs) → scene.player ≡ fresh → scene.place ≡ start_state stamp INPUT_LIMIT → scene.reported ≡ false → scene.left ≡ left
-    → Plays (start_state stamp INPUT_LIMIT) left [] scene outputs outputs
-Plays-start stamp left scene outputs player place reported same = record {
+pub HasExecuted-start : (stamp : Stamp) (left : Option (List ℕ)) (scene : RunState) (outputs : Outputs) → scene.player ≡ fresh → scene.place ≡ start_state stamp INPUT_LIMIT → scene.reported ≡ false → scene.left ≡ left
+    → HasExecuted (start_state stamp INPUT_LIMIT) left [] scene outputs outputs
+HasExecuted-start stamp left scene outputs player place reported same = record {
   standing = record { history = []; cursor = 0; floor = 0; found = []; ended = false };
   stands = record {
     history = subst (λ t. StandsFor t []) (sym player) StandsFor-fresh;
@@ -78,8 +78,8 @@ with_reports out scene = record { out = out; err = scene.err }
 
 -- ---- a line that asks for nothing
 
-pub Plays-empty : (from : SourceState) (left : Option (List ℕ)) (done : List Line) (scene : RunState) (old new : Outputs) → Plays from left done scene old new → Plays from left (done ++ Empty ∷ []) scene old new
-Plays-empty from left done scene old new p = record {
+pub HasExecuted-empty : (from : SourceState) (left : Option (List ℕ)) (done : List Line) (scene : RunState) (old new : Outputs) → HasExecuted from left done scene old new → HasExecuted from left (done ++ Empty ∷ []) scene old new
+HasExecuted-empty from left done scene old new p = record {
   standing = p.standing;
   stands = p.stands;
   texts = p.texts;
@@ -92,9 +92,9 @@ Plays-empty from left done scene old new p = record {
 
 -- ---- a line that is no command
 
-pub Plays-report : (from : SourceState) (left : Option (List ℕ)) (done : List Line) (number : ℕ) (a b : RunState) (old : Outputs) (mid new : Option (List ℕ)) → Plays from left done a old (with_reports mid a) → number ≡ length done + 1
-    → b ≡ record a { reported = true; err = b.err } → new ≡ mid → Appends a.err b.err (bad_line_report number) → Plays from left (done ++ NoCommand ∷ []) b old (with_reports new b)
-Plays-report from left done number a b old mid new p is same quiet appended =
+pub HasExecuted-report : (from : SourceState) (left : Option (List ℕ)) (done : List Line) (number : ℕ) (a b : RunState) (old : Outputs) (mid new : Option (List ℕ)) → HasExecuted from left done a old (with_reports mid a) → number ≡ length done + 1
+    → b ≡ record a { reported = true; err = b.err } → new ≡ mid → Appends a.err b.err (bad_line_report number) → HasExecuted from left (done ++ NoCommand ∷ []) b old (with_reports new b)
+HasExecuted-report from left done number a b old mid new p is same quiet appended =
     let texts : Texts = record { out = []; err = bad_line_report number } in
     record {
       standing = p.standing;
@@ -123,12 +123,12 @@ course_by cut number command lines s test is =
     else course_after (record { out = (meaning command s).reply; err = faults_taken command s }) (meets_end command s) (course_from cut (number + 1) lines (meaning command s).after)) is
 
 -- nothing more is found where the run had ended before, or has now
-none_more : (a b : SourceState) (taken more : List RecordResult) → Follows a b taken → (b.phase ≡ Ended → more ≡ []) → a.phase ≡ Ended → taken ++ more ≡ []
+none_more : (a b : SourceState) (taken more : List RecordResult) → FindsNothingAfterEnd a b taken → (b.phase ≡ Ended → more ≡ []) → a.phase ≡ Ended → taken ++ more ≡ []
 none_more a b taken more follows none ended = λ i. follows.quiet ended i ++ none (follows.stays ended) i
 
-pub Plays-command : (from : SourceState) (left : Option (List ℕ)) (done : List Line) (command : Command) (a b : RunState) (old : Outputs) (mid new : Option (List ℕ)) → (p : Plays from left done a old (with_reports mid a))
-    → (led : IsLed command from left p.standing a b) × Appends mid new led.reply → Plays from left (done ++ HasCommand command ∷ []) b old (with_reports new b)
-Plays-command from left done command a b old mid new p (led, replied) =
+pub HasExecuted-command : (from : SourceState) (left : Option (List ℕ)) (done : List Line) (command : Command) (a b : RunState) (old : Outputs) (mid new : Option (List ℕ)) → (p : HasExecuted from left done a old (with_reports mid a))
+    → (led : IsLed command from left p.standing a b) × Appends mid new led.reply → HasExecuted from left (done ++ HasCommand command ∷ []) b old (with_reports new b)
+HasExecuted-command from left done command a b old mid new p (led, replied) =
     let s = p.standing in
     let t = led.after in
     let texts : Texts = record { out = led.reply; err = reports led.taken } in
@@ -155,14 +155,14 @@ Plays-command from left done command a b old mid new p (led, replied) =
 -- ---- a run that is stopped
 
 -- the course of lines that were carried out, whatever is found behind
-pub course_of_done : (from : SourceState) (left : Option (List ℕ)) (lines : List Line) (scene : RunState) (old new : Outputs) (later : List RecordResult) → (p : Plays from left lines scene old new) → (scene.place.phase ≡ Ended → later ≡ [])
+pub course_of_done : (from : SourceState) (left : Option (List ℕ)) (lines : List Line) (scene : RunState) (old new : Outputs) (later : List RecordResult) → (p : HasExecuted from left lines scene old new) → (scene.place.phase ≡ Ended → later ≡ [])
     → course false lines (p.standing.found ++ later) ≡ record { texts = p.texts; ended = p.standing.ended; left = later }
 course_of_done from left lines scene old new later p none =
     ap (λ l. course false l (p.standing.found ++ later)) (sym (append-nil lines)) ∙ p.goes false [] later (λ e. (none e, refl))
     ∙ (λ i. record { texts = record { out = append-nil p.texts.out i; err = append-nil p.texts.err i }; ended = or-false p.standing.ended i; left = later })
 
 -- the texts of lines that were carried out were written, and fronts of what one more line adds
-past_line : (from : SourceState) (left : Option (List ℕ)) (done : List Line) (line : Line) (a : RunState) (old mid new : Outputs) (found taken more : List RecordResult) → (p : Plays from left done a old mid) → found ≡ p.standing.found ++ taken
+past_line : (from : SourceState) (left : Option (List ℕ)) (done : List Line) (line : Line) (a : RunState) (old mid new : Outputs) (found taken more : List RecordResult) → (p : HasExecuted from left done a old mid) → found ≡ p.standing.found ++ taken
     → (a.place.phase ≡ Ended → taken ++ more ≡ []) → WritesPrefixes (course_from false (length done + 1) (line ∷ []) (state_with_unread p.standing (taken ++ more))).texts mid new
     → WritesBeyond (play_texts done (found ++ more)) (play_texts (done ++ line ∷ []) (found ++ more)) old new
 past_line from left done line a old mid new found taken more p is none fronts =
@@ -198,9 +198,9 @@ fronts_past done behind line found old new past =
     (WritesPrefixes-longer (joined_texts first past.more) more.0 old new (WritesPrefixes-behind first past.more old past.mid new past.written past.fronts))
 
 -- by its source
-pub PlaysCutOff-command : (from : SourceState) (left : Option (List ℕ)) (done : List Line) (command : Command) (a b : RunState) (old : Outputs) (mid new : Option (List ℕ)) (fault : SourceFault) → (p : Plays from left done a old (with_reports mid a))
-    → IsCutOff command from left p.standing a b mid new fault → PlaysCutOff from left done (HasCommand command) b old (with_reports new b) fault
-PlaysCutOff-command from left done command a b old mid new fault p stop =
+pub ExecutionCutOff-command : (from : SourceState) (left : Option (List ℕ)) (done : List Line) (command : Command) (a b : RunState) (old : Outputs) (mid new : Option (List ℕ)) (fault : SourceFault) → (p : HasExecuted from left done a old (with_reports mid a))
+    → IsCutOff command from left p.standing a b mid new fault → ExecutionCutOff from left done (HasCommand command) b old (with_reports new b) fault
+ExecutionCutOff-command from left done command a b old mid new fault p stop =
     let s = p.standing in
     let taken = stop.taken in
     let met : meets_end command (state_with_unread s taken) ≡ true =
@@ -226,9 +226,9 @@ PlaysCutOff-command from left done command a b old mid new fault p stop =
     }
 
 -- by memory or an output
-pub PlaysBrokenOff-command : (from : SourceState) (left : Option (List ℕ)) (done : List Line) (command : Command) (a b : RunState) (old : Outputs) (mid new : Option (List ℕ)) → (p : Plays from left done a old (with_reports mid a))
-    → IsBrokenOff command from left p.standing a b mid new → PlaysBrokenOff from left done (HasCommand command) b old (with_reports new b)
-PlaysBrokenOff-command from left done command a b old mid new p stop =
+pub ExecutionBrokenOff-command : (from : SourceState) (left : Option (List ℕ)) (done : List Line) (command : Command) (a b : RunState) (old : Outputs) (mid new : Option (List ℕ)) → (p : HasExecuted from left done a old (with_reports mid a))
+    → IsBrokenOff command from left p.standing a b mid new → ExecutionBrokenOff from left done (HasCommand command) b old (with_reports new b)
+ExecutionBrokenOff-command from left done command a b old mid new p stop =
     let s = p.standing in
     let taken = stop.taken in
     record {
@@ -246,9 +246,9 @@ PlaysBrokenOff-command from left done command a b old mid new p stop =
     }
 
 -- at a line that is no command
-pub PlaysBrokenOff-report : (from : SourceState) (left : Option (List ℕ)) (done : List Line) (number : ℕ) (a b : RunState) (old : Outputs) (mid new : Option (List ℕ)) → (p : Plays from left done a old (with_reports mid a)) → number ≡ length done + 1
-    → b ≡ record a { reported = true; err = b.err } → new ≡ mid → AppendsPrefix a.err b.err (bad_line_report number) → PlaysBrokenOff from left done NoCommand b old (with_reports new b)
-PlaysBrokenOff-report from left done number a b old mid new p is same quiet front =
+pub ExecutionBrokenOff-report : (from : SourceState) (left : Option (List ℕ)) (done : List Line) (number : ℕ) (a b : RunState) (old : Outputs) (mid new : Option (List ℕ)) → (p : HasExecuted from left done a old (with_reports mid a)) → number ≡ length done + 1
+    → b ≡ record a { reported = true; err = b.err } → new ≡ mid → AppendsPrefix a.err b.err (bad_line_report number) → ExecutionBrokenOff from left done NoCommand b old (with_reports new b)
+ExecutionBrokenOff-report from left done number a b old mid new p is same quiet front =
     let s = p.standing in
     record {
       found = s.found;
@@ -266,21 +266,21 @@ PlaysBrokenOff-report from left done number a b old mid new p is same quiet fron
 
 -- ---- a line, whatever it asks for
 
-pub PlayDoes-line : (line : Line) (from : SourceState) (left : Option (List ℕ)) (done : List Line) (number : ℕ) (a b : RunState) (old : Outputs) (mid new : Option (List ℕ)) (result : Result (Unit {0}) Outcome) → (p : Plays from left done a old (with_reports mid a)) → number ≡ length done + 1
-    → ExecutesLineFrom line number from left p.standing a b mid new result → PlayDoes from left done line b old (with_reports new b) result
-PlayDoes-line Empty from left done number a b old mid new (Ok done') p is (ok, same, quiet) =
-    subst (λ x. Plays from left (done ++ Empty ∷ []) x old (with_reports new x)) (sym same)
-    (subst (λ o. Plays from left (done ++ Empty ∷ []) a old (with_reports o a)) (sym quiet) (Plays-empty from left done a old (with_reports mid a) p))
-PlayDoes-line Empty from left done number a b old mid new (Err outcome) p is (ok, same, quiet) = cc
-PlayDoes-line (HasCommand command) from left done number a b old mid new (Ok done') p is does = Plays-command from left done command a b old mid new p does
-PlayDoes-line (HasCommand command) from left done number a b old mid new (Err outcome) p is (inl (fault, e, stop)) =
-    inl (fault, e, PlaysCutOff-command from left done command a b old mid new fault p stop)
-PlayDoes-line (HasCommand command) from left done number a b old mid new (Err outcome) p is (inr (fault, e, stop)) =
-    inr (fault, e, PlaysBrokenOff-command from left done command a b old mid new p stop)
-PlayDoes-line NoCommand from left done number a b old mid new (Ok done') p is (same, quiet, reported) =
-    Plays-report from left done number a b old mid new p is same quiet reported
-PlayDoes-line NoCommand from left done number a b old mid new (Err outcome) p is (same, quiet, (fault, e, front)) =
-    inr (fault, e, PlaysBrokenOff-report from left done number a b old mid new p is same quiet front)
+pub ExecutesNextLine-line : (line : Line) (from : SourceState) (left : Option (List ℕ)) (done : List Line) (number : ℕ) (a b : RunState) (old : Outputs) (mid new : Option (List ℕ)) (result : Result (Unit {0}) Outcome) → (p : HasExecuted from left done a old (with_reports mid a)) → number ≡ length done + 1
+    → ExecutesLineFrom line number from left p.standing a b mid new result → ExecutesNextLine from left done line b old (with_reports new b) result
+ExecutesNextLine-line Empty from left done number a b old mid new (Ok done') p is (ok, same, quiet) =
+    subst (λ x. HasExecuted from left (done ++ Empty ∷ []) x old (with_reports new x)) (sym same)
+    (subst (λ o. HasExecuted from left (done ++ Empty ∷ []) a old (with_reports o a)) (sym quiet) (HasExecuted-empty from left done a old (with_reports mid a) p))
+ExecutesNextLine-line Empty from left done number a b old mid new (Err outcome) p is (ok, same, quiet) = cc
+ExecutesNextLine-line (HasCommand command) from left done number a b old mid new (Ok done') p is does = HasExecuted-command from left done command a b old mid new p does
+ExecutesNextLine-line (HasCommand command) from left done number a b old mid new (Err outcome) p is (inl (fault, e, stop)) =
+    inl (fault, e, ExecutionCutOff-command from left done command a b old mid new fault p stop)
+ExecutesNextLine-line (HasCommand command) from left done number a b old mid new (Err outcome) p is (inr (fault, e, stop)) =
+    inr (fault, e, ExecutionBrokenOff-command from left done command a b old mid new p stop)
+ExecutesNextLine-line NoCommand from left done number a b old mid new (Ok done') p is (same, quiet, reported) =
+    HasExecuted-report from left done number a b old mid new p is same quiet reported
+ExecutesNextLine-line NoCommand from left done number a b old mid new (Err outcome) p is (same, quiet, (fault, e, front)) =
+    inr (fault, e, ExecutionBrokenOff-report from left done number a b old mid new p is same quiet front)
 
 -- ---- the lines of a script
 
@@ -291,7 +291,7 @@ pub record LinesDone (from : SourceState) (left : Option (List ℕ)) (script res
   pub whole : script_lines script ≡ octets ++ script_lines rest
   pub are : AreLines done octets
   pub count : number ≡ length done + 1
-  pub plays : Plays from left done scene old new
+  pub plays : HasExecuted from left done scene old new
   pub room : HasRoom scene.player scene.place (length done)
   pub few : number + length rest ≤ length script + 1
 
@@ -309,7 +309,7 @@ LinesDone-start left script scene outputs player place reported same = record {
   whole = refl;
   are = tt;
   count = refl;
-  plays = subst (λ q. Plays q left [] scene outputs outputs) (sym place) (Plays-start scene.place.stamp left scene outputs player place reported same);
+  plays = subst (λ q. HasExecuted q left [] scene outputs outputs) (sym place) (HasExecuted-start scene.place.stamp left scene outputs player place reported same);
   room = subst (λ t. HasRoom t scene.place 0) (sym player) (subst (λ q. HasRoom fresh q 0) (sym place) (record { floor = omega arith; cursor = omega arith; steps = omega arith; within = omega arith; limit = refl }));
   few = omega arith;
 }
@@ -323,7 +323,7 @@ LinesDone-line from left script rest one behind number a b old mid new d split s
   whole = d.whole ∙ ap (λ l. d.octets ++ l) split ∙ sym (append_assoc d.octets (one ∷ []) (script_lines behind));
   are = AreLines-more d.done d.octets line one d.are is;
   count = omega (arith, d.count, length-append d.done (line ∷ []));
-  plays = PlayDoes-line line from left d.done number a b old mid new (Ok tt) d.plays d.count (does from left d.plays.standing d.plays.stands);
+  plays = ExecutesNextLine-line line from left d.done number a b old mid new (Ok tt) d.plays d.count (does from left d.plays.standing d.plays.stands);
   room = subst (HasRoom b.player b.place) (sym (length-append d.done (line ∷ []))) (room (length d.done) d.room);
   few = omega (arith, d.few, shorter);
 }
@@ -338,7 +338,7 @@ ExecutesScript-stopped from left script rest one more number a b old mid new out
   more,
   d.whole ∙ ap (λ l. d.octets ++ l) split ∙ sym (append_assoc d.octets (one ∷ []) more),
   AreLines-more d.done d.octets line one d.are is,
-  PlayDoes-line line from left d.done number a b old mid new (Err outcome) d.plays d.count (does from left d.plays.standing d.plays.stands),
+  ExecutesNextLine-line line from left d.done number a b old mid new (Err outcome) d.plays d.count (does from left d.plays.standing d.plays.stands),
 )
 
 -- the last line
@@ -347,7 +347,7 @@ pub ExecutesScript-last : (from : SourceState) (left : Option (List ℕ)) (scrip
 ExecutesScript-last from left script rest number a b old mid new (Ok done) d split (line, is, does) = (
   d.done ++ line ∷ [],
   subst (AreLines (d.done ++ line ∷ [])) (sym (d.whole ∙ ap (λ l. d.octets ++ l) split)) (AreLines-more d.done d.octets line rest d.are is),
-  PlayDoes-line line from left d.done number a b old mid new (Ok done) d.plays d.count (does from left d.plays.standing d.plays.stands),
+  ExecutesNextLine-line line from left d.done number a b old mid new (Ok done) d.plays d.count (does from left d.plays.standing d.plays.stands),
 )
 ExecutesScript-last from left script rest number a b old mid new (Err outcome) d split carries =
     ExecutesScript-stopped from left script rest rest [] number a b old mid new outcome d split carries

@@ -21,7 +21,7 @@ use Rattle.bgpdump_lines.specs.declared.fault.WriteFault.TheVariants as write
 use Rattle.bgpdump_lines.specs.declared.outcome.Outcome.TheVariants as outcome
 use Rattle.bgpdump_lines.specs.Run.{AppendsPrefix, fault_report, reports}
 use Rattle.bgpdump_lines.specs.WrittenSoFar.{outcome_of_source_fault, outcome_of_write_fault, Puts}
-use Rattle.bgpdump_tool.specs.Execution.{Progress, RunState, HasFound, HasProgress, Follows, GoesOn, StepsFrom}
+use Rattle.bgpdump_tool.specs.Execution.{Progress, RunState, HasFound, HasProgress, FindsNothingAfterEnd, MovesForward, StepsFrom}
 use Rattle.bgpdump_lines.proofs.RunLaws.{TookUntilSourceFault-behind}
 use Rattle.bgpdump_lines.proofs.WritingLaws.{AppendsPrefix-none}
 use Rattle.bgpdump_tool.proofs.WalkLaws.{PutsAllOrFront-put}
@@ -76,8 +76,8 @@ pub promised : {I : Type 0} (left : I → Option (List ℕ)) (p q : SourceState)
     → (p.phase ≡ Ended → ◌≡◌ {A = Result Next SourceFault} (Ok answer) (Ok next.End) × (q ≡ p) × (b ≡ a)) → Promises p q (left a) (left b) told
 promised left p q a b answer told is reads ended = subst (Promises p q (left a) (left b)) is (reads, λ e. (ap told_by (ended e).0, (ended e).1, ap left (ended e).2))
 
-Follows-answer : (q q' : SourceState) (left left' : Option (List ℕ)) (answer : Next) → Promises q q' left left' answer → Follows q q' (answer_results answer)
-Follows-answer q q' left left' answer promised = record {
+FindsNothingAfterEnd-answer : (q q' : SourceState) (left left' : Option (List ℕ)) (answer : Next) → Promises q q' left left' answer → FindsNothingAfterEnd q q' (answer_results answer)
+FindsNothingAfterEnd-answer q q' left left' answer promised = record {
   quiet = λ e. (promised.1 e).0;
   stays = λ e. ap (λ x. x.phase) (promised.1 e).1 ∙ e;
 }
@@ -138,7 +138,7 @@ step_found from left old s t u q left' err event stands kept e off plays promise
           floor = ap (λ x. x.floor) now ∙ stands.floor;
           taking = subst (λ b. HasFound from left q left' (s.found ++ Found event ∷ []) b) (sym (or-false s.ended)) (HasFound-told from old.place q left old.left left' s.found s.ended (next.Event event) stands.taking promised refl within);
         };
-        follows = Follows-answer old.place q old.left left' (next.Event event) promised;
+        follows = FindsNothingAfterEnd-answer old.place q old.left left' (next.Event event) promised;
         met = λ ended. cc;
         reported = Appends-kept old.err old.err err [] (Appends-nil old.err) kept;
         told = sym (or-false old.reported);
@@ -172,7 +172,7 @@ step_bad from left old s t q left' mid err fault stands kept e off promised with
         all = λ one. omega (arith, end);
         stands = HasProgress-stays from left old s t q left' err true (Bad fault ∷ []) false stands e off
             (subst (λ b. HasFound from left q left' (s.found ++ Bad fault ∷ []) b) (sym (or-false s.ended)) (HasFound-told from old.place q left old.left left' s.found s.ended (next.Bad fault) stands.taking promised refl within));
-        follows = Follows-answer old.place q old.left left' (next.Bad fault) promised;
+        follows = FindsNothingAfterEnd-answer old.place q old.left left' (next.Bad fault) promised;
         met = λ ended. cc;
         reported = subst (Appends old.err err) (sym (append-nil (fault_report fault))) (kept-Appends old.err mid err (fault_report fault) kept appended);
         told = sym (or-true old.reported);
@@ -182,14 +182,14 @@ step_bad from left old s t q left' mid err fault stands kept e off promised with
 -- to the end
 pub step_end : (from : SourceState) (left : Option (List ℕ)) (old : RunState) (s : Progress) (t : Timeline) (q : SourceState) (left' err : Option (List ℕ)) → HasProgress from left old s → Keeps old.err err → t ≡ after_redo old.player
     → ¬ (old.player.cursor < end_of old.player) → Promises old.place q old.left left' next.End → q.offset ≤ q.limit
-    → GoesOn from left s old (record { player = t; place = q; left = left'; err = err; reported = old.reported }) 0 [] true
+    → MovesForward from left s old (record { player = t; place = q; left = left'; err = err; reported = old.reported }) 0 [] true
 step_end from left old s t q left' err stands kept e off promised within =
     let end = cursor_at_end from left old s stands off in
     record {
       few = omega arith;
       all = λ one. absurd (omega (arith, one));
       stands = HasProgress-stays from left old s t q left' err old.reported [] true stands e off (HasFound-end from old.place q left old.left left' s.found s.ended stands.taking promised within);
-      follows = Follows-answer old.place q old.left left' next.End promised;
+      follows = FindsNothingAfterEnd-answer old.place q old.left left' next.End promised;
       met = λ _. (omega (arith, end), ends_with_none from old.place q left old.left left' s.found next.End stands.taking.so_far promised refl);
       reported = Appends-kept old.err old.err err [] (Appends-nil old.err) kept;
       told = sym (or-false old.reported);
@@ -227,7 +227,7 @@ stops_told from left old s u q left' err reported answer fault stands off promis
     omega (arith, one),
     record {
       taking = HasFound-told from old.place q left old.left left' s.found s.ended answer stands.taking promised some within;
-      follows = Follows-answer old.place q old.left left' answer promised;
+      follows = FindsNothingAfterEnd-answer old.place q old.left left' answer promised;
       fronts = fronts;
     },
   ),

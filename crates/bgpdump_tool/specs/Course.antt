@@ -74,10 +74,10 @@ ScriptSawEnd stamp ScriptTooLong lines frames rest = ⊥
 ScriptSawEnd stamp other lines frames rest = IsEndSeen stamp lines frames rest
 
 -- The outcome is of a run that ended as an output or memory allocation failed.
-abbrev pub WasBrokenOff : Outcome → Type 0
-WasBrokenOff WriteFault = Unit {0}
-WasBrokenOff Memory = Unit {0}
-WasBrokenOff other = ⊥
+abbrev pub EndedByOutputOrMemory : Outcome → Type 0
+EndedByOutputOrMemory WriteFault = Unit {0}
+EndedByOutputOrMemory Memory = Unit {0}
+EndedByOutputOrMemory other = ⊥
 
 -- All of the texts `first` were written, and then a prefix of what `all` has after them.
 pub record WritesBeyond (first all : Texts) (old new : Outputs) : Type 0 where
@@ -118,12 +118,12 @@ ScriptEndsSo stamp script outcome left left' old new =
 -- A run that ended as an output or memory allocation failed has begun lines of the script as `HasBegun` says.
 abbrev pub HasBegunLines : Stamp → List ℕ → Outcome → Option (List ℕ) → Option (List ℕ) → Outputs → Outputs → Type 0
 HasBegunLines stamp script outcome left left' old new =
-    WasBrokenOff outcome → (lines : List Line) → IsScript lines script → HasBegun stamp lines left left' old new
+    EndedByOutputOrMemory outcome → (lines : List Line) → IsScript lines script → HasBegun stamp lines left left' old new
 
 -- A run that ended as the input failed or was too long has written exactly what the script writes over the
 -- frames taken, with a fault of the input after them.
-abbrev pub WritesCut : Stamp → List ℕ → Outcome → Option (List ℕ) → Option (List ℕ) → Outputs → Outputs → Type 0
-WritesCut stamp script outcome left left' old new =
+abbrev pub WritesCutTexts : Stamp → List ℕ → Outcome → Option (List ℕ) → Option (List ℕ) → Outputs → Outputs → Type 0
+WritesCutTexts stamp script outcome left left' old new =
     EndedByInput outcome → (lines : List Line) → IsScript lines script
     → HoldsForTaken stamp left left' (λ frames rest. Writes (cut_texts lines (all_results stamp frames [])) old new)
 

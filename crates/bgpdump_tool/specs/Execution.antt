@@ -92,7 +92,7 @@ pub record HasProgress (from : SourceState) (left : Option (List ℕ)) (scene : 
 
 -- A source that has seen the end of its input in the state `q` finds no new results, and has seen it in the
 -- state `q'` too.
-pub record Follows (q q' : SourceState) (new : List RecordResult) : Type 0 where
+pub record FindsNothingAfterEnd (q q' : SourceState) (new : List RecordResult) : Type 0 where
   pub quiet : q.phase ≡ Ended → new ≡ []
   pub stays : q.phase ≡ Ended → q'.phase ≡ Ended
 
@@ -110,11 +110,11 @@ progress_after over new ended s = record {
 -- A run went on from where it was in `s`: its cursor moved over `over` events ahead, over all of them if it
 -- found results, and then over the events of the results found, whose faults it reported. `ended` is whether
 -- it met the end.
-pub record GoesOn (from : SourceState) (left : Option (List ℕ)) (s : Progress) (old new : RunState) (over : ℕ) (found : List RecordResult) (ended : Bool) : Type 0 where
+pub record MovesForward (from : SourceState) (left : Option (List ℕ)) (s : Progress) (old new : RunState) (over : ℕ) (found : List RecordResult) (ended : Bool) : Type 0 where
   pub few : over ≤ length s.history - s.cursor
   pub all : 1 ≤ length found → over ≡ length s.history - s.cursor
   pub stands : HasProgress from left new (progress_after over found ended s)
-  pub follows : Follows old.place new.place found
+  pub follows : FindsNothingAfterEnd old.place new.place found
   pub met : ended ≡ true → (over ≡ length s.history - s.cursor) × (new.place.phase ≡ Ended)
   pub reported : Appends old.err new.err (reports found)
   pub told : new.reported ≡ (old.reported || has_fault found)
@@ -129,14 +129,14 @@ pub record StopsReading (from : SourceState) (left : Option (List ℕ)) (s : Pro
 -- was written.
 pub record StopsWriting (from : SourceState) (left : Option (List ℕ)) (s : Progress) (old new : RunState) (found : List RecordResult) : Type 0 where
   pub taking : HasFound from left new.place new.left (s.found ++ found) s.ended
-  pub follows : Follows old.place new.place found
+  pub follows : FindsNothingAfterEnd old.place new.place found
   pub fronts : AppendsPrefix old.err new.err (reports found)
 
 -- What a step forward from `s` does, by its result: it moves over one event ahead, or finds one result; or,
 -- if it ended, it met the end; or, with no event ahead, the source or a fault of writing stopped it.
 abbrev pub StepsFrom : SourceState → Option (List ℕ) → Progress → RunState → RunState → Result Bool Outcome → Type 0
-StepsFrom from left s old new (Ok false) = (over : ℕ) × (found : List RecordResult) × (over + length found ≡ 1) × GoesOn from left s old new over found false
-StepsFrom from left s old new (Ok true) = GoesOn from left s old new 0 [] true
+StepsFrom from left s old new (Ok false) = (over : ℕ) × (found : List RecordResult) × (over + length found ≡ 1) × MovesForward from left s old new over found false
+StepsFrom from left s old new (Ok true) = MovesForward from left s old new 0 [] true
 StepsFrom from left s old new (Err outcome) = (s.cursor ≡ length s.history) × (
     ((fault : SourceFault) × (outcome ≡ outcome_of_source_fault fault) × StopsReading from left s old new fault)
     ⊎ ((fault : WriteFault) × (outcome ≡ outcome_of_write_fault fault) × (found : List RecordResult) × (length found ≤ 1) × StopsWriting from left s old new found)
@@ -162,7 +162,7 @@ pub record IsLed (command : Command) (from : SourceState) (left : Option (List �
   pub reply : List ℕ
   pub found : after.found ≡ s.found ++ taken
   pub stands : HasProgress from left new after
-  pub follows : Follows old.place new.place taken
+  pub follows : FindsNothingAfterEnd old.place new.place taken
   pub leads : (more : List RecordResult) → (new.place.phase ≡ Ended → more ≡ []) → Leads command s after taken reply more
   pub reported : Appends old.err new.err (reports taken)
   pub told : new.reported ≡ (old.reported || has_fault taken)
@@ -183,7 +183,7 @@ pub record IsBrokenOff (command : Command) (from : SourceState) (left : Option (
   pub taken : List RecordResult
   pub ended : Bool
   pub taking : HasFound from left new.place new.left (s.found ++ taken) ended
-  pub follows : Follows old.place new.place taken
+  pub follows : FindsNothingAfterEnd old.place new.place taken
   pub met : ended ≡ true → (s.ended || meets_end command (state_with_unread s taken)) ≡ true
   pub fronts : (more : List RecordResult) → (new.place.phase ≡ Ended → more ≡ []) → AppendsPrefix out out' (meaning command (state_with_unread s (taken ++ more))).reply × AppendsPrefix old.err new.err (faults_taken command (state_with_unread s (taken ++ more)))
 
@@ -221,7 +221,7 @@ ExecutesLine octets number old new out out' result = (line : Line) × IsLine lin
 -- A run has executed the lines `done`, and is in the state `scene`. Its outputs are `old` before that and
 -- `new` after it. With any lines after `done`, the course of all of them is what was written, and then the
 -- course of these lines from where the run is.
-pub record Plays (from : SourceState) (left : Option (List ℕ)) (done : List Line) (scene : RunState) (old new : Outputs) : Type 0 where
+pub record HasExecuted (from : SourceState) (left : Option (List ℕ)) (done : List Line) (scene : RunState) (old new : Outputs) : Type 0 where
   pub standing : Progress
   pub stands : HasProgress from left scene standing
   pub texts : Texts
@@ -233,7 +233,7 @@ pub record Plays (from : SourceState) (left : Option (List ℕ)) (done : List Li
 -- The source stopped a run with `fault` in the line after `done`: exactly what the script writes over the
 -- results found was written, with a fault of the input after them. With more results, the texts of `done`
 -- would be written, and a prefix of what this line adds.
-pub record PlaysCutOff (from : SourceState) (left : Option (List ℕ)) (done : List Line) (line : Line) (scene : RunState) (old new : Outputs) (fault : SourceFault) : Type 0 where
+pub record ExecutionCutOff (from : SourceState) (left : Option (List ℕ)) (done : List Line) (line : Line) (scene : RunState) (old new : Outputs) (fault : SourceFault) : Type 0 where
   pub found : List RecordResult
   pub faulty : TookUntilSourceFault from left scene.left found fault
   pub exact : (lines : List Line) → Writes (cut_texts ((done ++ line ∷ []) ++ lines) found) old new
@@ -242,7 +242,7 @@ pub record PlaysCutOff (from : SourceState) (left : Option (List ℕ)) (done : L
 
 -- Memory allocation or an output stopped a run in the line after `done`: the texts of `done` were written,
 -- and a prefix of what this line adds.
-pub record PlaysBrokenOff (from : SourceState) (left : Option (List ℕ)) (done : List Line) (line : Line) (scene : RunState) (old new : Outputs) : Type 0 where
+pub record ExecutionBrokenOff (from : SourceState) (left : Option (List ℕ)) (done : List Line) (line : Line) (scene : RunState) (old new : Outputs) : Type 0 where
   pub found : List RecordResult
   pub ended : Bool
   pub taking : HasFound from left scene.place scene.left found ended
@@ -250,18 +250,18 @@ pub record PlaysBrokenOff (from : SourceState) (left : Option (List ℕ)) (done 
   pub past : (more : List RecordResult) → (scene.place.phase ≡ Ended → more ≡ []) → WritesBeyond (play_texts done (found ++ more)) (play_texts (done ++ line ∷ []) (found ++ more)) old new
 
 -- How executing the line after `done` ended, by its result.
-abbrev pub PlayDoes : SourceState → Option (List ℕ) → List Line → Line → RunState → Outputs → Outputs → Result (Unit {0}) Outcome → Type 0
-PlayDoes from left done line scene old new (Ok all) = Plays from left (done ++ line ∷ []) scene old new
-PlayDoes from left done line scene old new (Err outcome) =
-    ((fault : SourceFault) × (outcome ≡ outcome_of_source_fault fault) × PlaysCutOff from left done line scene old new fault)
-    ⊎ ((fault : WriteFault) × (outcome ≡ outcome_of_write_fault fault) × PlaysBrokenOff from left done line scene old new)
+abbrev pub ExecutesNextLine : SourceState → Option (List ℕ) → List Line → Line → RunState → Outputs → Outputs → Result (Unit {0}) Outcome → Type 0
+ExecutesNextLine from left done line scene old new (Ok all) = HasExecuted from left (done ++ line ∷ []) scene old new
+ExecutesNextLine from left done line scene old new (Err outcome) =
+    ((fault : SourceFault) × (outcome ≡ outcome_of_source_fault fault) × ExecutionCutOff from left done line scene old new fault)
+    ⊎ ((fault : WriteFault) × (outcome ≡ outcome_of_write_fault fault) × ExecutionBrokenOff from left done line scene old new)
 
 -- A run has executed all lines of the script, if the result is Ok; or else the first ones, and a fault
 -- stopped it in the next one.
 abbrev pub ExecutesScript : SourceState → Option (List ℕ) → List ℕ → RunState → Outputs → Outputs → Result (Unit {0}) Outcome → Type 0
-ExecutesScript from left script scene old new (Ok all) = (done : List Line) × AreLines done (script_lines script) × Plays from left done scene old new
+ExecutesScript from left script scene old new (Ok all) = (done : List Line) × AreLines done (script_lines script) × HasExecuted from left done scene old new
 ExecutesScript from left script scene old new (Err outcome) =
-    (done : List Line) × (line : Line) × (first rest : List (List ℕ)) × (script_lines script ≡ first ++ rest) × AreLines (done ++ line ∷ []) first × PlayDoes from left done line scene old new (Err outcome)
+    (done : List Line) × (line : Line) × (first rest : List (List ℕ)) × (script_lines script ≡ first ++ rest) × AreLines (done ++ line ∷ []) first × ExecutesNextLine from left done line scene old new (Err outcome)
 
 -- What executing the lines of a script does, by the states of the run and what the output of replies has got,
 -- before and after it.

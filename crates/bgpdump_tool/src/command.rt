@@ -5,7 +5,7 @@ ghost use Rattle.std.specs.Prelude.{◌∷◌, []};
 ghost use Rattle.bgp_wire.specs.Readers.{ParsesTo};
 ghost use Rattle.bgpdump_tool.specs.Script.{SpellsCommand, SpellsWords, SpellsPeer, SpellsStepCount};
 
-use crate::words::{is, parse_number, split_once};
+use crate::words::{equals, parse_number, split_once};
 use ip_prefix::{Addr, Prefix, SPACE};
 use mrt_wire::Peer;
 
@@ -58,13 +58,13 @@ pub fn read_command(line: &[u8]) -> Option<Command>
 fn parse_bare_command(name: &[u8]) -> Option<Command>
     ensures { ParsesTo SpellsWords (name.now ∷ []) result }
 {
-    if is(name, b"next") {
+    if equals(name, b"next") {
         Some(Command::Next(1))
-    } else if is(name, b"back") {
+    } else if equals(name, b"back") {
         Some(Command::Back(1))
-    } else if is(name, b"where") {
+    } else if equals(name, b"where") {
         Some(Command::Position)
-    } else if is(name, b"peers") {
+    } else if equals(name, b"peers") {
         Some(Command::Peers)
     } else {
         None
@@ -76,13 +76,13 @@ fn parse_bare_command(name: &[u8]) -> Option<Command>
 fn parse_with_one_argument(name: &[u8], word: &[u8]) -> Option<Command>
     ensures { ParsesTo SpellsWords (name.now ∷ word.now ∷ []) result }
 {
-    if is(name, b"goto") {
+    if equals(name, b"goto") {
         Some(Command::Goto(parse_number(word)?))
-    } else if is(name, b"next") {
+    } else if equals(name, b"next") {
         Some(Command::Next(parse_step_count(word)?))
-    } else if is(name, b"back") {
+    } else if equals(name, b"back") {
         Some(Command::Back(parse_step_count(word)?))
-    } else if is(name, b"forget") {
+    } else if equals(name, b"forget") {
         Some(Command::Forget(parse_number(word)?))
     } else {
         None
@@ -107,9 +107,9 @@ fn parse_with_two_arguments(name: &[u8], address: &[u8], number: &[u8]) -> Optio
     ensures { ParsesTo SpellsWords (name.now ∷ address.now ∷ number.now ∷ []) result }
 {
     let peer = parse_peer(address, number)?;
-    if is(name, b"table") {
+    if equals(name, b"table") {
         Some(Command::Table(peer))
-    } else if is(name, b"lose") {
+    } else if equals(name, b"lose") {
         Some(Command::Lose(peer))
     } else {
         None
@@ -127,9 +127,9 @@ fn parse_with_three_arguments(
     ensures { ParsesTo SpellsWords (name.now ∷ address.now ∷ number.now ∷ sought.now ∷ []) result }
 {
     let peer = parse_peer(address, number)?;
-    if is(name, b"route") {
+    if equals(name, b"route") {
         Some(Command::Route(peer, Prefix::parse(sought)?))
-    } else if is(name, b"lookup") {
+    } else if equals(name, b"lookup") {
         Some(Command::Lookup(peer, Addr::parse(sought)?))
     } else {
         None

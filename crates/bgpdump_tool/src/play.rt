@@ -9,7 +9,7 @@ ghost use Rattle.bgpdump_lines.specs.declared.dump.TheConstants.{INPUT_LIMIT};
 ghost use Rattle.bgpdump_lines.specs.Flushing.{AreFlushed, LeavesFlushed};
 ghost use Rattle.bgpdump_lines.specs.WrittenSoFar.{is_read_fault, is_write_fault};
 ghost use Rattle.bgpdump_lines.specs.Run.{IsTaken, HoldsForDevices, outputs_of};
-ghost use Rattle.bgpdump_tool.specs.Course.{ScriptEndsOnOctets, ScriptEndsSo, HasBegunLines, WritesCut, TakesOnlyWanted};
+ghost use Rattle.bgpdump_tool.specs.Course.{ScriptEndsOnOctets, ScriptEndsSo, HasBegunLines, WritesCutTexts, TakesOnlyWanted};
 ghost use Rattle.bgpdump_tool.specs.Execution.{HasRoom, HoldsForRunStates, ExecutesLine, ExecutesLines};
 
 use crate::command::read_command;
@@ -66,7 +66,7 @@ pub fn run_play<S: PrefixStore<Rc<Route>>, I: Input, O: Output, E: Output>(
     // give: the replies to the commands that it completed, and the reports of faulty records and of
     // bad lines before.
     ensures whole_records { HoldsForDevices I.left O.written E.written
-        (WritesCut stamp script.now result)
+        (WritesCutTexts stamp script.now result)
         (input.old, out.old, err.old) (input.new, out.new, err.new) }
 
     // No record is taken that no command wants. In a run that comes to its end, commands have taken

@@ -6,9 +6,9 @@ ghost use Rattle.std.specs.Io.KnownBytes.{Keeps};
 ghost use Rattle.rib_player.specs.Timeline.{ahead_of, fresh};
 ghost use Rattle.mrt_wire.specs.Results.{start_state};
 ghost use Rattle.mrt_wire.specs.declared.next.Phase.{Phase};
-ghost use Rattle.bgpdump_lines.specs.Flushing.{AreFlushed, IsReadyToRead};
+ghost use Rattle.bgpdump_lines.specs.Flushing.{AreFlushed};
 ghost use Rattle.bgpdump_lines.specs.declared.dump.TheConstants.{INPUT_LIMIT};
-ghost use Rattle.bgpdump_lines.specs.WrittenSoFar.{is_read_fault, is_write_fault};
+ghost use Rattle.bgpdump_lines.specs.WrittenSoFar.{IsReadyToRead, is_read_fault, is_write_fault};
 ghost use Rattle.bgpdump_tool.specs.declared.play.TheConstants.{LONGEST_SCRIPT};
 ghost use Rattle.bgpdump_tool.specs.Execution.{HasRoom, run_state_from_devices, Steps};
 

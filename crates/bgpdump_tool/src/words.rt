@@ -21,7 +21,7 @@ pub(crate) fn split_once(text: &[u8], mark: u8) -> Option<(&[u8], &[u8])>
 }
 
 /// Returns `true` if `word` equals `name`.
-pub(crate) fn is(word: &[u8], name: &[u8]) -> bool
+pub(crate) fn equals(word: &[u8], name: &[u8]) -> bool
     ensures same { IsTrue result → word.now ≡ name.now }
     ensures other { IsFalse result → word.now ≢ name.now }
 {

@@ -1,6 +1,6 @@
 -- Private.
 -- What the reader of records takes from its input, by what it returns.
-use Rattle.std.specs.Prelude.{ℕ, ◌<◌, List, slice_index, take, ◌≡◌, ◌+◌, ◌≤◌, Bool, true, false, length, Option, Some, None, Result, Ok, Err}
+use Rattle.std.specs.Prelude.{ℕ, ◌<◌, List, ◌++◌, slice_index, take, ◌≡◌, ◌+◌, ◌≤◌, Bool, true, false, length, IfOk, Option, Some, None, Result, Ok, Err}
 use Rattle.mrt_frames.specs.declared.header.Header.{Header}
 use Rattle.mrt_frames.specs.Record.{Record, FitsHeader, header_octets, spelling, IsRecord, rest_kind, rest_fault, IsRest, IsUnfinished}
 use Rattle.std.specs.Io.KnownBytes.{Consumes, IsAtEnd}
@@ -114,3 +114,16 @@ TakesRecordOrRest format_at limit buffer (Ok (front.Skipped header)) left taken 
     (format_at header.kind header.subtype ≡ None) × ((body : List ℕ) × IsRecord (record_with_header header body) × (octets ≡ spelling (record_with_header header body)))
 TakesRecordOrRest format_at limit buffer (Ok (front.Rest kind)) left taken octets = EndsAt left octets × (kind ≡ rest_fault octets)
 TakesRecordOrRest format_at limit buffer (Err fault) left taken octets = IsUnfinished octets × Stops fault taken limit
+
+-- ---- what reads take from a buffer that has enough
+
+-- several reads, for so many octets in all, of which enough are buffered: none fails, and if the limit allows all, these are the octets that leave the buffer
+abbrev pub FillsBuffered : List ℕ → List ℕ → List ℕ → ℕ → Result ℕ SourceFault → Type 0
+FillsBuffered old new octets size result =
+    size ≤ length old → (is_err_read result ≡ false) × IfOk result (λ count. (count ≡ size) × (old ≡ take size octets ++ new))
+
+-- the header that was read is the one that was buffered
+abbrev pub StartsBuffered : List ℕ → List ℕ → Result NextHeader SourceFault → Type 0
+StartsBuffered old new (Ok (start.Header header)) = old ≡ header_octets header.seconds header.kind header.subtype header.size ++ new
+StartsBuffered old new (Ok (start.Rest kind)) = ⊥
+StartsBuffered old new (Err fault) = is_err_read {A = NextHeader} (Err fault) ≡ false

@@ -2,8 +2,7 @@
 //! with it. Read [`fill_within`] first.
 
 ghost use Rattle.std.specs.Prelude.{◌≡◌, ◌≤◌, ◌<◌, ◌+◌, ◌-◌, ◌*◌, ◌||◌, false, IfOk, length, max, take, drop, vec_len};
-ghost use Rattle.mrt_frames.specs.Buffered.{FillsBuffered};
-ghost use Rattle.mrt_frames.specs.Taken.{FillsWithin, is_err_read, source_answer};
+ghost use Rattle.mrt_frames.specs.Taken.{FillsBuffered, FillsWithin, is_err_read, source_answer};
 
 use crate::fault::{SourceFault, TakeFault};
 use crate::header::LONGEST_BODY;

@@ -2,8 +2,8 @@
 //! calls [`FrameReader::take_record`] for each record; read that first.
 
 ghost use Rattle.std.specs.Prelude.{◌≡◌, ◌+◌, ◌≤◌, ◌||◌, ℕ, false, Option, IfOk, IsTrue, take, length, vec_len};
-ghost use Rattle.mrt_frames.specs.Buffered.{HoldsRecord, StartsBuffered};
-ghost use Rattle.mrt_frames.specs.Taken.{is_err_read, source_answer, TakesOctets, TakesHeaderOrRest, TakesBody, SkipsBody, TakesRecordOrRest};
+ghost use Rattle.mrt_frames.specs.Buffered.{HoldsRecord};
+ghost use Rattle.mrt_frames.specs.Taken.{StartsBuffered, is_err_read, source_answer, TakesOctets, TakesHeaderOrRest, TakesBody, SkipsBody, TakesRecordOrRest};
 
 use crate::buffer::{fill_body, fill_part, fill_within};
 use crate::fault::{RecordKind, SourceFault, TakeFault};
