@@ -7,9 +7,9 @@ ghost use Rattle.ip_prefix.specs.declared.turn.Turn.TheVariants.{Outside, Here};
 ghost use Rattle.rib_store.specs.Tree.{shape_of, is_routed, IsLeaf, IsFork, IsAtRoot, IsMarked, at, root, AreOf, IsShaped, IsPlaced, IsPlacedAt};
 ghost use Rattle.rib_store.specs.Slots.{route_found};
 
-use crate::tree::nodes::{leaf_with, lone, put_fork, put_root, slot_in};
+use crate::tree::nodes::{leaf_with, lone, put_fork, put_root, route_in, slot_in};
 use crate::tree::routes::exchange_leaf;
-use crate::tree::{Fork, Node, Tree};
+use crate::tree::{Node, Tree};
 use ip_prefix::{Prefix, Turn};
 use prefix_store::Packed;
 use std::alloc::{AllocError, Global};
@@ -221,16 +221,14 @@ fn put_beside<K: Packed, R: Drop>(
         put_root(tree, K::of(&common), node, below, side);
         return Ok(true);
     }
-    let fork = Box::new(
-        alloc,
-        Fork {
-            left: Tree::Empty,
-            right: Tree::Empty,
-        },
-    )?;
     let leaf = leaf_with(K::of(key), route);
-    put_fork(tree, K::of(&common), fork, leaf, side);
-    Ok(true)
+    match put_fork(tree, K::of(&common), alloc, leaf, side) {
+        Ok(()) => Ok(true),
+        Err((leaf, refused)) => {
+            *route = route_in(leaf);
+            Err(refused)
+        }
+    }
 }
 
 /// Makes the prefix of the branch at the root, `prefix`, a key with `route`, and returns `true`. On
