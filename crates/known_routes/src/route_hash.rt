@@ -4,39 +4,46 @@
 ghost use Rattle.std.specs.Prelude.{◌+◌, ◌≤◌};
 ghost use Rattle.ip_prefix.specs.Network.{octet_count};
 
+use bgp_wire::Attrs;
 use ip_prefix::{Addr, Family};
 use mrt_events::{Peer, Route};
 
-/// The factor of each step of a hash: the odd number nearest to 2^64 divided by the golden ratio,
-/// so that the highest bits of the product depend on all bits. An even factor would lose the
-/// highest bit.
+/// The factor of each step of a hash: the odd number nearest to 2^64 divided by the golden ratio.
+/// The lower half of a product depends on the lowest bits most, and the upper half on the highest.
+/// An even factor would lose the highest bit.
 const MULTIPLIER: u64 = 0x9e37_79b9_7f4a_7c15;
 
-/// The number of bits by which a hash is rotated before another number is mixed in. A rotation by a
-/// bit more gives another hash, which is as good.
-const TURN: u32 = 5;
+/// The greatest number of 64 bits, which is the lower half of a product. With a bit less, that half
+/// would lose its highest bit.
+const LOWER_HALF: u128 = 0xffff_ffff_ffff_ffff;
 
-/// The number that is mixed in for an absent number of 32 bits: the least that no such number has.
-/// One above it would do as well.
-const ABSENT: u64 = 1 << 32;
+/// The number that stands for an absent ORIGIN, above all its codes. One above it is that of an
+/// ORIGIN of 0 with ATOMIC_AGGREGATE.
+const NO_ORIGIN: u32 = 3;
 
-/// The number that stands for an absent ORIGIN, above all its codes. One above it would do as well.
-const NO_ORIGIN: u64 = 3;
+/// The number of bits of a list's mark. With one less, a mark and the length of a list would share
+/// a bit.
+const MARK_BITS: u32 = 3;
 
-/// The number of lowest bits of a hash that are dropped, since they depend on the fewest bits. With
-/// one more, half of all slots would never be taken.
+/// The mark of a list of communities, above those of segments, which are the numbers of their
+/// kinds. One above it would do as well.
+const COMMUNITIES: u64 = 4;
+
+/// The number of lowest bits of a hash that are dropped, so that 32 are left. With one more, half
+/// of all slots would never be taken.
 const LOWEST_BITS: u32 = 32;
 
 /// Returns `hash` with `number` mixed in.
 #[inline]
 fn mixed(hash: u64, number: u64) -> u64 {
-    (hash.rotate_left(TURN) ^ number).wrapping_mul(MULTIPLIER)
+    let product = u128::from(hash ^ number).wrapping_mul(u128::from(MULTIPLIER));
+    (product >> 64) as u64 ^ (product & LOWER_HALF) as u64
 }
 
-/// Returns `hash` with a number, or its absence, mixed in.
+/// Returns two numbers of 32 bits as one of 64.
 #[inline]
-fn with_number(hash: u64, number: Option<u32>) -> u64 {
-    mixed(hash, number.map_or(ABSENT, u64::from))
+fn joined(low: u32, high: u32) -> u64 {
+    u64::from(low) | u64::from(high) << 32
 }
 
 /// Returns the four octets of an address from the index `place` on as a big-endian number.
@@ -55,57 +62,63 @@ fn four_octets(addr: &Addr, place: usize) -> u32
 /// Returns `hash` with all octets of an address mixed in.
 #[inline]
 fn with_address(hash: u64, addr: &Addr) -> u64 {
-    let first = mixed(hash, u64::from(four_octets(addr, 0)));
     match addr.family() {
-        Family::V4 => first,
+        Family::V4 => mixed(hash, u64::from(four_octets(addr, 0))),
         Family::V6 => {
-            let second = mixed(first, u64::from(four_octets(addr, 4)));
-            let third = mixed(second, u64::from(four_octets(addr, 8)));
-            mixed(third, u64::from(four_octets(addr, 12)))
+            let first = mixed(hash, joined(four_octets(addr, 4), four_octets(addr, 0)));
+            mixed(first, joined(four_octets(addr, 12), four_octets(addr, 8)))
         }
     }
 }
 
-/// Returns `hash` with the length of a list and all its numbers mixed in.
+/// Returns `hash` with the mark and the length of a list and all its numbers mixed in.
 #[inline]
-fn with_numbers(hash: u64, numbers: &[u32]) -> u64 {
-    let mut hash = mixed(hash, numbers.len() as u64);
-    'numbers: for number in numbers {
-        hash = mixed(hash, u64::from(*number));
+fn with_numbers(hash: u64, mark: u64, numbers: &[u32]) -> u64 {
+    let mut hash = mixed(hash, (numbers.len() as u64) << MARK_BITS | mark);
+    let (pairs, rest) = numbers.as_chunks::<2>();
+    'pairs: for pair in pairs {
+        hash = mixed(hash, joined(pair[0], pair[1]));
     }
-    hash
+    match rest.first() {
+        Some(number) => mixed(hash, u64::from(*number)),
+        None => hash,
+    }
+}
+
+/// Returns the ORIGIN and ATOMIC_AGGREGATE, and which other attributes are present, in a bit each.
+#[inline]
+fn marks_of(attrs: &Attrs) -> u32 {
+    attrs.origin.map_or(NO_ORIGIN, |origin| origin as u32)
+        | u32::from(attrs.atomic) << 2
+        | u32::from(attrs.next_hop.is_some()) << 3
+        | u32::from(attrs.local_pref.is_some()) << 4
+        | u32::from(attrs.med.is_some()) << 5
+        | u32::from(attrs.aggregator.is_some()) << 6
 }
 
 /// Returns the hash of a route, by all its attributes and its time.
 pub(crate) fn hash_of(route: &Route) -> u32 {
     let attrs = &route.attrs;
-    let origin = attrs.origin.map_or(NO_ORIGIN, |origin| origin as u64);
-    let mut hash = mixed(origin, u64::from(route.time));
-    hash = match attrs.next_hop {
-        Some(addr) => with_address(hash, &addr),
-        None => mixed(hash, ABSENT),
-    };
-    hash = with_number(hash, attrs.local_pref);
-    hash = with_number(hash, attrs.med);
-    hash = match attrs.aggregator {
-        Some(aggregator) => mixed(
+    let numbers = joined(attrs.local_pref.unwrap_or(0), attrs.med.unwrap_or(0));
+    let mut hash = mixed(mixed(0, joined(route.time, marks_of(attrs))), numbers);
+    if let Some(addr) = attrs.next_hop {
+        hash = with_address(hash, &addr);
+    }
+    if let Some(aggregator) = attrs.aggregator {
+        hash = mixed(
             with_address(hash, &aggregator.addr),
             u64::from(aggregator.asn),
-        ),
-        None => mixed(hash, ABSENT),
-    };
-    hash = mixed(hash, u64::from(attrs.atomic));
-    let segments = attrs.path.segments.as_slice();
-    hash = mixed(hash, segments.len() as u64);
-    'segments: for segment in segments {
-        hash = with_numbers(mixed(hash, segment.kind as u64), segment.numbers.as_slice());
+        );
     }
-    hash = with_numbers(hash, attrs.communities.as_slice());
+    'segments: for segment in attrs.path.segments.as_slice() {
+        hash = with_numbers(hash, segment.kind as u64, segment.numbers.as_slice());
+    }
+    hash = with_numbers(hash, COMMUNITIES, attrs.communities.as_slice());
     (hash >> LOWEST_BITS) as u32
 }
 
 /// Returns the hash of a peer. Its highest bits depend on all bits of the peer.
 #[inline]
 pub fn peer_hash(peer: &Peer) -> u64 {
-    with_address(u64::from(peer.asn), &peer.addr)
+    with_address(u64::from(peer.asn) << 32, &peer.addr)
 }
