@@ -86,7 +86,7 @@ impl<S> Stores<S> {
     }
 
     /// Returns `true` if `peer` has a store and `number` is its number.
-    #[inline]
+    #[inline(always)]
     fn has_number(&self, number: usize, peer: &Peer) -> bool
         ensures { IsTrue result →
             lookup (eq_by_cmp peer_cmp peer.now) self.now.order.entries ≡ Some number }
@@ -99,6 +99,7 @@ impl<S> Stores<S> {
 
     /// Returns the number of `peer`, or `None` if it has no store. Looks in the slot of the peer,
     /// and then in the ordered map.
+    #[inline(never)]
     fn sought_number(&self, peer: &Peer) -> Option<usize>
         ensures { result ≡ lookup (eq_by_cmp peer_cmp peer.now) self.now.order.entries }
     {
@@ -113,7 +114,7 @@ impl<S> Stores<S> {
 
     /// Returns the number of `peer`, or `None` if it has no store. `number` is a guess, which is
     /// tried first.
-    #[inline]
+    #[inline(always)]
     fn number_of(&self, number: usize, peer: &Peer) -> Option<usize>
         ensures { result ≡ lookup (eq_by_cmp peer_cmp peer.now) self.now.order.entries }
     {
