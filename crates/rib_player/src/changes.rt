@@ -67,6 +67,24 @@ impl Changes {
         Ok(())
     }
 
+    /// Notes what `items` do, as [`Changes::note_each`] does, which isn't called for none.
+    #[inline(always)]
+    fn note_some<S: PrefixStore<Rc<Route>>>(
+        &mut self,
+        table: &Table<S>,
+        items: &[Item],
+        known: &mut KnownRoutes,
+    ) -> Result<(), AllocError>
+        ensures { OnOk result ((q : Pair) → noted_effect self.new q
+            ≡ later (items_effect q items.now) (noted_effect self.old q)) }
+    {
+        // Of most events either all items share a route or none do.
+        if items.is_empty() {
+            return Ok(());
+        }
+        self.note_each(table, items, known, None)
+    }
+
     /// Notes what `items` do, all of which are before the items noted so far. If `shared` is there,
     /// it is taken as the route of each announcement; else each route is looked up by
     /// [`KnownRoutes::known_if_short`].
@@ -106,6 +124,7 @@ impl Changes {
 
     /// Notes what `items` do, which announce prefixes of one peer with one route, and are before
     /// the items noted so far. The route is looked up in `known` once.
+    #[inline(always)]
     fn note_shared<S: PrefixStore<Rc<Route>>>(
         &mut self,
         table: &Table<S>,
@@ -117,7 +136,7 @@ impl Changes {
             ≡ later (items_effect q items.now) (noted_effect self.old q)) }
     {
         let Some(Item::Announce(peer, _, route)) = items.first() else {
-            return self.note_each(table, items, known, None);
+            return self.note_some(table, items, known);
         };
         let route = known.known(peer, route)?;
         self.note_each(table, items, known, Some(&route))
@@ -140,10 +159,10 @@ pub(crate) fn changes_of<S: PrefixStore<Rc<Route>>>(
     };
     let items = event.items.as_slice();
     let shared = event.items.shared_ranges();
-    changes.note_each(table, &items[shared.end..], known, None)?;
+    changes.note_some(table, &items[shared.end..], known)?;
     changes.note_shared(table, &items[shared.middle..shared.end], known)?;
     changes.note_shared(table, &items[shared.start..shared.middle], known)?;
-    changes.note_each(table, &items[..shared.start], known, None)?;
+    changes.note_some(table, &items[..shared.start], known)?;
     if changes.entries.len() < items.len() {
         known.note_unused();
     }
