@@ -105,8 +105,8 @@ NOT_MET = {
         'MAX_SLOTS': 'so many routes take more memory than a check has', 'IN_OVERFLOW': 'no number is above it',
     },
     'known_routes/src/route_hash.rt': {
-        'MULTIPLIER': 'a factor', 'ROTATION': 'a factor', 'ABSENT': 'stands for no number',
-        'NO_ORIGIN': 'stands for no origin', 'LOWEST_BITS': 'the width of a hash',
+        'MULTIPLIER': 'a factor', 'NO_ORIGIN': 'stands for no origin',
+        'MARK_BITS': 'the width of a mark', 'COMMUNITIES': 'a mark', 'LOWEST_BITS': 'the width of a hash',
     },
     'known_routes/src/route_order.rt': {'NO_ORIGIN': 'stands for no origin'},
     'known_routes/src/routes.rt': {'LOWEST_BITS': 'the width of a hash'},

@@ -639,22 +639,23 @@ def changing_course():
 # The hash of a plain route, of a time and a metric alone, as crates/known_routes/src/route_hash.rt has it, and the rows
 # of the first places in which a route of a hash may stand (place.rt there).
 
-MULTIPLIER, TURN, ABSENT, NO_ORIGIN = 0x9E37_79B9_7F4A_7C15, 5, 1 << 32, 3
+MULTIPLIER, NO_ORIGIN, HAS_METRIC, COMMUNITIES = 0x9E37_79B9_7F4A_7C15, 3, 1 << 5, 4
 SECOND_ROW, ROWS = 0x9E37_79B1, 255
 
 
 def mixed(value, *numbers):
     for number in numbers:
-        value = ((value << TURN | value >> 64 - TURN) & (1 << 64) - 1 ^ number) * MULTIPLIER & (1 << 64) - 1
+        product = (value ^ number) * MULTIPLIER
+        value = product >> 64 ^ product & (1 << 64) - 1
     return value
 
 
 def rows_of_plain(time):
     """Metrics, each with the two rows of its plain route."""
-    front = mixed(NO_ORIGIN, time, ABSENT, ABSENT)
+    front = mixed(0, time | (NO_ORIGIN | HAS_METRIC) << 32)
     for metric in itertools.count():
-        # No aggregator, not atomic, no segments and no communities.
-        value = mixed(front, metric, ABSENT, 0, 0, 0) >> 32
+        # No preference, no segments and no communities.
+        value = mixed(front, metric << 32, COMMUNITIES) >> 32
         yield metric, (value * ROWS >> 32, (value * SECOND_ROW & (1 << 32) - 1) * ROWS >> 32)
 
 
@@ -671,18 +672,18 @@ def metrics_of_one_place(time=7, count=24):
 
 def communities_of_one_hash(count=64):
     """Pairs of communities of plain routes of time 7 whose hashes are one."""
-    start = mixed(NO_ORIGIN, 7, ABSENT, ABSENT, ABSENT, ABSENT, 0, 0, 2)
-    by_hash = {mixed(0, number) >> 32: number for number in range(1 << 20)}
+    start = mixed(0, 7 | NO_ORIGIN << 32, 0, 2 << 3 | COMMUNITIES)
+    by_product = {(number * MULTIPLIER & (1 << 64) - 1) >> 32: number for number in range(1 << 20)}
     found, wanted = [], 0x1234_5678
-    for first in itertools.count():
-        before = mixed(start, first)
-        turned = (before << TURN | before >> 64 - TURN) & (1 << 64) - 1
-        high, low = turned >> 32, turned & (1 << 32) - 1
-        number = by_hash.get(wanted - high * MULTIPLIER & (1 << 32) - 1)
-        if number is not None and mixed(before, number ^ low) >> 32 == wanted:
-            found.append((first, number ^ low))
-            if len(found) == count:
-                return found
+    for high in itertools.count():
+        above = wanted ^ high * MULTIPLIER >> 64
+        low = by_product.get(above - high * MULTIPLIER & (1 << 32) - 1)
+        if low is not None:
+            pair = start ^ (high << 32 | low)
+            if mixed(start, pair) >> 32 == wanted:
+                found.append((pair & (1 << 32) - 1, pair >> 32))
+                if len(found) == count:
+                    return found
 
 
 FULL = {'origin': ('40010100', 'IGP'), 'hop': ('400304 C0000209', '192.0.2.9'),

@@ -222,21 +222,23 @@ def many_peers_table(records, peers):
         yield table(number, net(number), found)
 
 
-# Routes of one hash: how known_routes mixes a number into one, and what the highest 32 bits are then.
+# Routes of one hash: how known_routes mixes a number of 64 bits into one, and what the highest 32 bits are then.
 
-MULTIPLIER, TURN, WORD, ABSENT = 0x9E3779B97F4A7C15, 5, 2 ** 64 - 1, 2 ** 32
+MULTIPLIER, WORD = 0x9E3779B97F4A7C15, 2 ** 64 - 1
 
 
 def mixed(hashed, number):
-    turned = (hashed << TURN | hashed >> 64 - TURN) & WORD
-    return ((turned ^ number) * MULTIPLIER) & WORD
+    product = (hashed ^ number) * MULTIPLIER
+    return product >> 64 ^ product & WORD
 
 
 def before_communities(numbers, count):
     """The hash of the attributes of `route` in a table of IPv4 before so many communities are mixed in."""
-    hashed = mixed(0, SECONDS)
-    # The next hop, no preference, metric and aggregator, not aggregated, one segment of that kind.
-    for number in (0xC0000201, ABSENT, ABSENT, ABSENT, 0, 1, 1, len(numbers), *numbers, count):
+    hashed = mixed(0, SECONDS | 8 << 32)
+    pairs = [low | high << 32 for low, high in zip(numbers[::2], numbers[1::2])]
+    rest = numbers[len(pairs) * 2:]
+    # No preference and metric, the next hop, a segment of that kind, and the mark of communities.
+    for number in (0, 0xC0000201, len(numbers) << 3 | 1, *pairs, *rest, count << 3 | 4):
         hashed = mixed(hashed, number)
     return hashed
 
@@ -248,16 +250,17 @@ def pairs_of_one_hash(numbers, count):
     by_product = {}
     for number in range(2 ** 20):
         by_product.setdefault((number * MULTIPLIER & WORD) >> 32, number)
-    found, first = [], 0
+    found, high = [], 0
     while len(found) < count:
-        turned = mixed(before, first)
-        turned = (turned << TURN | turned >> 64 - TURN) & WORD
-        high, low = turned >> 32, turned & 0xFFFFFFFF
-        # With the high half fixed, what the low half has to add to the highest bits.
-        second = by_product.get((wanted - high * (MULTIPLIER & 0xFFFFFFFF)) & 0xFFFFFFFF)
-        if second is not None and mixed(mixed(before, first), second ^ low) >> 32 == wanted:
-            found.append((first, second ^ low))
-        first += 1
+        # With the high half fixed, what the low half has to add to the highest bits of the lower half of the product,
+        # unless it adds to those of the upper half too.
+        above = wanted ^ high * MULTIPLIER >> 64
+        low = by_product.get((above - high * (MULTIPLIER & 0xFFFFFFFF)) & 0xFFFFFFFF)
+        if low is not None:
+            pair = before ^ (high << 32 | low)
+            if mixed(before, pair) >> 32 == wanted:
+                found.append((pair & 0xFFFFFFFF, pair >> 32))
+        high += 1
     return found
 
 

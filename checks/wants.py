@@ -89,7 +89,7 @@ def code_of(text):
 def is_type(code, found):
     """Whether a type is named there, or std's own conversion."""
     behind, before = code[found.end():].lstrip(), code[:found.start()].rstrip()
-    return behind.startswith(('>', '<', '::from')) or before.endswith(':') and not before.endswith('::')
+    return behind.startswith(('>', ')>', '<', '::from')) or before.endswith(':') and not before.endswith('::')
 
 
 def wants_of(text):

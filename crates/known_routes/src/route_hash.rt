@@ -4,39 +4,46 @@
 ghost use Rattle.std.specs.Prelude.{◌+◌, ◌≤◌};
 ghost use Rattle.ip_prefix.specs.Network.{octet_count};
 
+use bgp_wire::Attrs;
 use ip_prefix::{Addr, Family};
 use mrt_events::{Peer, Route};
 
-/// The factor of each step of a hash: the odd number nearest to 2^64 divided by the golden ratio,
-/// so that the highest bits of the product depend on all bits. An even factor would lose the
-/// highest bit.
+/// The factor of each step of a hash: the odd number nearest to 2^64 divided by the golden ratio.
+/// The lower half of a product depends on the lowest bits most, and the upper half on the highest.
+/// An even factor would lose the highest bit.
 const MULTIPLIER: u64 = 0x9e37_79b9_7f4a_7c15;
 
-/// The number of bits by which a hash is rotated before another number is mixed in. A rotation by a
-/// bit more gives another hash, which is as good.
-const ROTATION: u32 = 5;
+/// The greatest number of 64 bits, which is the lower half of a product. With a bit less, that half
+/// would lose its highest bit.
+const LOWER_HALF: u128 = 0xffff_ffff_ffff_ffff;
 
-/// The number that is mixed in for an absent number of 32 bits: the least that no such number has.
-/// One above it would do as well.
-const ABSENT: u64 = 1 << 32;
+/// The number that stands for an absent ORIGIN, above all its codes. One above it is that of an
+/// ORIGIN of 0 with ATOMIC_AGGREGATE.
+const NO_ORIGIN: u32 = 3;
 
-/// The number that stands for an absent ORIGIN, above all its codes. One above it would do as well.
-const NO_ORIGIN: u64 = 3;
+/// The number of bits of a list's mark. With one less, a mark and the length of a list would share
+/// a bit.
+const MARK_BITS: u32 = 3;
 
-/// The number of lowest bits of a hash that are dropped, since they depend on the fewest bits. With
-/// one more, half of all slots would never be taken.
+/// The mark of a list of communities, above those of segments, which are the numbers of their
+/// kinds. One above it would do as well.
+const COMMUNITIES: u64 = 4;
+
+/// The number of lowest bits of a hash that are dropped, so that 32 are left. With one more, half
+/// of all slots would never be taken.
 const LOWEST_BITS: u32 = 32;
 
 /// Returns `hash` with `number` mixed in.
 #[inline]
 fn mix(hash: u64, number: u64) -> u64 {
-    (hash.rotate_left(ROTATION) ^ number).wrapping_mul(MULTIPLIER)
+    let product = u128::from(hash ^ number).wrapping_mul(u128::from(MULTIPLIER));
+    (product >> 64) as u64 ^ (product & LOWER_HALF) as u64
 }
 
-/// Returns `hash` with `number` mixed in, or [`ABSENT`] if it is `None`.
+/// Returns the number whose low 32 bits are `low` and whose high 32 bits are `high`.
 #[inline]
-fn mix_optional(hash: u64, number: Option<u32>) -> u64 {
-    mix(hash, number.map_or(ABSENT, u64::from))
+fn joined(low: u32, high: u32) -> u64 {
+    u64::from(low) | u64::from(high) << 32
 }
 
 /// Returns the four octets of the address from the index `index` on, as a big-endian number.
@@ -55,52 +62,59 @@ fn be_u32_at(addr: &Addr, index: usize) -> u32
 /// Returns `hash` with all octets of the address mixed in.
 #[inline]
 fn mix_address(hash: u64, addr: &Addr) -> u64 {
-    let first = mix(hash, u64::from(be_u32_at(addr, 0)));
     match addr.family() {
-        Family::V4 => first,
+        Family::V4 => mix(hash, u64::from(be_u32_at(addr, 0))),
         Family::V6 => {
-            let second = mix(first, u64::from(be_u32_at(addr, 4)));
-            let third = mix(second, u64::from(be_u32_at(addr, 8)));
-            mix(third, u64::from(be_u32_at(addr, 12)))
+            let first = mix(hash, joined(be_u32_at(addr, 4), be_u32_at(addr, 0)));
+            mix(first, joined(be_u32_at(addr, 12), be_u32_at(addr, 8)))
         }
     }
 }
 
-/// Returns `hash` with the length of the list and then each of its numbers mixed in.
+/// Returns `hash` with the mark of the list, its length and then each of its numbers mixed in.
 #[inline]
-fn mix_numbers(hash: u64, numbers: &[u32]) -> u64 {
-    let mut hash = mix(hash, numbers.len() as u64);
-    'numbers: for number in numbers {
-        hash = mix(hash, u64::from(*number));
+fn mix_numbers(hash: u64, mark: u64, numbers: &[u32]) -> u64 {
+    let mut hash = mix(hash, (numbers.len() as u64) << MARK_BITS | mark);
+    let (pairs, rest) = numbers.as_chunks::<2>();
+    'pairs: for pair in pairs {
+        hash = mix(hash, joined(pair[0], pair[1]));
     }
-    hash
+    match rest.first() {
+        Some(number) => mix(hash, u64::from(*number)),
+        None => hash,
+    }
+}
+
+/// Returns bits for ORIGIN (0 and 1), ATOMIC_AGGREGATE (2), and whether NEXT_HOP, LOCAL_PREF,
+/// MULTI_EXIT_DISC and AGGREGATOR are present (3 to 6).
+#[inline]
+fn attribute_bits(attrs: &Attrs) -> u32 {
+    attrs.origin.map_or(NO_ORIGIN, |origin| origin as u32)
+        | u32::from(attrs.atomic) << 2
+        | u32::from(attrs.next_hop.is_some()) << 3
+        | u32::from(attrs.local_pref.is_some()) << 4
+        | u32::from(attrs.med.is_some()) << 5
+        | u32::from(attrs.aggregator.is_some()) << 6
 }
 
 /// Returns the hash of the route, which depends on its time and all its attributes.
 pub(crate) fn hash_route(route: &Route) -> u32 {
     let attrs = &route.attrs;
-    let origin = attrs.origin.map_or(NO_ORIGIN, |origin| origin as u64);
-    let mut hash = mix(origin, u64::from(route.time));
-    hash = match attrs.next_hop {
-        Some(addr) => mix_address(hash, &addr),
-        None => mix(hash, ABSENT),
-    };
-    hash = mix_optional(hash, attrs.local_pref);
-    hash = mix_optional(hash, attrs.med);
-    hash = match attrs.aggregator {
-        Some(aggregator) => mix(
+    let numbers = joined(attrs.local_pref.unwrap_or(0), attrs.med.unwrap_or(0));
+    let mut hash = mix(mix(0, joined(route.time, attribute_bits(attrs))), numbers);
+    if let Some(addr) = attrs.next_hop {
+        hash = mix_address(hash, &addr);
+    }
+    if let Some(aggregator) = attrs.aggregator {
+        hash = mix(
             mix_address(hash, &aggregator.addr),
             u64::from(aggregator.asn),
-        ),
-        None => mix(hash, ABSENT),
-    };
-    hash = mix(hash, u64::from(attrs.atomic));
-    let segments = attrs.path.segments.as_slice();
-    hash = mix(hash, segments.len() as u64);
-    'segments: for segment in segments {
-        hash = mix_numbers(mix(hash, segment.kind as u64), segment.numbers.as_slice());
+        );
     }
-    hash = mix_numbers(hash, attrs.communities.as_slice());
+    'segments: for segment in attrs.path.segments.as_slice() {
+        hash = mix_numbers(hash, segment.kind as u64, segment.numbers.as_slice());
+    }
+    hash = mix_numbers(hash, COMMUNITIES, attrs.communities.as_slice());
     (hash >> LOWEST_BITS) as u32
 }
 
@@ -108,5 +122,5 @@ pub(crate) fn hash_route(route: &Route) -> u32 {
 /// of the peer.
 #[inline]
 pub fn peer_hash(peer: &Peer) -> u64 {
-    mix_address(u64::from(peer.asn), &peer.addr)
+    mix_address(u64::from(peer.asn) << 32, &peer.addr)
 }

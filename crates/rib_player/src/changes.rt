@@ -69,6 +69,25 @@ impl Changes {
         Ok(())
     }
 
+    /// Notes all of `items`, as [`Changes::note_items`] does without a shared route, but makes no
+    /// call if they are empty.
+    #[inline(always)]
+    fn note_items_if_any<S: PrefixStore<Rc<Route>>>(
+        &mut self,
+        table: &Table<S>,
+        items: &[Item],
+        known: &mut RouteInterner,
+    ) -> Result<(), AllocError>
+        ensures { OnOk result ((q : Pair) → noted_effect self.new q
+            ≡ later (items_effect q items.now) (noted_effect self.old q)) }
+    {
+        // Of most events either all items share a route or none do.
+        if items.is_empty() {
+            return Ok(());
+        }
+        self.note_items(table, items, known, None)
+    }
+
     /// Notes all of `items`, the last first. They must be before the items noted so far. If
     /// `shared` is given, it must equal the route of each announcement, and is taken for it; else
     /// each route is replaced by an equal one of `known`, unless it is long and has many owners.
@@ -108,6 +127,7 @@ impl Changes {
 
     /// Notes all of `items`, the last first. They must be before the items noted so far, and
     /// announce prefixes of one peer with one route, which is looked up in `known` once.
+    #[inline(always)]
     fn note_items_of_one_route<S: PrefixStore<Rc<Route>>>(
         &mut self,
         table: &Table<S>,
@@ -119,7 +139,7 @@ impl Changes {
             ≡ later (items_effect q items.now) (noted_effect self.old q)) }
     {
         let Some(Item::Announce(peer, _, route)) = items.first() else {
-            return self.note_items(table, items, known, None);
+            return self.note_items_if_any(table, items, known);
         };
         let route = known.intern(peer, route)?;
         self.note_items(table, items, known, Some(&route))
@@ -143,10 +163,10 @@ pub(crate) fn changes_of<S: PrefixStore<Rc<Route>>>(
     };
     let items = event.items.as_slice();
     let shared = event.items.shared_ranges();
-    changes.note_items(table, &items[shared.end..], known, None)?;
+    changes.note_items_if_any(table, &items[shared.end..], known)?;
     changes.note_items_of_one_route(table, &items[shared.middle..shared.end], known)?;
     changes.note_items_of_one_route(table, &items[shared.start..shared.middle], known)?;
-    changes.note_items(table, &items[..shared.start], known, None)?;
+    changes.note_items_if_any(table, &items[..shared.start], known)?;
     if changes.entries.len() < items.len() {
         known.release_added();
     }

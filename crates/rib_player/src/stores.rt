@@ -87,7 +87,7 @@ impl<S> Stores<S> {
     }
 
     /// Returns `true` if `peer` has a store and `number` is its number.
-    #[inline]
+    #[inline(always)]
     fn has_number(&self, number: usize, peer: &Peer) -> bool
         ensures { IsTrue result →
             lookup (eq_by_cmp peer_cmp peer.now) self.now.order.entries ≡ Some number }
@@ -100,6 +100,7 @@ impl<S> Stores<S> {
 
     /// Returns the number of `peer`, or `None` if it has no store. Looks in the peer's slot first,
     /// then in the ordered map.
+    #[inline(never)]
     fn find_number(&self, peer: &Peer) -> Option<usize>
         ensures { result ≡ lookup (eq_by_cmp peer_cmp peer.now) self.now.order.entries }
     {
@@ -113,7 +114,7 @@ impl<S> Stores<S> {
     }
 
     /// Returns the number of `peer`, or `None` if it has no store. Tries the hint `number` first.
-    #[inline]
+    #[inline(always)]
     fn find_number_by_hint(&self, number: usize, peer: &Peer) -> Option<usize>
         ensures { result ≡ lookup (eq_by_cmp peer_cmp peer.now) self.now.order.entries }
     {

@@ -1,6 +1,6 @@
 //! Constructors of nodes, which `puts.rt` and `routes.rt` call. Read [`new_leaf`] first.
 
-ghost use Rattle.std.specs.Prelude.{◌≡◌, ◌⊎◌, ◌||◌, Some, None, false, is_some, IfOk};
+ghost use Rattle.std.specs.Prelude.{◌≡◌, ◌⊎◌, ◌||◌, Some, None, false, is_some, IfOk, IfErr, OnOk, OnErr};
 ghost use Rattle.ip_prefix.specs.Turns.{way};
 ghost use Rattle.rib_store.specs.declared.tree.Slot.TheVariants.{NoKey};
 ghost use Rattle.ip_prefix.specs.declared.turn.Turn.TheVariants.{Left, Right};
@@ -23,6 +23,16 @@ pub(crate) fn new_leaf<K: PackedPrefix, R: Drop>(prefix: K, route: &mut Option<R
     match route.take() {
         Some(route) => Tree::Leaf(prefix, route),
         None => Tree::Bare(prefix),
+    }
+}
+
+/// Converts a tree of one key to the route of that key.
+pub(crate) fn leaf_to_route<K: PackedPrefix, R: Drop>(tree: Tree<K, R>) -> Option<R>
+    ensures { result ≡ leaf_route tree }
+{
+    match tree {
+        Tree::Leaf(_, route) => Some(route),
+        _ => None,
     }
 }
 
@@ -55,32 +65,51 @@ pub(crate) fn new_node<K: PackedPrefix, R: Drop>(
     Ok(node)
 }
 
-/// Puts the branch `fork` of `prefix` above the root, which becomes its child on the side `side`,
-/// with `leaf` as the child on the other side.
+/// Puts a new branch of `prefix` above the root, which becomes its child on the side `side`, with
+/// `leaf` as the child on the other side. On error, which means that memory allocation fails, the
+/// tree is unchanged, and `leaf` is returned.
 pub(crate) fn insert_fork_above<K: PackedPrefix, R: Drop>(
     tree: &mut Tree<K, R>,
     prefix: K,
-    fork: Box<Fork<K, R>>,
+    alloc: Global,
     leaf: Tree<K, R>,
     side: Turn,
-)
+) -> Result<(), (Tree<K, R>, AllocError)>
     requires leaf { HasCorrectMarks leaf }
     requires below { HasCorrectMarks tree.old }
-    ensures marked { HasCorrectMarks tree.new }
-    ensures routed { has_routes tree.new ≡ any_has_routes NoKey leaf tree.old }
-    ensures rooted { IsRootedOver (K.network prefix) None side
-        (shape_of K.network leaf) (shape_of K.network tree.old) (shape_of K.network tree.new) }
+    ensures marked { OnOk result (HasCorrectMarks tree.new) }
+    ensures routed { OnOk result (has_routes tree.new ≡ any_has_routes NoKey leaf tree.old) }
+    ensures rooted { OnOk result (IsRootedOver (K.network prefix) None side
+        (shape_of K.network leaf) (shape_of K.network tree.old) (shape_of K.network tree.new)) }
+    ensures refused { OnErr result (tree.new ≡ tree.old) }
+    ensures kept { IfErr result (λ refused. refused.0 ≡ leaf) }
 {
-    let mut fork = fork;
     let below = mem::replace(tree, Tree::Empty);
     let (left, right) = match side {
         Turn::Left => (below, leaf),
         _ => (leaf, below),
     };
-    fork.left = left;
-    fork.right = right;
-    let routed = fork.has_routes();
-    *tree = Tree::Forked(routed, prefix, fork);
+    match Box::new(alloc, Fork { left, right }) {
+        Ok(fork) => {
+            let routed = fork.has_routes();
+            *tree = Tree::Forked(routed, prefix, fork);
+            Ok(())
+        }
+        Err(refused) => {
+            let mut refused = refused;
+            let none = Fork {
+                left: Tree::Empty,
+                right: Tree::Empty,
+            };
+            let Fork { left, right } = mem::replace(&mut refused.value, none);
+            let (below, leaf) = match side {
+                Turn::Left => (left, right),
+                _ => (right, left),
+            };
+            *tree = below;
+            Err((leaf, AllocError::from(refused)))
+        }
+    }
 }
 
 /// Replaces the tree by the node of `prefix`, with `below` as its only child, on the side `side`.

@@ -7,9 +7,11 @@ ghost use Rattle.ip_prefix.specs.declared.turn.Turn.TheVariants.{Outside, Here};
 ghost use Rattle.rib_store.specs.Tree.{shape_of, has_routes, IsLeaf, IsFork, IsAtRoot, HasCorrectMarks, at, root, IsOfFamily, IsRadixTree, IsInserted, IsInsertedAt};
 ghost use Rattle.rib_store.specs.Slots.{route_of_slot};
 
-use crate::tree::nodes::{insert_fork_above, leaf_to_slot, new_leaf, new_node, replace_root};
+use crate::tree::nodes::{
+    insert_fork_above, leaf_to_route, leaf_to_slot, new_leaf, new_node, replace_root,
+};
 use crate::tree::routes::exchange_leaf;
-use crate::tree::{Fork, Node, Tree};
+use crate::tree::{Node, Tree};
 use ip_prefix::{Prefix, Turn};
 use prefix_store::PackedPrefix;
 use std::alloc::{AllocError, Global};
@@ -221,16 +223,14 @@ fn insert_outside<K: PackedPrefix, R: Drop>(
         replace_root(tree, K::pack(&common), node, below, side);
         return Ok(true);
     }
-    let fork = Box::new(
-        alloc,
-        Fork {
-            left: Tree::Empty,
-            right: Tree::Empty,
-        },
-    )?;
     let leaf = new_leaf(K::pack(key), route);
-    insert_fork_above(tree, K::pack(&common), fork, leaf, side);
-    Ok(true)
+    match insert_fork_above(tree, K::pack(&common), alloc, leaf, side) {
+        Ok(()) => Ok(true),
+        Err((leaf, refused)) => {
+            *route = leaf_to_route(leaf);
+            Err(refused)
+        }
+    }
 }
 
 /// Makes the prefix of the branch at the root, `prefix`, a key with `route`, and returns `true`.

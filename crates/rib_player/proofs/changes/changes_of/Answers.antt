@@ -22,12 +22,12 @@ returns g c =
     let ranges = c.shared_ranges-shared.result in
     let shared = c.shared_ranges-shared.ensures in
     λ (q : Pair). effect-parts q items ranges.start ranges.middle ranges.end
-    (noted_effect c.note_items.new.self q) (noted_effect c.note_items_of_one_route.new.self q) (noted_effect c.note_items_of_one_route-2.new.self q) (noted_effect c.note_items-2.new.self q)
+    (noted_effect c.note_items_if_any.new.self q) (noted_effect c.note_items_of_one_route.new.self q) (noted_effect c.note_items_of_one_route-2.new.self q) (noted_effect c.note_items_if_any-2.new.self q)
     shared.first.ordered shared.second.ordered
-    (c.in_ok-note_items.ensures q
+    (c.in_ok-note_items_if_any.ensures q
     ∙ ap₂ (λ l before. later (items_effect q l) before) (take_all _ (drop ranges.end items) (omega (arith, length-drop ranges.end items)))
     (ap₂ (λ (entries : List Entry) peers. effect_of (found (sides_of entries) q) (is_lost peers q)) c.in_ok-with_capacity.ensures.items c.new.ensures.empty))
     (c.in_ok-note_items_of_one_route.ensures q)
     (c.in_ok-note_items_of_one_route-2.ensures q)
-    (c.in_ok-note_items-2.ensures q)
+    (c.in_ok-note_items_if_any-2.ensures q)
     ∙ ap last_effect (sym (effects-sayings q items) ∙ ap (map (item_effect q)) c.as_slice-items.ensures)

@@ -31,8 +31,8 @@ returns-in-Here-clause-routed g c =
     c.replace_root.ensures.routed
     ∙ ap₂ (λ filled t. filled || has_routes t) (c.leaf_to_slot.ensures.filled ∙ ap is_some c.new_leaf.ensures.slot) c.replace-below.ensures.value
 
-pub returns-clause-placed : goal.returns-clause-placed
-returns-clause-placed g c =
+pub returns-in-Ok-clause-placed : goal.returns-in-Ok-clause-placed
+returns-in-Ok-clause-placed g c =
     let net = g.K.PackedPrefix.network in
     let key = c.args.key.now in
     let old = c.args.prefix.now in
@@ -44,14 +44,14 @@ returns-clause-placed g c =
     let shares : way top ≡ shared (way old) (way key) = ap way (above ∙ c.common-common.ensures) ∙ way-shared old key c.requires.family in
     let apart : turn_of (way top) (way key) ≡ Here → ⊥ = λ e. c.in_default.not-Here (cc) in
     let turn : side ≡ turn_of (way top) (way old) = c.turn_covered-side.ensures ∙ (λ i. turn_of (way (sym above i)) (way old)) in
-    placed_over key top (way old) c.args.route.now None beside side c.requires.outside c.requires.root c.requires.shaped shares turn c.insert_fork_above.ensures.rooted
+    placed_over key top (way old) c.args.route.now None beside side c.requires.outside c.requires.root c.requires.shaped shares turn c.in-Ok.ensures.rooted
     (is_branch apart refl
     (subst (λ r. IsRooted key (Some r) Empty Empty beside) c.new_leaf-leaf.ensures.slot
     (subst (λ n. IsRooted n (Some (leaf_route leaf)) Empty Empty beside) c.pack-2.ensures (rooted_leaf net leaf c.pack-2.result c.new_leaf-leaf.ensures.leaf))))
 
-pub returns-clause-routed : goal.returns-clause-routed
-returns-clause-routed g c =
-    c.insert_fork_above.ensures.routed ∙ ap (λ new. new || has_routes c.args.tree.now) c.new_leaf-leaf.ensures.routed
+pub returns-in-Ok-clause-routed : goal.returns-in-Ok-clause-routed
+returns-in-Ok-clause-routed g c =
+    c.in-Ok.ensures.routed ∙ ap (λ new. new || has_routes c.args.tree.now) c.new_leaf-leaf.ensures.routed
 
 -- what the prefix and the key share covers both
 covers : (g : Over) (c : After-common-common g) → let old = way c.args.prefix.now in let key = way c.args.key.now in
