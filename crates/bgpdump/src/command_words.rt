@@ -13,7 +13,7 @@ const PLAIN_MARKS: &[u8] = b"%+,-./:@_";
 
 /// The name of a file, displayed as a word of a shell command.
 #[derive(Clone, Copy)]
-pub struct QuotedName<'a>(pub &'a str);
+pub struct ShellQuoted<'a>(pub &'a str);
 
 /// The command line of these settings, but with standard input as its input, displayed as a shell
 /// command.
@@ -25,7 +25,7 @@ fn needs_no_quotes(octet: u8) -> bool {
     octet.is_ascii_alphanumeric() || PLAIN_MARKS.contains(&octet)
 }
 
-impl fmt::Display for QuotedName<'_> {
+impl fmt::Display for ShellQuoted<'_> {
     /// Writes the name, in single quotes unless a shell takes all of it literally, and with `./` ahead if
     /// it would be an option. Writes `FILE` for a name with control characters.
     fn fmt<W: fmt::Write>(&self, f: &mut fmt::Formatter<W>) -> fmt::Result {
@@ -58,7 +58,7 @@ impl fmt::Display for PipedCommand<'_> {
                 f.write_str("bgpdump --play SCRIPT")?;
             }
             Mode::Play(script) => {
-                let script = QuotedName(script.as_str());
+                let script = ShellQuoted(script.as_str());
                 write!(f, "bgpdump --play {script}")?;
             }
         }
@@ -66,7 +66,7 @@ impl fmt::Display for PipedCommand<'_> {
             f.write_str(" -t change")?;
         }
         if let Some(output) = &settings.output {
-            let output = QuotedName(output.as_str());
+            let output = ShellQuoted(output.as_str());
             write!(f, " -O {output}")?;
         }
         f.write_str(" -")

@@ -2,7 +2,7 @@
 //! message. `main.rt` calls [`write_ending_hint`] and [`write_input_hints`]; what these can't write is
 //! lost.
 
-use crate::command_words::{PipedCommand, QuotedName};
+use crate::command_words::{PipedCommand, ShellQuoted};
 use crate::ending::{Ending, Instructions, OpenFailure};
 use crate::hints::{CompressedFormat, InputNotes};
 use bgpdump_tool::{LONGEST_SCRIPT, Outcome, STANDARD_INPUT, Settings, UsageFault};
@@ -80,7 +80,7 @@ fn write_compression_hint(
             "bgpdump: standard input looks like {form}; try {printer} FILE | {command}"
         );
     }
-    let name = QuotedName(settings.input.as_str());
+    let name = ShellQuoted(settings.input.as_str());
     eprintln!(rt; "bgpdump: {name} looks like {form}; try {printer} {name} | {command}")
 }
 
@@ -90,11 +90,11 @@ fn write_option_hint(rt: &HostRuntime, text: &str) -> io::Result<()> {
     let Some(option) = find_unknown_argument(text) else {
         return Ok(());
     };
-    if let Some(of_lines) = find_matching_option(option, &OPTIONS_OF_LINES) {
+    if let Some(of_lines) = find_leading_option(option, &OPTIONS_OF_LINES) {
         eprintln!(rt;
             "bgpdump: there is no {of_lines} here; use -m; see man bgpdump, COMPATIBILITY"
         )
-    } else if let Some(of_reports) = find_matching_option(option, &OPTIONS_OF_REPORTS) {
+    } else if let Some(of_reports) = find_leading_option(option, &OPTIONS_OF_REPORTS) {
         eprintln!(rt;
             "bgpdump: there is no {of_reports} here; leave it out; 2>/dev/null hides reports"
         )
@@ -115,7 +115,7 @@ fn find_unknown_argument(text: &str) -> Option<&str> {
 }
 
 /// Returns the first of `options` that `argument` begins with, or `None` if it begins with none.
-fn find_matching_option(argument: &str, options: &[&'static str]) -> Option<&'static str> {
+fn find_leading_option(argument: &str, options: &[&'static str]) -> Option<&'static str> {
     options
         .iter()
         .copied()

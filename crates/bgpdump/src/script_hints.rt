@@ -14,7 +14,7 @@ const SHOWN: usize = 60;
 
 /// The kind of an argument of a command.
 #[derive(Clone, Copy, PartialEq, Eq)]
-enum Argument {
+enum ScriptArgumentKind {
     /// A number of steps to move, from 1 on.
     Times,
     /// A number from 0 on.
@@ -30,25 +30,33 @@ enum Argument {
 }
 
 /// The arguments of a command without any.
-const NO_ARGUMENTS: &[Argument] = &[];
+const NO_ARGUMENTS: &[ScriptArgumentKind] = &[];
 
 /// The argument of `next` and `back`.
-const TIMES: &[Argument] = &[Argument::Times];
+const TIMES: &[ScriptArgumentKind] = &[ScriptArgumentKind::Times];
 
 /// The argument of `forget`.
-const NUMBER: &[Argument] = &[Argument::Number];
+const NUMBER: &[ScriptArgumentKind] = &[ScriptArgumentKind::Number];
 
 /// The argument of `goto`.
-const STEP: &[Argument] = &[Argument::Step];
+const STEP: &[ScriptArgumentKind] = &[ScriptArgumentKind::Step];
 
 /// The arguments of `table` and `lose`.
-const PEER: &[Argument] = &[Argument::Address, Argument::AsNumber];
+const PEER: &[ScriptArgumentKind] = &[ScriptArgumentKind::Address, ScriptArgumentKind::AsNumber];
 
 /// The arguments of `route`.
-const PEER_AND_PREFIX: &[Argument] = &[Argument::Address, Argument::AsNumber, Argument::Prefix];
+const PEER_AND_PREFIX: &[ScriptArgumentKind] = &[
+    ScriptArgumentKind::Address,
+    ScriptArgumentKind::AsNumber,
+    ScriptArgumentKind::Prefix,
+];
 
 /// The arguments of `lookup`.
-const PEER_AND_ADDRESS: &[Argument] = &[Argument::Address, Argument::AsNumber, Argument::Address];
+const PEER_AND_ADDRESS: &[ScriptArgumentKind] = &[
+    ScriptArgumentKind::Address,
+    ScriptArgumentKind::AsNumber,
+    ScriptArgumentKind::Address,
+];
 
 /// The reason for which a line of a script is no command.
 #[derive(Clone, Copy)]
@@ -62,9 +70,9 @@ enum LineFlaw<'a> {
     /// No command has this name.
     NoCommand(EscapedOctets<'a>),
     /// The line ends before this argument.
-    Missing(Argument),
+    Missing(ScriptArgumentKind),
     /// This word isn't of the kind that its place in the line asks for.
-    Wrong(&'a [u8], Argument),
+    Wrong(&'a [u8], ScriptArgumentKind),
     /// This word follows the last argument of the command.
     Extra(EscapedOctets<'a>),
 }
@@ -142,7 +150,7 @@ fn find_flaw(line: &[u8]) -> Option<LineFlaw<'_>> {
 }
 
 /// Returns the kinds of the arguments of the command `name`, or `None` if there is no such command.
-fn find_argument_kinds(name: &[u8]) -> Option<&'static [Argument]> {
+fn find_argument_kinds(name: &[u8]) -> Option<&'static [ScriptArgumentKind]> {
     match name {
         b"next" | b"back" => Some(TIMES),
         b"goto" => Some(STEP),
@@ -184,26 +192,27 @@ fn find_digits_after_as(word: &[u8]) -> Option<&[u8]> {
     }
 }
 
-impl Argument {
+impl ScriptArgumentKind {
     /// Returns `true` if `word` is a valid argument of this kind.
     fn is_spelled_by(self, word: &[u8]) -> bool {
         let is_number = parse_digits(word).is_some() && !has_leading_zero(word);
         match self {
-            Argument::Times => is_number && parse_digits(word) != Some(0),
-            Argument::Number | Argument::Step | Argument::AsNumber => is_number,
-            Argument::Address => Addr::parse(word).is_some(),
-            Argument::Prefix => Prefix::parse(word).is_some(),
+            ScriptArgumentKind::Times => is_number && parse_digits(word) != Some(0),
+            ScriptArgumentKind::Number | ScriptArgumentKind::Step | ScriptArgumentKind::AsNumber =>
+                is_number,
+            ScriptArgumentKind::Address => Addr::parse(word).is_some(),
+            ScriptArgumentKind::Prefix => Prefix::parse(word).is_some(),
         }
     }
 
     /// Returns the name of the kind, with its article.
     fn kind_with_article(self) -> &'static str {
         match self {
-            Argument::Times | Argument::Number => "a number",
-            Argument::Step => "the number of a step",
-            Argument::AsNumber => "an AS number",
-            Argument::Address => "an address",
-            Argument::Prefix => "a prefix",
+            ScriptArgumentKind::Times | ScriptArgumentKind::Number => "a number",
+            ScriptArgumentKind::Step => "the number of a step",
+            ScriptArgumentKind::AsNumber => "an AS number",
+            ScriptArgumentKind::Address => "an address",
+            ScriptArgumentKind::Prefix => "a prefix",
         }
     }
 }
@@ -234,26 +243,27 @@ impl fmt::Display for LineFlaw<'_> {
 fn write_wrong_word<W: fmt::Write>(
     f: &mut fmt::Formatter<W>,
     word: &[u8],
-    argument: Argument,
+    argument: ScriptArgumentKind,
 ) -> fmt::Result {
     let shown = EscapedOctets(word);
     match argument {
-        Argument::Address if Prefix::parse(word).is_some() => {
+        ScriptArgumentKind::Address if Prefix::parse(word).is_some() => {
             write!(f, "{shown} is a prefix; an address is wanted")
         }
-        Argument::Prefix if Addr::parse(word).is_some() => {
+        ScriptArgumentKind::Prefix if Addr::parse(word).is_some() => {
             write!(f, "{shown} is an address; a prefix also has / and a length")
         }
-        Argument::Address | Argument::Prefix => {
+        ScriptArgumentKind::Address | ScriptArgumentKind::Prefix => {
             let name = argument.kind_with_article();
             write!(f, "{shown} is not {name}")
         }
-        Argument::Times if parse_digits(word) == Some(0) && !has_leading_zero(word) => {
+        ScriptArgumentKind::Times if parse_digits(word) == Some(0) && !has_leading_zero(word) => {
             write!(f, "{shown} is too small; the least is 1")
         }
-        Argument::Times | Argument::Number | Argument::Step | Argument::AsNumber => {
-            write_wrong_number(f, word, argument)
-        }
+        ScriptArgumentKind::Times
+        | ScriptArgumentKind::Number
+        | ScriptArgumentKind::Step
+        | ScriptArgumentKind::AsNumber => { write_wrong_number(f, word, argument) }
     }
 }
 
@@ -261,7 +271,7 @@ fn write_wrong_word<W: fmt::Write>(
 fn write_wrong_number<W: fmt::Write>(
     f: &mut fmt::Formatter<W>,
     word: &[u8],
-    argument: Argument,
+    argument: ScriptArgumentKind,
 ) -> fmt::Result {
     let shown = EscapedOctets(word);
     let (name, most) = (argument.kind_with_article(), u32::MAX);

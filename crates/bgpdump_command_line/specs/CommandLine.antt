@@ -74,8 +74,8 @@ abbrev pub has_one_mode : List Row → Bool
 has_one_mode rows = if has_lines_flag rows then not (is_some (script_of rows)) else is_some (script_of rows)
 
 -- Whether the script and the input are both standard input.
-abbrev pub has_two_inputs : List Row → Bool
-has_two_inputs rows = equals_text (codes "-") (script_of rows) && equals_text (codes "-") (input_of rows)
+abbrev pub reads_stdin_twice : List Row → Bool
+reads_stdin_twice rows = equals_text (codes "-") (script_of rows) && equals_text (codes "-") (input_of rows)
 
 -- The mode is one that the matches select.
 abbrev pub IsMode : List Row → Mode → Type 0
@@ -92,9 +92,9 @@ pub record AreSettings (rows : List Row) (settings : Settings) : Type 0 where
 -- What the matches give: their settings, the fault `Mode` unless they have just one mode, or else the fault
 -- `TwoInputs` if the script and the input are both standard input. `Memory` may be given in any case.
 abbrev pub GivesSettings : List Row → Result Settings UsageFault → Type 0
-GivesSettings rows (Ok settings) = (has_one_mode rows ≡ true) × (has_two_inputs rows ≡ false) × AreSettings rows settings
+GivesSettings rows (Ok settings) = (has_one_mode rows ≡ true) × (reads_stdin_twice rows ≡ false) × AreSettings rows settings
 GivesSettings rows (Err usage.Mode) = has_one_mode rows ≡ false
-GivesSettings rows (Err usage.TwoInputs) = (has_one_mode rows ≡ true) × (has_two_inputs rows ≡ true)
+GivesSettings rows (Err usage.TwoInputs) = (has_one_mode rows ≡ true) × (reads_stdin_twice rows ≡ true)
 GivesSettings rows (Err usage.Memory) = ⊤
 GivesSettings rows (Err fault) = ⊥
 

@@ -3,7 +3,7 @@
 
 ghost use Rattle.std.specs.Prelude.{◌≡◌, true, is_some, map, option_map, string_bytes, IfOk};
 ghost use Rattle.clap.specs.Words.{first_of, found_of, kind_of, rows_of};
-ghost use Rattle.bgpdump_command_line.specs.CommandLine.{Answers, GivesSettings, has_lines_flag, has_two_inputs, input_of, equals_text, selected_stamp};
+ghost use Rattle.bgpdump_command_line.specs.CommandLine.{Answers, GivesSettings, has_lines_flag, reads_stdin_twice, input_of, equals_text, selected_stamp};
 ghost use Rattle.bgpdump_command_line.specs.Arguments.{GivesMode, IsFaultOf};
 
 use crate::arguments::{CHANGE, INPUT, LINES, OUTPUT, SCRIPT, TIMES, command};
@@ -46,7 +46,7 @@ fn settings_of(alloc: Global, matches: &ArgMatches<'_>) -> Result<Settings, Usag
     ensures gives { GivesSettings (rows_of (found_of matches.now)) result }
 {
     let mode = mode_of(alloc, matches)?;
-    if has_two_inputs(matches) {
+    if reads_stdin_twice(matches) {
         return Err(UsageFault::TwoInputs);
     }
     let Some(input) = value_of(matches, INPUT) else {
@@ -82,8 +82,8 @@ fn has_lines_flag(matches: &ArgMatches<'_>) -> bool
 }
 
 /// Returns `true` if the script and the input are both standard input.
-fn has_two_inputs(matches: &ArgMatches<'_>) -> bool
-    ensures { result ≡ has_two_inputs (rows_of (found_of matches.now)) }
+fn reads_stdin_twice(matches: &ArgMatches<'_>) -> bool
+    ensures { result ≡ reads_stdin_twice (rows_of (found_of matches.now)) }
 {
     has_value(matches, SCRIPT, STANDARD_INPUT) && has_value(matches, INPUT, STANDARD_INPUT)
 }

@@ -18,7 +18,7 @@ fn put_labelled_number(word: &[u8], number: u64, text: &mut Text) -> Result<(), 
 }
 
 /// Appends what is wrong with a record, such as `cut record`.
-fn put_fault_kind(kind: RecordKind, text: &mut Text) -> Result<(), AllocError>
+fn put_fault_description(kind: RecordKind, text: &mut Text) -> Result<(), AllocError>
     ensures { OnOk result (text.new ≡ text.old ++ fault_kind_text kind) }
 {
     match kind {
@@ -50,7 +50,7 @@ pub(crate) fn put_report(fault: RecordFault, text: &mut Text) -> Result<(), Allo
     put_labelled_number(b"bgpdump: record ", fault.number, text)?;
     put_labelled_number(b", byte ", fault.offset, text)?;
     text.extend_from_slice(b": ")?;
-    put_fault_kind(fault.kind, text)?;
+    put_fault_description(fault.kind, text)?;
     text.push(b'\n')?;
     Ok(())
 }

@@ -12,7 +12,7 @@ use crate::addr::{Addr, Family, GROUP_COUNT, V4_OCTETS};
 use crate::prefix::Prefix;
 use crate::zero_runs::ZERO_RUNS;
 use octet_text::{
-    HEX_PAIR, ROW, WriteTextAt, hex_pair, put_octets, write_below_thousand, write_hex_pair,
+    HEX_PAIR, ROW, WriteTextAt, hex_pair, put_octets, write_below_thousand, write_hex_octet,
 };
 use std::alloc::AllocError;
 
@@ -221,7 +221,7 @@ fn write_group(group: u16, text: &mut [u8], at: usize) -> usize
         return write_group_below_256(group, text, at);
     }
     let low = write_group_below_256(group / 0x100, text, at);
-    write_hex_pair(group % 0x100, text, low)
+    write_hex_octet(group % 0x100, text, low)
 }
 
 /// Writes `group`, which must be below 256, in lower-case hexadecimal, without leading zeros, into
@@ -236,5 +236,5 @@ fn write_group_below_256(group: u16, text: &mut [u8], at: usize) -> usize
         text[at] = hex_pair(group)[1];
         return at + 1;
     }
-    write_hex_pair(group, text, at)
+    write_hex_octet(group, text, at)
 }

@@ -93,7 +93,7 @@ impl RouteInterner {
         ensures stood { sized_for self.new ≤ max (sized_for self.old) (route_count self.new) }
     {
         let last = (peer_hash(peer) >> LOWEST_BITS) as usize;
-        if let Some(known) = self.last_route(last, route) {
+        if let Some(known) = self.last_route_if_equal(last, route) {
             return known.clone();
         }
         let hash = hash_route(route);
@@ -130,7 +130,7 @@ impl RouteInterner {
     /// Returns the last route of a peer, if it equals `route` and its slot is noted. `last` is the
     /// index for the peer in `last_slots`.
     #[inline]
-    fn last_route(&self, last: usize, route: &Route) -> Option<&Rc<Route>>
+    fn last_route_if_equal(&self, last: usize, route: &Route) -> Option<&Rc<Route>>
         ensures { IfSome result (λ known. known.now.value ≡ route.now) }
     {
         let index = *self.last_slots.get(last)? as usize;

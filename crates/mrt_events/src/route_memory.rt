@@ -27,7 +27,7 @@ const SEGMENT_SPARE: u64 = 32;
 
 /// Returns `count` times `octets`, or `u64::MAX` if the product is greater.
 #[inline]
-fn total_octets(count: usize, octets: u64) -> u64 {
+fn saturating_size(count: usize, octets: u64) -> u64 {
     (count as u64).saturating_mul(octets)
 }
 
@@ -47,10 +47,10 @@ fn number_count(segments: &[Segment]) -> usize {
 pub fn route_size(route: &Route) -> u64 {
     let attrs = &route.attrs;
     let segments = attrs.path.segments.as_slice();
-    let numbers = total_octets(number_count(segments), NUMBER_OCTETS);
-    let communities = total_octets(attrs.communities.as_slice().len(), NUMBER_OCTETS);
+    let numbers = saturating_size(number_count(segments), NUMBER_OCTETS);
+    let communities = saturating_size(attrs.communities.as_slice().len(), NUMBER_OCTETS);
     ROUTE_OCTETS
-        .saturating_add(total_octets(segments.len(), SEGMENT_OCTETS))
+        .saturating_add(saturating_size(segments.len(), SEGMENT_OCTETS))
         .saturating_add(numbers)
         .saturating_add(communities)
 }
@@ -61,5 +61,5 @@ pub fn max_route_size(route: &Route) -> u64 {
     let segments = route.attrs.path.segments.as_slice().len();
     route_size(route)
         .saturating_add(SPARE_OCTETS)
-        .saturating_add(total_octets(segments, SEGMENT_SPARE))
+        .saturating_add(saturating_size(segments, SEGMENT_SPARE))
 }

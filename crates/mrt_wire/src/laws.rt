@@ -37,7 +37,7 @@ pub fn law_one_split()
 /// Proves the values of the constants that the definitions name: MRT types and subtypes, the sizes
 /// of fields in octets (RFC 6396, sections 2 to 4), the greatest length of a body that is read, and
 /// the microseconds of a second.
-pub fn law_record_numbers()
+pub fn law_mrt_constants()
     ensures sizes { (HEADER_SIZE ≡ 12) × (LONGEST_BODY ≡ 16777216) }
     ensures types { (TABLE_DUMP ≡ 12) × (TABLE_DUMP_V2 ≡ 13) × (BGP4MP ≡ 16)
         × (BGP4MP_ET ≡ 17) }

@@ -22,7 +22,7 @@ mod source;
 mod table_dump;
 mod update;
 
-pub use laws::{law_no_octets_without_a_split, law_one_content, law_one_split, law_record_numbers};
+pub use laws::{law_mrt_constants, law_no_octets_without_a_split, law_one_content, law_one_split};
 pub use mrt_events::{
     ESTABLISHED, Event, Item, Items, Peer, Route, SharedRange, SharedRanges, Stamp, Tag, Time,
     route_size, same_peer, same_prefix, same_route,

@@ -1,5 +1,5 @@
 //! Moving or copying the attributes of a message into a route whose memory is reused.
-//! `route_pool.rt` calls [`move_or_copy_attrs`]; read that first.
+//! `route_pool.rt` calls [`assign_attrs`]; read that first.
 
 ghost use Rattle.std.specs.Prelude.{◌≡◌, true, OnOk};
 
@@ -29,7 +29,7 @@ fn move_attrs(attrs: &mut Attrs, others: &mut Attrs)
 /// unspecified afterwards if not. On error, which means that memory allocation fails, `attrs` is
 /// unspecified.
 #[inline(always)]
-pub(crate) fn move_or_copy_attrs(
+pub(crate) fn assign_attrs(
     alloc: Global,
     attrs: &mut Attrs,
     others: &mut Attrs,

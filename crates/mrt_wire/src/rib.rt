@@ -127,7 +127,7 @@ fn read_entry<'a>(
     };
     let route = pool
         .read
-        .get_or_read(alloc, usize::from(framed.index), raw, time)?;
+        .get_or_parse(alloc, usize::from(framed.index), raw, time)?;
     let entry = ParsedEntry {
         route,
         originated: framed.time,

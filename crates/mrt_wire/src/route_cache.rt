@@ -1,6 +1,6 @@
 //! A cache of the routes that table entries were parsed into, with the octets that each was parsed
 //! from. Peers mostly send the same attributes in record after record, which are parsed once.
-//! `rib.rt` and `table_dump.rt` call [`RouteCache::get_or_read`] for each entry; read that first,
+//! `rib.rt` and `table_dump.rt` call [`RouteCache::get_or_parse`] for each entry; read that first,
 //! then [`CachedRoute`].
 
 ghost use Rattle.std.specs.Prelude.{◌≡◌, ◌≤◌, ◌<◌, IsTrue, IfOk, IfErr, IfSome, OnOk, vec_len};
@@ -301,7 +301,7 @@ impl RouteCache {
     /// slot may is parsed into the pool. Fails with `Malformed` if the attributes are malformed, or
     /// with `Memory` if memory allocation fails.
     #[inline(always)]
-    pub(crate) fn get_or_read(
+    pub(crate) fn get_or_parse(
         &mut self,
         alloc: Global,
         number: usize,

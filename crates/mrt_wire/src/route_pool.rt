@@ -8,7 +8,7 @@ ghost use Rattle.mrt_wire.specs.declared.route_pool.TheConstants.{LOWERING_RATE,
 ghost use Rattle.mrt_wire.specs.Items.{route_of};
 ghost use Rattle.mrt_wire.specs.Decoding.{IsRouteFrom, RefusesRaw};
 
-use crate::replacing::move_or_copy_attrs;
+use crate::replacing::assign_attrs;
 use crate::rib_route::{RawAttrs, blank_route, fill_or_replace, new_route};
 use bgp_wire::{Attrs, WireFault};
 use mrt_events::{Route, max_route_size};
@@ -113,7 +113,7 @@ fn allocate_route(
     ensures kept { keep_attrs ≡ true → attrs.new ≡ attrs.old }
 {
     let mut route = blank_route(alloc);
-    move_or_copy_attrs(alloc, &mut route.attrs, attrs, keep_attrs)?;
+    assign_attrs(alloc, &mut route.attrs, attrs, keep_attrs)?;
     route.time = time;
     Ok(Rc::new(alloc, route)?)
 }
@@ -308,7 +308,7 @@ impl RoutePool {
         let index = self.next_index(alloc)?;
         match Rc::get_mut(&mut self.routes[index].route) {
             Some(route) => {
-                move_or_copy_attrs(alloc, &mut route.attrs, attrs, keep_attrs)?;
+                assign_attrs(alloc, &mut route.attrs, attrs, keep_attrs)?;
                 route.time = time;
             }
             None => self.routes[index].route = allocate_route(alloc, attrs, time, keep_attrs)?,

@@ -118,7 +118,7 @@ fn read_table_dump_of(
     };
     let route = pool
         .read
-        .get_or_read(alloc, peer_hash(&entry.peer), raw, time)?;
+        .get_or_parse(alloc, peer_hash(&entry.peer), raw, time)?;
     let mut items = pool.take_items(alloc);
     items.push(Item::Announce(entry.peer, entry.prefix, route))?;
     let (start, middle, end) = (0, 1, 1);

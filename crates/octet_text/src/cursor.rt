@@ -22,7 +22,7 @@ const DECIMAL_DIGITS: usize = 10;
 /// The number of octets that [`write_below_thousand`] needs from its offset on, and writes at once.
 pub const ROW: usize = 4;
 
-/// The number of octets that [`write_hex_pair`] writes, and needs from its offset on.
+/// The number of octets that [`write_hex_octet`] writes, and needs from its offset on.
 pub const HEX_PAIR: usize = 2;
 
 /// A space. It separates words, and fills rows of fewer than three digits.
@@ -145,7 +145,7 @@ fn zero_padded_row(number: u32) -> [u8; ROW]
 /// Writes `number`, which must be below 256, in two lower-case hexadecimal digits into `text` at
 /// offset `at`, and returns `at + 2`.
 #[inline]
-pub fn write_hex_pair(number: u16, text: &mut [u8], at: usize) -> usize
+pub fn write_hex_octet(number: u16, text: &mut [u8], at: usize) -> usize
     requires { (number < 0x100) × (at + HEX_PAIR ≤ length text.old) }
     ensures written { IsWritten text.old at (two_hex_digits number) text.new result }
     ensures short { result ≡ at + HEX_PAIR }

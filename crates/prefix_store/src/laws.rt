@@ -12,7 +12,7 @@ ghost use Rattle.prefix_store.specs.Contents.{first_above, routes_above};
 ghost use Rattle.prefix_store.specs.Lookups.{IsLongestMatch};
 
 /// Proves that the greatest count is `u64::MAX`.
-pub fn law_greatest_count()
+pub fn law_greatest_count_is_u64_max()
     ensures { GREATEST_COUNT + 1 ≡ 2 ^ 64 }
 {}
 

@@ -8,7 +8,7 @@ mod packed;
 mod prefetch_batch;
 mod store;
 
-pub use laws::{law_greatest_count, law_one_longest, law_put_route, law_walk};
+pub use laws::{law_greatest_count_is_u64_max, law_one_longest, law_put_route, law_walk};
 pub use packed::{PackedPrefix, V4Prefix};
 pub use prefetch_batch::{PREFETCH_BATCH_LEN, PrefetchBatch, PrefetchTarget};
 pub use store::{GREATEST_COUNT, PrefixStore};

@@ -84,7 +84,7 @@ impl Claims {
         let Some(counts) = self.peers.get_mut(&pair.peer) else {
             return false;
         };
-        let taken = counts.decrement(&pair.prefix);
+        let taken = counts.try_decrement(&pair.prefix);
         if counts.is_empty() {
             self.peers.remove(&pair.peer);
         }
@@ -224,14 +224,14 @@ impl PeerClaims {
     }
 
     /// Removes a claim of `prefix`, if one is counted here, and returns `true` if it did.
-    fn decrement(&mut self, prefix: &Prefix) -> bool
+    fn try_decrement(&mut self, prefix: &Prefix) -> bool
         ensures some { result ≡ nat_lt 0 (count_of self.old prefix.now) }
         ensures counted { (n : Network) → count_of self.new n
             + one_if (result && eq_by_cmp network_cmp n prefix.now) ≡ count_of self.old n }
     {
         match prefix.family() {
-            Family::V4 => self.v4.decrement(&v4_prefix_number(prefix)),
-            Family::V6 => self.v6.decrement(prefix),
+            Family::V4 => self.v4.try_decrement(&v4_prefix_number(prefix)),
+            Family::V6 => self.v6.try_decrement(prefix),
         }
     }
 }

@@ -244,7 +244,7 @@ impl<K: Ord + Copy + Drop> KeyCounts<K> {
 
     /// Subtracts one from the count of `key`, unless it is 0, and returns `true` if it did.
     /// Allocates no memory.
-    pub(crate) fn decrement(&mut self, key: &K) -> bool
+    pub(crate) fn try_decrement(&mut self, key: &K) -> bool
         ensures some { result ≡ nat_lt 0 (count_at K.cmp self.old key.now) }
         ensures counted { (k : K) → count_at K.cmp self.new k
             + one_if (result && eq_by_cmp K.cmp k key.now) ≡ count_at K.cmp self.old k }

@@ -87,12 +87,12 @@ impl SparseSet {
         ensures { IsSetAt (choices self.old) (choices self.new) number is }
     {
         if (self.places[number] < self.count) != is {
-            self.flip(number, is);
+            self.set_membership(number, is);
         }
     }
 
     /// Makes `number` a member if `is` is true, or else no member. It must be the opposite before.
-    fn flip(&mut self, number: usize, is: bool)
+    fn set_membership(&mut self, number: usize, is: bool)
         requires { slice_get (choices self.old) number ≡ Some (not is) }
         ensures { IsSetAt (choices self.old) (choices self.new) number is }
     {

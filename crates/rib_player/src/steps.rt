@@ -127,7 +127,7 @@ fn have_distinct_pairs(entries: &[Entry]) -> bool
 
 /// Returns `true` if all entries are of one peer, and each is of a lesser prefix than the one
 /// before it.
-fn are_descending(entries: &[Entry]) -> bool
+fn are_one_peer_descending(entries: &[Entry]) -> bool
     ensures { IsTrue result → AreDistinct (sides_of entries.now) }
 {
     // This holds of a message whose prefixes are in order, since the last item is noted first.
@@ -159,7 +159,7 @@ fn one_entry_per_pair<S: PrefixStore<Rc<Route>>>(
     // in a message, whose first and last entry are of one peer, mostly no prefix does.
     let is_known = match (entries.first(), entries.last()) {
         (Some(first), Some(last)) if entries.len() == 1 || same_peer(first.peer(), last.peer()) => {
-            are_descending(&entries)
+            are_one_peer_descending(&entries)
         }
         _ => table.stores.have_distinct_stores(&entries, marks)?,
     };
@@ -204,7 +204,7 @@ pub(crate) fn entries_for_event<S: PrefixStore<Rc<Route>>>(
     if routed.len() < noted {
         known.release_added();
     }
-    routed.retain(|entry| entry.route().is_some() || entry.has_route_in(table));
+    routed.retain(|entry| entry.route().is_some() || entry.pair_has_route_in(table));
     routed.shrink_to_fit();
     Ok((routed, None))
 }

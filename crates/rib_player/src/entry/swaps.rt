@@ -20,7 +20,7 @@ use std::rc::Rc;
 impl Entry {
     /// Returns `true` if the table has a route of the entry's pair.
     #[inline]
-    pub(crate) fn has_route_in<S: PrefixStore<Rc<Route>>>(&self, table: &Table<S>) -> bool
+    pub(crate) fn pair_has_route_in<S: PrefixStore<Rc<Route>>>(&self, table: &Table<S>) -> bool
         ensures { result ≡ is_some (finite.get table.now.routes self.now.pair) }
     {
         let (peer, prefix) = self.peer_and_prefix();

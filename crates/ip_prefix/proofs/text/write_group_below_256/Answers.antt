@@ -17,5 +17,5 @@ returns-then-group-lt16-clause-written c =
 
 pub returns-clause-written : goal.returns-clause-written
 returns-clause-written c =
-    subst (λ t. IsWritten c.args.text.now c.args.at t c.write_hex_pair.new.text c.write_hex_pair.result) (sym (hex_pair_only c.args.group c.if-group-lt16.false c.requires.0))
-    c.write_hex_pair.ensures.written
+    subst (λ t. IsWritten c.args.text.now c.args.at t c.write_hex_octet.new.text c.write_hex_octet.result) (sym (hex_pair_only c.args.group c.if-group-lt16.false c.requires.0))
+    c.write_hex_octet.ensures.written

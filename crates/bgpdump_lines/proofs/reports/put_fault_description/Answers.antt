@@ -1,7 +1,7 @@
 use Rattle.std.proofs.Common.{◌++◌, decimal, ap, ap₂, sym, ◌∙◌, codes, append_assoc}
 use Rattle.mrt_wire.specs.declared.RecordKind.TheVariants.{Unsupported}
 use Rattle.bgpdump_lines.specs.Run.{fault_kind_text}
-use Rattle.bgpdump_lines.proofs.reports.put_fault_kind.Goals as goal
+use Rattle.bgpdump_lines.proofs.reports.put_fault_description.Goals as goal
 
 pub returns-in_ok-put_labelled_number-in-Unsupported-2 : goal.returns-in_ok-put_labelled_number-in-Unsupported-2
 returns-in_ok-put_labelled_number-in-Unsupported-2 c =

@@ -2,7 +2,7 @@ use Rattle.std.proofs.Common.{◌+◌, take}
 use Rattle.rib_player.specs.Journal.{sides_of}
 use Rattle.rib_player.specs.Sides.{AreDistinct}
 use Rattle.rib_player.proofs.RowLaws.{AreNotBelow}
-use Rattle.rib_player.proofs.steps.are_descending.Given as goal
+use Rattle.rib_player.proofs.steps.are_one_peer_descending.Given as goal
 
 -- the entries so far are distinct, and none is below the last one
 abbrev pub invariant-entries : goal.invariant-entries

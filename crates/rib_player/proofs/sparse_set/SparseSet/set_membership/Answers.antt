@@ -3,8 +3,8 @@ use Rattle.std.proofs.lemmas.Bool.{ltb-true, ltb-false}
 use Rattle.std.proofs.lemmas.Option.{slice_get-get_or}
 use Rattle.rib_player.specs.Indices.{IsSetAt}
 use Rattle.rib_player.proofs.ChosenLaws.{told-within, turned, told-choice, told-place, in_front, replaced, front-more, front-less, first-more, last-less}
-use Rattle.rib_player.proofs.sparse_set.SparseSet.flip.Goals as goal
-use Rattle.rib_player.proofs.sparse_set.SparseSet.flip.Goals.{After-index-place}
+use Rattle.rib_player.proofs.sparse_set.SparseSet.set_membership.Goals as goal
+use Rattle.rib_player.proofs.sparse_set.SparseSet.set_membership.Goals.{After-index-place}
 
 -- its place
 at : (c : After-index-place) → slice_get c.args.self.now.places.items c.args.number ≡ Some c.index-place.result.now

@@ -9,8 +9,8 @@ use Rattle.rib_player.specs.Journal.{Side, side_of, sides_of}
 use Rattle.rib_player.specs.Sides.{AreDistinct}
 use Rattle.rib_player.proofs.RowLaws.{AreNotBelow, distinct-none, falling-one, falling-more, sides-more}
 use Rattle.rib_player.proofs.LostLaws.{of_one_peer}
-use Rattle.rib_player.proofs.steps.are_descending.Goals as goal
-use Rattle.rib_player.proofs.steps.are_descending.Goals.{Else-ge}
+use Rattle.rib_player.proofs.steps.are_one_peer_descending.Goals as goal
+use Rattle.rib_player.proofs.steps.are_one_peer_descending.Goals.{Else-ge}
 
 not_ge : (r : Ordering) → is_ge r ≡ false → r ≡ Less
 not_ge r e = grind arith
