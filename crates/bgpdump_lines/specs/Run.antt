@@ -3,7 +3,7 @@
 use Rattle.std.specs.Prelude.{◌≡◌, ℕ, List, ◌++◌, Option, ◌≢◌, ◌⊎◌, [], None, Some, ◌≤◌, length, ◌∷◌, decimal, codes, flat_map}
 use Rattle.std.specs.Io.KnownBytes.{Appends}
 use Rattle.mrt_events.specs.declared.stamp.Stamp.{Stamp}
-use Rattle.mrt_wire.specs.Record.{Record, spelling, IsRecord, rest_kind, IsRest, IsUnfinished}
+use Rattle.mrt_wire.specs.Record.{Record, spelling, IsRecord, StatesNoExcess, IsRest, IsUnfinished}
 use Rattle.mrt_wire.specs.Results.{Frame, AreFrames, Splits, spellings, RecordResult, start_state, results, TakesFront, Found, Bad}
 use Rattle.mrt_wire.specs.declared.RecordKind.TheVariants.{CutRecord, TooLong, Unsupported, Malformed, NoIndex, PeerIndex}
 use Rattle.bgpdump_lines.specs.declared.dump.TheConstants.{INPUT_LIMIT}
@@ -84,9 +84,9 @@ EndedByInput other = ⊥
 -- its end, and no header states a length that is too great; or an output failed after the input had ended
 -- within a record.
 abbrev pub SawEnd : Outcome → List Frame → List ℕ → Type 0
-SawEnd Done frames rest = rest_kind rest ≡ CutRecord
-SawEnd Reported frames rest = rest_kind rest ≡ CutRecord
-SawEnd WriteFault frames rest = (rest_kind rest ≡ CutRecord) × (rest ≢ [])
+SawEnd Done frames rest = StatesNoExcess rest
+SawEnd Reported frames rest = StatesNoExcess rest
+SawEnd WriteFault frames rest = StatesNoExcess rest × (rest ≢ [])
 SawEnd other frames rest = ⊥
 
 -- The octets may be all that the input holds, by what was taken from it: they are those taken, followed by

@@ -2,9 +2,8 @@
 -- run came that memory or an output ended. Read `course` first.
 use Rattle.std.specs.Prelude.{◌≡◌, ◌≢◌, ◌⊎◌, ℕ, ◌+◌, ◌≤◌, Bool, true, false, ◌&&◌, ◌||◌, List, [], ◌∷◌, ◌++◌, length, Option, if◌then◌else◌}
 use Rattle.mrt_events.specs.declared.stamp.Stamp.{Stamp}
-use Rattle.mrt_wire.specs.declared.RecordKind.TheVariants.{CutRecord}
 use Rattle.mrt_wire.specs.Results.{Frame, RecordResult}
-use Rattle.mrt_wire.specs.Record.{rest_kind}
+use Rattle.mrt_wire.specs.Record.{StatesNoExcess}
 use Rattle.bgpdump_lines.specs.declared.outcome.Outcome.{Outcome}
 use Rattle.bgpdump_lines.specs.declared.outcome.Outcome.TheVariants.{Done, Reported, ReadFault, WriteFault, InputTooLong, ScriptTooLong, Memory}
 use Rattle.bgpdump_lines.specs.Run.{reports, Texts, joined_texts, Outputs, Writes, WritesPrefixes, EndedByInput, all_results, HoldsForAllContents, HoldsForTaken, EndsForAllContents, EndsOnOctets}
@@ -63,7 +62,7 @@ TakesWanted stamp other lines frames rest = Unit {0}
 -- header states a length that is too great, and either the input ended within a record or one of the lines
 -- met the end of the results.
 abbrev pub IsEndSeen : Stamp → List Line → List Frame → List ℕ → Type 0
-IsEndSeen stamp lines frames rest = (rest_kind rest ≡ CutRecord) × ((rest ≢ []) ⊎ ((course false lines (all_results stamp frames rest)).ended ≡ true))
+IsEndSeen stamp lines frames rest = StatesNoExcess rest × ((rest ≢ []) ⊎ ((course false lines (all_results stamp frames rest)).ended ≡ true))
 
 -- A run of these lines with this outcome, which took these frames and then `rest`, has seen the end of its
 -- input. Not if the input failed or was too long, or the script was.

@@ -59,16 +59,20 @@ abbrev pub rest_fault : List ℕ → Option RecordKind
 rest_fault [] = None
 rest_fault (octet ∷ octets) = Some (rest_kind (octet ∷ octets))
 
+-- no length above the limit is stated: the octets begin with no whole header, or with one whose length a body may have
+abbrev pub StatesNoExcess : List ℕ → Type 0
+StatesNoExcess octets = rest_kind octets ≡ CutRecord
+
 -- ---- what the reader of records took without reading a whole record
 
 -- the octets are a rest, as far as it is read: they begin with no whole record, and where a header in them states too
 -- much they end after it
 pub record IsRest (octets : List ℕ) : Type 0 where
   pub none : BeginsWithNoRecord octets
-  pub stops : (rest_kind octets ≡ CutRecord) ⊎ (length octets ≡ HEADER_SIZE)
+  pub stops : StatesNoExcess octets ⊎ (length octets ≡ HEADER_SIZE)
 
 -- the octets begin with no whole record, and a whole one may yet come of them, as more octets follow: no header in
 -- them states too much. It holds of no octets, too.
 pub record IsUnfinished (octets : List ℕ) : Type 0 where
   pub none : BeginsWithNoRecord octets
-  pub cut : rest_kind octets ≡ CutRecord
+  pub cut : StatesNoExcess octets

@@ -2,13 +2,12 @@
 -- What the reader of records takes from its input, by what it returns.
 use Rattle.std.specs.Prelude.{ℕ, ◌<◌, List, ◌++◌, slice_index, take, ◌≡◌, ◌+◌, ◌≤◌, Bool, true, false, length, IfOk, Option, Some, None, Result, Ok, Err}
 use Rattle.mrt_frames.specs.declared.header.Header.{Header}
-use Rattle.mrt_frames.specs.Record.{Record, FitsHeader, header_octets, spelling, IsRecord, rest_kind, rest_fault, IsRest, IsUnfinished}
+use Rattle.mrt_frames.specs.Record.{Record, FitsHeader, header_octets, spelling, IsRecord, rest_fault, StatesNoExcess, IsRest, IsUnfinished}
 use Rattle.std.specs.Io.KnownBytes.{Consumes, IsAtEnd}
 use Rattle.mrt_frames.specs.declared.fault.SourceFault.{SourceFault}
 use Rattle.mrt_frames.specs.declared.fault.SourceFault.TheVariants.{Read, InputTooLong, Spent}
 use Rattle.mrt_frames.specs.declared.fault.TakeFault.{TakeFault}
 use Rattle.mrt_frames.specs.declared.fault.TakeFault.TheVariants.{InputFailed, PastLimit}
-use Rattle.mrt_frames.specs.declared.fault.RecordKind.TheVariants.{CutRecord}
 use Rattle.mrt_frames.specs.declared.frames.NextHeader.{NextHeader}
 use Rattle.mrt_frames.specs.declared.frames.NextHeader.TheVariants as start
 use Rattle.mrt_frames.specs.declared.frames.NextRecord.{NextRecord}
@@ -75,7 +74,7 @@ is_err_read other = false
 -- them unless a header in them states too much
 pub record EndsAt (left : Option (List ℕ)) (octets : List ℕ) : Type 0 where
   pub rest : IsRest octets
-  pub seen : rest_kind octets ≡ CutRecord → IsAtEnd left
+  pub seen : StatesNoExcess octets → IsAtEnd left
 
 -- a call took octets from an input, and `AreSo` holds of what the input has left, of the number of octets taken in
 -- all afterwards, and of the octets

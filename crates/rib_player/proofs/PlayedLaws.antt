@@ -19,7 +19,7 @@ use Rattle.rib_player.specs.Timeline.{Timeline, after_play, needed_keys, IsWellF
 use Rattle.rib_player.specs.Claims.{is_routed, one_if, brings, claims_along, held_claims, AreHeld}
 use Rattle.rib_player.specs.Journal.{Side, pairs_in, step_sides, steps_of, tables_over, timeline_of, routes_across}
 use Rattle.rib_player.specs.Sides.{sides_at, sides_across, AreDistinctKeys, AreDistinct, IsStepFor, Mark, marks_by_step, step_marks, marks_across, any_releases_claim_of, IsMarkOf, AreMarksOf, AreMarked}
-use Rattle.rib_player.specs.Calls.{IsConsistentJournal, IsStepSwapped, AreClaimed, CanDrop}
+use Rattle.rib_player.specs.JournalState.{IsConsistentJournal, IsStepSwapped, AreClaimed, CanDrop}
 use Rattle.octet_forms.proofs.Lists.{AllByRecursion-get_or, AllByRecursion-set, AllByRecursion-push, AllByRecursion-take}
 use Rattle.rib_player.proofs.PairLaws.{pair_cmp_total}
 use Rattle.rib_player.proofs.StoreLaws.{same_pairs}

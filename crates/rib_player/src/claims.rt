@@ -19,7 +19,7 @@ ghost use Rattle.rib_player.specs.History.{pair_cmp};
 ghost use Rattle.rib_player.specs.Tables.{route_in};
 ghost use Rattle.rib_player.specs.Journal.{sides_of};
 ghost use Rattle.rib_player.specs.Sides.{AreDistinct, mark_of, marks_of, releases_claim_of, any_releases_claim_of};
-ghost use Rattle.rib_player.specs.Calls.{AreApplied};
+ghost use Rattle.rib_player.specs.JournalState.{AreApplied};
 ghost use Rattle.rib_player.specs.Claims.{one_if, count_of, v4_prefix_number, claims_beyond, claims_in, AreHeld};
 
 use crate::entry::{Entry, JournalEnd};

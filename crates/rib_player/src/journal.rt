@@ -13,7 +13,7 @@ ghost use Rattle.rib_player.specs.declared.entry.JournalEnd.TheVariants.{Last};
 ghost use Rattle.rib_player.specs.Claims.{one_if, claims_beyond, claims_in, AreHeld};
 ghost use Rattle.rib_player.specs.Journal.{sides_of, steps_of, routes_across};
 ghost use Rattle.rib_player.specs.Sides.{sides_at, sides_across, ClearAllOf, AreDistinctKeys, AreDistinct, marks_of, marks_by_step, any_releases_claim_of, entry_count};
-ghost use Rattle.rib_player.specs.Calls.{IsStepSwapped, AreApplied, CanDrop, StayClaimed};
+ghost use Rattle.rib_player.specs.JournalState.{IsStepSwapped, AreApplied, CanDrop, StayClaimed};
 
 use crate::claims::{Claims, apply_entry, release_claims};
 use crate::entry::{Entry, JournalEnd, Step};

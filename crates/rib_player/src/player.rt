@@ -72,7 +72,7 @@ impl<S: PrefixStore<Rc<Route>>> Model for Player<S> {
     ghost use Rattle.std.specs.Prelude.{◌+◌, ◌≤◌, length};
     ghost use Rattle.prefix_store.specs.declared.store.TheConstants.{GREATEST_COUNT};
     ghost use Rattle.rib_player.specs.Journal.{timeline_of, steps_of};
-    ghost use Rattle.rib_player.specs.Calls.{IsConsistentJournal};
+    ghost use Rattle.rib_player.specs.JournalState.{IsConsistentJournal};
 
     ghost view = { λ a. timeline_of a.journal.floor a.journal.cursor
         (steps_of a.journal.steps.items) a.table.routes };

@@ -6,7 +6,7 @@ ghost use Rattle.std.specs.FinMap as finite;
 ghost use Rattle.std.specs.FinSet as set;
 ghost use Rattle.prefix_store.specs.Stored.{put};
 ghost use Rattle.rib_player.specs.Representation.{cleared_entry};
-ghost use Rattle.rib_player.specs.Calls.{AreApplied};
+ghost use Rattle.rib_player.specs.JournalState.{AreApplied};
 ghost use Rattle.rib_player.specs.Tables.{route_in};
 
 use crate::entry::{Entry, EntryRepr, RoutedSides};

@@ -4,7 +4,7 @@ use Rattle.std.proofs.lemmas.List.{take-append-le, take_all, take-take, length_p
 use Rattle.rib_player.specs.Claims.{claims_beyond, held_claims}
 use Rattle.rib_player.specs.Journal.{Side, sides_of, pairs_in, steps_of, step_sides}
 use Rattle.rib_player.specs.Sides.{AreDistinct, marks_of, marks_by_step, step_marks}
-use Rattle.rib_player.specs.Calls.{AreClaimed, CanDrop}
+use Rattle.rib_player.specs.JournalState.{AreClaimed, CanDrop}
 use Rattle.rib_player.proofs.MarkLaws.{tied, all-front, all-last, marked-length}
 use Rattle.rib_player.proofs.PlayedLaws.{dropped-keys, dropped-free, can-dropped, claimed-dropped}
 use Rattle.rib_player.proofs.journal.drop_steps_ahead.Given.{Over}

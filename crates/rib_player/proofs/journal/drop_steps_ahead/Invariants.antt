@@ -5,7 +5,7 @@ use Rattle.rib_player.specs.Tables.{Routes}
 use Rattle.rib_player.specs.Claims.{claims_beyond, held_claims, AreHeld}
 use Rattle.rib_player.specs.Journal.{steps_of}
 use Rattle.rib_player.specs.Sides.{AreDistinct, marks_by_step}
-use Rattle.rib_player.specs.Calls.{AreClaimed, CanDrop}
+use Rattle.rib_player.specs.JournalState.{AreClaimed, CanDrop}
 use Rattle.rib_player.proofs.journal.drop_steps_ahead.Given as goal
 
 -- the steps that are left make the claims that are left

@@ -4,7 +4,7 @@ use Rattle.std.specs.FinSet as names
 use Rattle.rib_player.specs.declared.pair.Pair.{Pair}
 use Rattle.rib_player.specs.declared.entry.JournalEnd.TheVariants.{First}
 use Rattle.rib_player.specs.Claims.{one_if, claims_beyond, held_claims}
-use Rattle.rib_player.specs.Calls.{IsConsistentJournal}
+use Rattle.rib_player.specs.JournalState.{IsConsistentJournal}
 use Rattle.rib_player.specs.Timeline.{without_first}
 use Rattle.rib_player.specs.Journal.{step_sides, steps_of, timeline_of}
 use Rattle.rib_player.specs.Sides.{marks_of, any_releases_claim_of}

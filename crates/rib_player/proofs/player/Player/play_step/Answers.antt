@@ -9,7 +9,7 @@ use Rattle.rib_player.specs.Timeline.{after_play}
 use Rattle.rib_player.specs.Claims.{one_if, claims_beyond, held_claims}
 use Rattle.rib_player.specs.Journal.{sides_of, steps_of, timeline_of}
 use Rattle.rib_player.specs.Sides.{IsStepFor, marks_of, marks_by_step, step_marks, any_releases_claim_of}
-use Rattle.rib_player.specs.Calls.{IsConsistentJournal, AreClaimed, CanDrop}
+use Rattle.rib_player.specs.JournalState.{IsConsistentJournal, AreClaimed, CanDrop}
 use Rattle.rib_player.proofs.PlayedLaws.{tables-played, played-few, played-among, step-named, can-play, after_play-on, played-on}
 use Rattle.rib_player.proofs.player.Player.play_step.Given.{Over}
 use Rattle.rib_player.proofs.player.Player.play_step.Goals as goal
