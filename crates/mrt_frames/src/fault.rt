@@ -39,7 +39,7 @@ pub struct RecordFault {
     pub number: u64,
     /// What is wrong with the record.
     pub kind: RecordKind,
-    /// The number of octets in the input before the record's header, after decompression.
+    /// The number of octets in the input before the record's header.
     pub offset: u64,
 }
 
