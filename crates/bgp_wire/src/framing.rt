@@ -9,11 +9,13 @@ ghost use Rattle.bgp_wire.specs.Attribute.{SpellsAttribute, is_extended, length_
 
 use crate::lengths::{LENGTH_SIZE, read_length};
 
-/// The bit of the flags of an attribute whose length takes two octets (RFC 4271, section 4.3).
+/// The bit of an attribute's flags that says that its length takes two octets (RFC 4271, section
+/// 4.3).
 pub const EXTENDED_LENGTH: u8 = 0x10;
 
-/// The exclusive upper bound of the attribute types that are parsed. Attributes of other types are
-/// skipped, and a list may have several of one such type.
+/// The exclusive upper bound of the attribute types that are parsed: the greatest is 18,
+/// AS4_AGGREGATOR. Attributes of this type and above are skipped, and a list may have several of
+/// one such type.
 pub(crate) const KINDS: usize = 19;
 
 /// The attribute type of ORIGIN (RFC 4271, section 4.3).
@@ -41,7 +43,8 @@ pub(crate) const AS4_PATH: u8 = 17;
 /// The attribute type of AS4_AGGREGATOR (RFC 6793, section 3).
 pub(crate) const AS4_AGGREGATOR: u8 = 18;
 
-/// An attribute at the start of a slice: its type, its value, and the octets after it.
+/// The start of a slice split into parts: an attribute's value and type (`kind`), and all octets
+/// after the attribute. Its flags are dropped.
 #[derive(Clone, Copy)]
 pub(crate) struct AttributeAndRest<'a> {
     pub(crate) value: &'a [u8],
@@ -51,7 +54,7 @@ pub(crate) struct AttributeAndRest<'a> {
 
 /// Splits the length of an attribute with these `flags` off the start of `octets`: two octets,
 /// big-endian, if [`EXTENDED_LENGTH`] is set, or else one (RFC 4271, section 4.3). Returns the
-/// length and the octets after it, or `None` if `octets` has too few.
+/// length and the octets after it, or `None` if `octets` has too few for the length field.
 fn split_length(flags: u8, octets: &[u8]) -> Option<(usize, &[u8])>
     ensures some { IfSome result (λ found. (found.0 < length_limit (is_extended flags))
         × (octets.now ≡ length_octets (is_extended flags) found.0 ++ found.1.now)) }
@@ -69,8 +72,9 @@ fn split_length(flags: u8, octets: &[u8]) -> Option<(usize, &[u8])>
     Some((read_length(front), rest))
 }
 
-/// Splits an attribute off the start of `octets` (RFC 4271, section 4.3). Returns `None` if
-/// `octets` ends inside the attribute.
+/// Splits a path attribute off the start of `octets`: flags, type, length and value (RFC 4271,
+/// section 4.3). The value isn't parsed. Returns `None` if `octets` ends before or inside the
+/// attribute.
 #[inline]
 pub(crate) fn split_attribute(octets: &[u8]) -> Option<AttributeAndRest<'_>>
     ensures some { IfSome result (λ f. (flags : ℕ) × Begins SpellsAttribute
