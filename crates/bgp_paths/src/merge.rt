@@ -53,8 +53,9 @@ fn count_ases(path: &AsPath) -> u128
     total
 }
 
-/// Returns the number of ASes that `segment` counts: each of a sequence, one for a set, and none
-/// for a confederation segment (RFC 4271, section 9.1.2.2; RFC 5065, section 5.3).
+/// Returns the number of ASes that `segment` counts when paths are compared by length: each AS
+/// number of a sequence, one for a set, and none for a confederation segment (RFC 4271, section
+/// 9.1.2.2; RFC 5065, section 5.3).
 fn count_ases_of_segment(segment: &Segment) -> usize
     ensures { result ≡ segment_weight segment.now }
 {
@@ -99,8 +100,7 @@ fn push_leading_segments(
 }
 
 /// Appends a segment of `kind` and `numbers` to `path`, or nothing if it would be a sequence
-/// without AS numbers, which can't be sent. Fails if memory allocation fails; `path` is then
-/// unspecified.
+/// without AS numbers. Fails if memory allocation fails; `path` is then unspecified.
 fn push_segment(
     alloc: Global,
     kind: SegmentKind,

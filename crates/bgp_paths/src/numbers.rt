@@ -15,9 +15,10 @@ use std::alloc::AllocError;
 /// Whether AS numbers are sent in two or in four octets, in an AS_PATH or an AGGREGATOR.
 #[derive(Clone, Copy, Debug, PartialEq, Eq)]
 pub enum AsWidth {
-    /// Two octets, as before RFC 6793.
+    /// Two octets, as speakers send them that don't support RFC 6793. Greater AS numbers are then
+    /// in AS4_PATH and AS4_AGGREGATOR.
     Two,
-    /// Four octets (RFC 6793).
+    /// Four octets, as speakers send them that support RFC 6793.
     Four,
 }
 

@@ -24,8 +24,8 @@ impl Clone for ListOf<Segment> {
     }
 }
 
-/// An AS path: the ASes that a route has passed through, in segments (RFC 4271, section 5.1.2). A
-/// path without segments is of a route of the peer's own AS, or absent.
+/// An AS path: the ASes that a route has passed through, in segments (RFC 4271, section 5.1.2). It
+/// has no segments if the route hasn't passed through another AS, or if AS_PATH is absent.
 #[derive(Clone, Debug, Drop)]
 pub struct AsPath {
     /// The segments as they are sent: the ASes that the route has passed through last come first.
@@ -33,7 +33,8 @@ pub struct AsPath {
 }
 
 impl AsPath {
-    /// Returns a path without segments, without allocating memory.
+    /// Returns an AS path without segments, without allocating memory. A path can be parsed into
+    /// it.
     #[inline]
     pub fn empty(alloc: Global) -> AsPath
         ensures { result ≡ empty_path }

@@ -26,11 +26,11 @@ const NO_EXPORT_SUBCONFED: u32 = 0xFFFF_FF03;
 /// them.
 #[derive(Clone, Copy)]
 struct Brackets {
-    /// The octet before the first number.
+    /// The character before the first AS number.
     open: u8,
-    /// The octet between two numbers.
+    /// The character between two AS numbers.
     separator: u8,
-    /// The octet after the last number.
+    /// The character after the last AS number.
     close: u8,
 }
 

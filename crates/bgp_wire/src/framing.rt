@@ -18,29 +18,41 @@ pub const EXTENDED_LENGTH: u8 = 0x10;
 /// one such type.
 pub(crate) const KINDS: usize = 19;
 
-/// The attribute type of ORIGIN (RFC 4271, section 4.3).
+/// The number of the attribute type ORIGIN: how the origin AS learned of the route (RFC 4271,
+/// sections 4.3 and 5.1.1).
 pub const ORIGIN: u8 = 1;
-/// The attribute type of AS_PATH (RFC 4271, section 4.3).
+/// The number of the attribute type AS_PATH: the ASes that the route has passed through (RFC 4271,
+/// sections 4.3 and 5.1.2).
 pub const AS_PATH: u8 = 2;
-/// The attribute type of NEXT_HOP (RFC 4271, section 4.3).
+/// The number of the attribute type NEXT_HOP: the IPv4 address of the next hop (RFC 4271, sections
+/// 4.3 and 5.1.3).
 pub(crate) const NEXT_HOP: u8 = 3;
-/// The attribute type of MULTI_EXIT_DISC (RFC 4271, section 4.3).
+/// The number of the attribute type MULTI_EXIT_DISC: a metric of links between two ASes (RFC 4271,
+/// sections 4.3 and 5.1.4).
 pub(crate) const MULTI_EXIT_DISC: u8 = 4;
-/// The attribute type of LOCAL_PREF (RFC 4271, section 4.3).
+/// The number of the attribute type LOCAL_PREF: the degree of preference inside an AS (RFC 4271,
+/// sections 4.3 and 5.1.5).
 pub(crate) const LOCAL_PREF: u8 = 5;
-/// The attribute type of ATOMIC_AGGREGATE (RFC 4271, section 4.3).
+/// The number of the attribute type ATOMIC_AGGREGATE, whose value is empty: an aggregate route may
+/// lack ASes in its path (RFC 4271, sections 4.3 and 5.1.6).
 pub(crate) const ATOMIC_AGGREGATE: u8 = 6;
-/// The attribute type of AGGREGATOR (RFC 4271, section 4.3).
+/// The number of the attribute type AGGREGATOR: the speaker that formed an aggregate route (RFC
+/// 4271, sections 4.3 and 5.1.7).
 pub(crate) const AGGREGATOR: u8 = 7;
-/// The attribute type of COMMUNITIES (RFC 1997).
+/// The number of the attribute type COMMUNITIES: 32-bit marks by which routes are grouped (RFC
+/// 1997).
 pub(crate) const COMMUNITIES: u8 = 8;
-/// The attribute type of MP_REACH_NLRI (RFC 4760, section 3).
+/// The number of the attribute type MP_REACH_NLRI: prefixes of any address family that are
+/// announced, and their next hop (RFC 4760, section 3).
 pub const MP_REACH_NLRI: u8 = 14;
-/// The attribute type of MP_UNREACH_NLRI (RFC 4760, section 4).
+/// The number of the attribute type MP_UNREACH_NLRI: prefixes of any address family that are
+/// withdrawn (RFC 4760, section 4).
 pub(crate) const MP_UNREACH_NLRI: u8 = 15;
-/// The attribute type of AS4_PATH (RFC 6793, section 3).
+/// The number of the attribute type AS4_PATH: the AS path with AS numbers of four octets, beside an
+/// AS_PATH with two (RFC 6793, section 3).
 pub(crate) const AS4_PATH: u8 = 17;
-/// The attribute type of AS4_AGGREGATOR (RFC 6793, section 3).
+/// The number of the attribute type AS4_AGGREGATOR: the aggregator with an AS number of four
+/// octets, beside an AGGREGATOR with two (RFC 6793, section 3).
 pub(crate) const AS4_AGGREGATOR: u8 = 18;
 
 /// The start of a slice split into parts: an attribute's value and type (`kind`), and all octets

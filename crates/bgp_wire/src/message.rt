@@ -13,10 +13,10 @@ use crate::update::fill_update;
 use bgp_paths::{AsWidth, WireFault};
 use std::alloc::Global;
 
-/// A BGP message (RFC 4271, section 4).
+/// A parsed BGP message (RFC 4271, section 4): an UPDATE, or the type of another.
 #[derive(Debug, Drop)]
 pub enum Message {
-    /// An UPDATE message.
+    /// An UPDATE message: prefixes that are withdrawn or announced, and path attributes.
     Update(Update),
     /// A message of another type (OPEN, KEEPALIVE, NOTIFICATION and so on), with the type's number.
     /// Its body isn't parsed.

@@ -15,7 +15,7 @@ use std::alloc::{AllocError, Global};
 /// its NLRI field and of those in MP_REACH_NLRI are in two fields, since the next hops differ.
 #[derive(Debug, Drop)]
 pub struct Update {
-    /// The prefixes in the Withdrawn Routes field, which are of IPv4 (RFC 4271, section 4.3).
+    /// The IPv4 prefixes in the Withdrawn Routes field (RFC 4271, section 4.3).
     pub withdrawn: Prefixes,
     /// The IPv4 or IPv6 unicast prefixes that MP_UNREACH_NLRI withdraws (RFC 4760, section 4).
     /// Empty if that attribute is absent or for another address family.
@@ -23,8 +23,8 @@ pub struct Update {
     /// The path attributes of the prefixes in `announced`, with the next hop of NEXT_HOP. They are
     /// there even if no prefix is announced.
     pub attrs: Attrs,
-    /// The prefixes in the Network Layer Reachability Information field, which are of IPv4 (RFC
-    /// 4271, section 4.3).
+    /// The IPv4 prefixes in the Network Layer Reachability Information (NLRI) field, which are
+    /// announced (RFC 4271, section 4.3).
     pub announced: Prefixes,
     /// The path attributes of the prefixes in `mp_announced`: `attrs` with the next hop of
     /// MP_REACH_NLRI. `None` if `mp_announced` is empty.
@@ -39,7 +39,7 @@ pub struct Update {
 /// with `mp_hop` as the next hop. [`UpdateParts::into_update`] makes that copy.
 #[derive(Debug, Drop)]
 pub struct UpdateParts {
-    /// The prefixes in the Withdrawn Routes field, which are of IPv4 (RFC 4271, section 4.3).
+    /// The IPv4 prefixes in the Withdrawn Routes field (RFC 4271, section 4.3).
     pub withdrawn: Prefixes,
     /// The IPv4 or IPv6 unicast prefixes that MP_UNREACH_NLRI withdraws (RFC 4760, section 4).
     /// Empty if that attribute is absent or for another address family.
@@ -47,8 +47,8 @@ pub struct UpdateParts {
     /// The path attributes of the prefixes in `announced`, with the next hop of NEXT_HOP. They are
     /// there even if no prefix is announced.
     pub attrs: Attrs,
-    /// The prefixes in the Network Layer Reachability Information field, which are of IPv4 (RFC
-    /// 4271, section 4.3).
+    /// The IPv4 prefixes in the Network Layer Reachability Information (NLRI) field, which are
+    /// announced (RFC 4271, section 4.3).
     pub announced: Prefixes,
     /// The next hop of MP_REACH_NLRI, or `None` if that attribute is absent or is for an address
     /// family other than IPv4 and IPv6 unicast.

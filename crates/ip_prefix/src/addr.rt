@@ -13,16 +13,16 @@ use crate::number::{NUMBER_BITS, U128Halves};
 use std::cmp::Ordering;
 use std::marker::Model;
 
-/// The number of octets of an IPv4 address.
+/// The number of octets of an IPv4 address, in BGP messages and in MRT records.
 pub const V4_OCTETS: usize = 4;
 
-/// The number of octets of an IPv6 address.
+/// The number of octets of an IPv6 address, in BGP messages and in MRT records.
 pub const V6_OCTETS: usize = 16;
 
-/// The number of bits of an IPv4 address.
+/// The number of bits of an IPv4 address, and the greatest length of an IPv4 prefix.
 pub const V4_BITS: u8 = 32;
 
-/// The number of bits of an IPv6 address.
+/// The number of bits of an IPv6 address, and the greatest length of an IPv6 prefix.
 pub const V6_BITS: u8 = 128;
 
 /// The number of bits of an octet.
@@ -32,10 +32,11 @@ pub(crate) const OCTET_BITS: usize = 8;
 /// IPv6 address (RFC 4291, section 2.2).
 pub(crate) const GROUP_BITS: usize = 16;
 
-/// The number of groups of an IPv6 address.
+/// The number of groups of an IPv6 address: the 16-bit numbers that colons separate in its text
+/// (RFC 4291, section 2.2).
 pub(crate) const GROUP_COUNT: usize = 8;
 
-/// The family of an address or a prefix. `V4` is ordered before `V6`.
+/// Whether an address or a prefix is of IPv4 or IPv6. `V4` is ordered before `V6`.
 #[derive(Clone, Copy, Debug, PartialEq, Eq, PartialOrd, Ord)]
 pub enum Family {
     /// IPv4, whose addresses have 32 bits (RFC 791).
@@ -45,7 +46,8 @@ pub enum Family {
 }
 
 impl Family {
-    /// Returns the number of bits of an address of the family: 32 or 128.
+    /// Returns the number of bits of an address of the family: 32 or 128. It is the greatest length
+    /// of a prefix of the family.
     #[inline]
     pub fn width(self) -> u8
         ensures { result ≡ bit_count self }
@@ -106,7 +108,8 @@ impl Addr {
         }
     }
 
-    /// Returns the IPv6 address of `octets`, the most significant first.
+    /// Returns the IPv6 address of `octets`, the most significant first: with 15 zeros and then 1,
+    /// it is `::1`.
     #[inline]
     pub fn v6(octets: [u8; V6_OCTETS]) -> Self
         ensures { result ≡ record { family = Family.V6; bits = bits_of_octets octets } }
@@ -153,8 +156,7 @@ impl Addr {
     }
 
     /// Returns one octet of the address, where index 0 is the most significant. Requires that
-    /// `index` is below 4 for IPv4, and below 16 for IPv6; it panics or returns another number
-    /// otherwise.
+    /// `index` is below 4 for IPv4, and below 16 for IPv6.
     #[inline]
     pub fn octet(&self, index: usize) -> u8
         requires { index < octet_count self.now.family }

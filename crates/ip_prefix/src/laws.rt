@@ -19,7 +19,8 @@ ghost use Rattle.ip_prefix.specs.Marks.{IsFirstLongestRun};
 ghost use Rattle.octet_forms.specs.Sequences.{SpellsAll};
 ghost use Rattle.octet_forms.specs.Fronts.{IsSelfDelimiting};
 
-/// States that addresses are totally ordered, and that only equal addresses compare as equal.
+/// States that the order of addresses (by family, and then by octets) is total, and that only equal
+/// addresses compare as equal.
 pub fn law_address_order_is_total()
     ensures total { IsTotalOrder address_cmp }
     ensures ties { IsAntisymmetric address_cmp }

@@ -7,10 +7,11 @@ ghost use Rattle.std.specs.Ordering.{nat_cmp};
 use std::cmp::Ordering;
 use std::marker::Model;
 
-/// The number of bits of a [`U128Halves`].
+/// The number of bits of a [`U128Halves`], which stores the bits of an address.
 pub(crate) const NUMBER_BITS: u8 = 128;
 
-/// The number of bits of half a [`U128Halves`].
+/// The number of bits of each half of a [`U128Halves`], which stores a 128-bit number as two
+/// halves.
 pub(crate) const HALF_BITS: u8 = 64;
 
 /// A 128-bit number, stored as two halves of 64 bits. So its alignment is 8 octets, and values with

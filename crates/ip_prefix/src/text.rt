@@ -16,13 +16,13 @@ use octet_text::{
 };
 use std::alloc::AllocError;
 
-/// The separator of the octets in the text of an IPv4 address.
+/// The ASCII code of a dot, the separator of the octets in the text of an IPv4 address.
 pub(crate) const DOT: u8 = b'.';
 
-/// The separator of the groups in the text of an IPv6 address.
+/// The ASCII code of a colon, the separator of the groups in the text of an IPv6 address.
 pub const COLON: u8 = b':';
 
-/// The separator of the address and the length in the text of a prefix.
+/// The ASCII code of a slash, the separator of the address and the length in the text of a prefix.
 pub(crate) const SLASH: u8 = b'/';
 
 /// The greatest number of hexadecimal digits of a 16-bit group of an IPv6 address.

@@ -16,8 +16,8 @@ use std::rc::Rc;
 pub struct Time {
     /// Seconds since 1970-01-01 00:00:00 UTC.
     pub seconds: u32,
-    /// Microseconds after `seconds`, as they are in the record: they may exceed 999,999. `None` if
-    /// the record's type has none (RFC 6396, section 3).
+    /// Microseconds after `seconds`, below 1,000,000. `None` if the record's type has none: only
+    /// those of BGP4MP_ET do (RFC 6396, section 3).
     pub micros: Option<u32>,
 }
 
@@ -27,8 +27,8 @@ pub enum Tag {
     /// An entry of a routing table, of one peer and one prefix: a TABLE_DUMP record (RFC 6396,
     /// section 4.2).
     TableDump,
-    /// Entries of a routing table, of several peers for one prefix: a TABLE_DUMP_V2 record (RFC
-    /// 6396, section 4.3).
+    /// Entries of a routing table, of several peers for one prefix, or the table of the peers that
+    /// such entries refer to, which makes no items: a TABLE_DUMP_V2 record (RFC 6396, section 4.3).
     TableDump2,
     /// A BGP message of a peer, or a change of its session's state: a BGP4MP record (RFC 6396,
     /// section 4.4).
@@ -204,6 +204,7 @@ pub struct Event {
     pub tag: Tag,
     /// The timestamp of the record: when it was written.
     pub time: Time,
-    /// The changes that the record reports, in order. There may be none, as for a KEEPALIVE.
+    /// The changes that the record reports, in order. There are none for some records, such as a
+    /// KEEPALIVE or a table of peers.
     pub items: Items,
 }

@@ -17,12 +17,14 @@ const SEGMENT_OCTETS: u64 = 64;
 const NUMBER_OCTETS: u64 = 4;
 
 /// The number of octets of spare capacity that a route has at most if it was parsed from octets:
-/// for 4 segments (`fit` of `bgp_paths`), for 32 communities (`Communities` of `bgp_wire`), and
-/// what the allocator rounds up. A route with more takes more than is counted.
+/// for 4 path segments (`MOST_SPARE` of `path_reader.rt` in `bgp_paths`), for 32 communities
+/// (`MOST_SPARE` of `attrs.rt` in `bgp_wire`), and what the allocator rounds up. A route with more
+/// takes more than is counted.
 const SPARE_OCTETS: u64 = 288;
 
-/// The number of octets of spare capacity that a segment has at most in a route that was parsed
-/// from octets, for 8 AS numbers (`AsNumbers`). A segment with more takes more than is counted.
+/// The number of octets of spare capacity that a path segment has at most in a route that was
+/// parsed from octets: for 8 AS numbers (`MOST_SPARE` of `segment.rt` in `bgp_paths`). A segment
+/// with more takes more than is counted.
 const SEGMENT_SPARE: u64 = 32;
 
 /// Returns the product of `count` and `octets`, or `u64::MAX` if it is greater.

@@ -27,7 +27,8 @@ pub trait RecordTypes {
     /// The format of a body, by which the user of the reader knows how to parse it.
     type BodyFormat: Copy;
 
-    /// The format of the bodies of a type and subtype, or `None` if these aren't supported.
+    /// In contracts, the format of the bodies of records of a type and subtype, or `None` if such
+    /// records aren't supported.
     ghost format_at: { Self → ℕ → ℕ → Option Self.BodyFormat };
 
     /// Returns the format of the bodies of records of type `kind` and `subtype`, or `None` if such
@@ -97,9 +98,9 @@ impl FrameReader {
     }
 
     /// Returns the first `size` octets of the buffer into which bodies are read. To get the body
-    /// that [`FrameReader::take_record`] read last, pass the `size` of its header; with a smaller
-    /// `size` it is cut. Requires that `size` is at most the length of the buffer; a greater one
-    /// panics.
+    /// that [`FrameReader::take_record`] read last, pass the `size` of its header: a smaller one
+    /// cuts the body, and a greater one adds octets of earlier records. Requires that the buffer
+    /// has `size` octets.
     pub fn body(&self, size: u32) -> &[u8]
         requires { size ≤ vec_len self.now.body }
         ensures { result.now ≡ take size self.now.body.items }
