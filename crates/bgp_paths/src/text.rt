@@ -128,9 +128,9 @@ fn drop_separator(before: usize, text: &mut Text)
     text.truncate(end);
 }
 
-/// Appends the words of the segments, with a space after each word, the last too: `65001 65002
-/// {1,2} `. The AS numbers of a plain sequence are a word each; any other segment is one word, in
-/// brackets. Fails if memory allocation fails; some of the words may have been appended then.
+/// Appends the words of the segments, with a space after each, the last too: `65001 {1,2} `. The AS
+/// numbers of a plain sequence are a word each; any other segment is one word, in brackets. Fails
+/// if memory allocation fails; some of the words may have been appended then.
 fn put_segments(segments: &[Segment], text: &mut Text) -> Result<(), AllocError>
     ensures appended { OnOk result (text.new ≡
         text.old ++ ended_words SPACE (flat_map segment_words segments.now)) }

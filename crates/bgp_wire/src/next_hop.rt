@@ -1,6 +1,6 @@
 //! Parsers of the next hop in MP_REACH_NLRI (RFC 4760, section 3; RFC 2545, section 3). The parser
-//! of RIB entries calls [`set_rib_next_hop`], and the parser of UPDATEs [`read_next_hop`]; read that
-//! function first.
+//! of RIB entries calls [`set_rib_next_hop`], and the parser of UPDATEs [`read_next_hop`]; read
+//! that function first.
 
 ghost use Rattle.std.specs.Prelude.{◌≡◌, if◌then◌else◌, Option, Some, length, OnOk, OnErr};
 ghost use Rattle.ip_prefix.specs.Network.{Address};

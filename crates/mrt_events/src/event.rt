@@ -145,9 +145,9 @@ impl Items {
     }
 
     /// Converts a vector into items in the order that it has, of which two ranges share a route, so
-    /// that users can handle these faster. Requires that `shared.start <= shared.middle <=
-    /// shared.end`, that these are at most the number of items, and that in each of the two ranges
-    /// all items are announcements of one peer with equal routes.
+    /// that users can handle these faster. Requires that the indices `start`, `middle` and `end` of
+    /// `shared` don't decrease and are at most the number of items, and that in each of the two
+    /// ranges all items are announcements of one peer with equal routes.
     pub fn with_shared_ranges(items: Vec<Item>, shared: SharedRanges) -> Items
         requires { AreSharedRanges shared (map item_value items.items) }
         ensures { result ≡ map item_value items.items }

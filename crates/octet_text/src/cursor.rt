@@ -87,8 +87,8 @@ fn write_large_decimal(number: u32, text: &mut [u8], at: usize) -> usize
 }
 
 /// Writes `number` in decimal, without leading zeros, into `text` at offset `at`, and returns the
-/// offset of the octet after it. Requires that `number` is below 1,000,000, and that `text` has `3
-/// + ROW` octets from `at` on, of which those after the number are then unspecified.
+/// offset of the octet after it. Requires that `number` is below 1,000,000, and that `text` has at
+/// least `3 + ROW` octets from `at` on, of which those after the number are then unspecified.
 #[inline(always)]
 fn write_below_million(number: u32, text: &mut [u8], at: usize) -> usize
     requires { (number < MILLION) × (at + 3 + ROW ≤ length text.old) }
