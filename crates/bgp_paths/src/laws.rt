@@ -37,8 +37,9 @@ pub fn law_paths_have_one_merge()
 {}
 
 /// States which characters AS paths and communities are joined and bracketed with as text: words
-/// are joined by spaces, the halves of a community by a colon, and sets have the brackets and
-/// separator `{,}`, confederation sequences `( )`, and confederation sets `[,]`.
+/// are joined by spaces, and the halves of a community by a colon. The opening bracket, separator
+/// and closing bracket are `{`, `,` and `}` for sets, `(`, a space and `)` for confederation
+/// sequences, and `[`, `,` and `]` for confederation sets.
 pub fn law_text_punctuation()
     ensures between { SPACE ∷ COLON ∷ [] ≡ codes " :" }
     ensures sets { brackets_as_printed AS_SET_BRACKETS ≡ codes "{,}" }

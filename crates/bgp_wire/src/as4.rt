@@ -1,6 +1,7 @@
-//! The merge of AS4_PATH and AS4_AGGREGATOR into attributes with AS numbers of two octets (RFC
-//! 6793, section 4.2.3). The parsers of UPDATEs and of RIB entries call [`merge_as4`] after they
-//! have parsed a list of attributes (`attribute_list.rt`).
+//! The merge of AS4_PATH and AS4_AGGREGATOR, which have AS numbers of four octets, into path
+//! attributes that were sent with AS numbers of two (RFC 6793, section 4.2.3). The parsers of
+//! UPDATEs and of RIB entries call [`merge_as4`] after they have parsed a list of attributes
+//! (`attribute_list.rt`).
 
 ghost use Rattle.std.specs.Prelude.{◌≡◌, List, OnOk, IfErr};
 ghost use Rattle.bgp_paths.specs.declared.numbers.AsWidth.TheVariants.{Two};

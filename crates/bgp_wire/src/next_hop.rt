@@ -17,7 +17,7 @@ use ip_prefix::{Addr, Family};
 /// The size of an AFI and a SAFI together, in octets: two and one (RFC 4760, section 3).
 pub(crate) const FAMILY_SIZE: usize = 3;
 
-/// The size of an IPv6 address, in octets (RFC 4291, section 2).
+/// The size of an IPv6 address, and of a next hop that is one, in octets (RFC 4291, section 2).
 const IPV6_SIZE: usize = 16;
 
 /// The size of the link-local address after an IPv6 next hop, in octets (RFC 2545, section 3).

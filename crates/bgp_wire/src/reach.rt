@@ -53,7 +53,7 @@ struct NextHopAndRest<'a> {
 
 /// Splits a next hop off the start of `octets`: its length, of one octet, its address, and a
 /// reserved octet, which is ignored (RFC 4760, section 3). Returns `None` if `octets` ends before
-/// or at the reserved octet, or if the length isn't 4, 16 or 32.
+/// the reserved octet is there, or if the length isn't 4, 16 or 32.
 fn split_next_hop(octets: &[u8]) -> Option<NextHopAndRest<'_>>
     ensures some { IfSome result (λ f. BeginsWithHop f.hop f.rest.now octets.now) }
     ensures none { IfNone result ((hop : Address) (rest : List ℕ) →

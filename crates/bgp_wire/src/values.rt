@@ -15,11 +15,12 @@ use bgp_paths::AsWidth;
 use byteorder::{BigEndian, ByteOrder};
 use ip_prefix::Addr;
 
-/// The value of ORIGIN for IGP (RFC 4271, section 4.3).
+/// The value of ORIGIN for IGP: the route originates inside its AS (RFC 4271, section 4.3).
 const ORIGIN_IGP: u8 = 0;
-/// The value of ORIGIN for EGP (RFC 4271, section 4.3).
+/// The value of ORIGIN for EGP: the route was learned through EGP (RFC 4271, section 4.3).
 const ORIGIN_EGP: u8 = 1;
-/// The value of ORIGIN for INCOMPLETE (RFC 4271, section 4.3).
+/// The value of ORIGIN for INCOMPLETE: the route was learned in another way (RFC 4271, section
+/// 4.3).
 const ORIGIN_INCOMPLETE: u8 = 2;
 
 /// The size of an IPv4 address, in octets (RFC 791, section 3.2).

@@ -1,5 +1,5 @@
-//! The highest bits of numbers and of octets. `prefix.rt` makes prefixes with these functions. Read
-//! [`keep_highest_bits`] first.
+//! Functions on the highest bits of numbers and of octets, of which `prefix.rt` makes prefixes.
+//! Read [`keep_highest_bits`] first.
 
 ghost use Rattle.std.specs.Prelude.{◌≡◌, ◌*◌, ◌^◌, ◌<◌, ◌≤◌, length, take};
 ghost use Rattle.ip_prefix.specs.Bits.{bits_of_octets, highest_bits};

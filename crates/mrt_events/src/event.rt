@@ -69,8 +69,7 @@ pub const ESTABLISHED: u16 = 6;
 #[derive(Debug, Drop)]
 pub enum Item {
     /// The peer announces the prefix with this route, which replaces the route that it had. Entries
-    /// of routing tables are announcements too. Prefixes that were announced together share the
-    /// `Rc`.
+    /// of routing tables are announcements too. Items with equal routes may share one `Rc`.
     Announce(Peer, Prefix, Rc<Route>),
     /// The peer withdraws the prefix: from now on it has no route to it.
     Withdraw(Peer, Prefix),

@@ -21,7 +21,8 @@ pub enum RecordKind {
     TooLong(u32),
     /// The record is of this type and subtype, in this order, of which records aren't parsed.
     Unsupported(u16, u16),
-    /// The body doesn't have the format of its type and subtype (RFC 6396, section 4).
+    /// The body doesn't have the format of the record's type and subtype (RFC 6396, section 4), or
+    /// a BGP message or attributes in it are malformed.
     Malformed,
     /// The record is a RIB record, with or without entries, and no peer index table was accepted
     /// before it, so that its entries have no peers (RFC 6396, section 4.3).
