@@ -31,8 +31,11 @@ const MOST_SPARE: usize = 4;
 /// section 3), the octets of the segment's AS numbers, and all octets after the segment.
 #[derive(Clone, Copy)]
 struct SegmentAndRest<'a> {
+    /// The kind of the segment.
     kind: SegmentKind,
+    /// The octets of the segment's AS numbers, without its type and count.
     body: &'a [u8],
+    /// The octets after the segment.
     rest: &'a [u8],
 }
 

@@ -23,7 +23,9 @@ use std::alloc::Global;
 /// The octets of a list of path attributes, and the size of the AS numbers in its AS_PATH.
 #[derive(Clone, Copy)]
 pub(crate) struct AttributeOctets<'a> {
+    /// The octets of the list, without the field with their number.
     pub(crate) octets: &'a [u8],
+    /// The size of the AS numbers in AS_PATH.
     pub(crate) width: AsWidth,
 }
 
@@ -33,9 +35,13 @@ pub(crate) struct AttributeOctets<'a> {
 /// type, or `None` if the list has none.
 #[derive(Clone, Copy, Default)]
 pub(crate) struct DeferredValues<'a> {
+    /// The value of MP_REACH_NLRI.
     pub(crate) reach: Option<&'a [u8]>,
+    /// The value of MP_UNREACH_NLRI.
     pub(crate) unreach: Option<&'a [u8]>,
+    /// The value of AS4_PATH.
     pub(crate) as4_path: Option<&'a [u8]>,
+    /// The value of AS4_AGGREGATOR.
     pub(crate) as4_aggregator: Option<&'a [u8]>,
 }
 

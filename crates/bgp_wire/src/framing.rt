@@ -59,8 +59,11 @@ pub(crate) const AS4_AGGREGATOR: u8 = 18;
 /// after the attribute. Its flags are dropped.
 #[derive(Clone, Copy)]
 pub(crate) struct AttributeAndRest<'a> {
+    /// The value of the attribute, which isn't parsed.
     pub(crate) value: &'a [u8],
+    /// The octets after the attribute.
     pub(crate) rest: &'a [u8],
+    /// The type of the attribute, by its number.
     pub(crate) kind: u8,
 }
 

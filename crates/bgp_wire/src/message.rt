@@ -37,7 +37,9 @@ const MARKER_SIZE: usize = 16;
 /// which aren't parsed.
 #[derive(Clone, Copy)]
 struct TypeAndBody<'a> {
+    /// The type of the message, by its number.
     kind: u8,
+    /// The octets after the header.
     body: &'a [u8],
 }
 

@@ -47,7 +47,9 @@ fn read_afi_safi(octets: &[u8]) -> Option<AfiSafi<'_>>
 /// follows it.
 #[derive(Clone, Copy)]
 struct NextHopAndRest<'a> {
+    /// The next hop; a link-local address after it is dropped.
     hop: Addr,
+    /// The octets after the reserved octet: the prefixes.
     rest: &'a [u8],
 }
 

@@ -13,7 +13,9 @@ use std::marker::Model;
 /// [`KINDS`] and above are ignored: they are never in the set.
 #[derive(Drop)]
 pub(crate) struct SeenTypes {
+    /// For each type, by its number, `true` if an attribute of the type was seen.
     seen: [bool; KINDS],
+    /// For each type, by its number, `true` if more than one attribute of the type was seen.
     again: [bool; KINDS],
 }
 
