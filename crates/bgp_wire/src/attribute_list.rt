@@ -35,13 +35,13 @@ pub(crate) struct AttributeOctets<'a> {
 /// type, or `None` if the list has none.
 #[derive(Clone, Copy, Default)]
 pub(crate) struct DeferredValues<'a> {
-    /// The value of MP_REACH_NLRI.
+    /// The value of MP_REACH_NLRI, or `None` if it is absent.
     pub(crate) reach: Option<&'a [u8]>,
-    /// The value of MP_UNREACH_NLRI.
+    /// The value of MP_UNREACH_NLRI, or `None` if it is absent.
     pub(crate) unreach: Option<&'a [u8]>,
-    /// The value of AS4_PATH.
+    /// The value of AS4_PATH, or `None` if it is absent.
     pub(crate) as4_path: Option<&'a [u8]>,
-    /// The value of AS4_AGGREGATOR.
+    /// The value of AS4_AGGREGATOR, or `None` if it is absent.
     pub(crate) as4_aggregator: Option<&'a [u8]>,
 }
 
