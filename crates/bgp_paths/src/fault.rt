@@ -7,10 +7,10 @@ ghost use Rattle.bgp_paths.specs.declared.fault.WireFault.TheVariants.{Memory};
 use std::alloc::{AllocError, AllocFailed};
 use thiserror::Error;
 
-/// An error of a parser of BGP octets.
+/// Why a parser of BGP messages or path attributes failed.
 #[derive(Clone, Copy, Debug, PartialEq, Eq, Error)]
 pub enum WireFault {
-    /// The octets don't have the form of the value that was to be parsed.
+    /// The octets don't have the format of the value that was to be parsed.
     #[error("malformed")]
     Malformed,
     /// Memory allocation failed.

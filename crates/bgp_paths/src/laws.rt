@@ -13,28 +13,33 @@ ghost use Rattle.bgp_paths.specs.Merge.{IsMerge, path_weight};
 ghost use Rattle.bgp_paths.specs.Path.{SpellsPath};
 ghost use Rattle.bgp_paths.specs.Readers.{brackets_as_printed};
 
-/// States that octets encode at most one AS path with AS numbers of a given width.
+/// States that octets decode as at most one AS path, if it is known whether its AS numbers have two
+/// or four octets.
 pub fn law_octets_have_one_path()
     ensures { (width : AsWidth) (octets : List ℕ) (path other : AsPath) →
         SpellsPath width path octets → SpellsPath width other octets → path ≡ other }
 {}
 
-/// States that the merge of two paths counts as many ASes as the first of them (RFC 6793, section
-/// 4.2.3).
+/// States that the merge of an AS_PATH with an AS4_PATH counts as many ASes as the AS_PATH (RFC
+/// 6793, section 4.2.3): each AS number of a sequence counts, an AS_SET counts as one AS, and
+/// confederation segments don't count.
 pub fn law_merge_keeps_weight()
     ensures { (first second path : AsPath) → IsMerge first second path →
         path_weight path ≡ path_weight first }
 {}
 
-/// States that any two paths have exactly one merge.
+/// States that the merge of an AS_PATH with an AS4_PATH, as the contracts define it (RFC 6793,
+/// section 4.2.3), exists and is unique, whatever the two paths are.
 pub fn law_paths_have_one_merge()
     ensures some { (first second : AsPath) → (path : AsPath) × IsMerge first second path }
     ensures one { (first second path other : AsPath) →
         IsMerge first second path → IsMerge first second other → path ≡ other }
 {}
 
-/// States which characters the constants are that printed paths and communities are joined and
-/// bracketed with.
+/// States which characters AS paths and communities are joined and bracketed with as text: words
+/// are joined by spaces, and the halves of a community by a colon. The opening bracket, separator
+/// and closing bracket are `{`, `,` and `}` for sets, `(`, a space and `)` for confederation
+/// sequences, and `[`, `,` and `]` for confederation sets.
 pub fn law_text_punctuation()
     ensures between { SPACE ∷ COLON ∷ [] ≡ codes " :" }
     ensures sets { brackets_as_printed AS_SET_BRACKETS ≡ codes "{,}" }
@@ -42,8 +47,9 @@ pub fn law_text_punctuation()
     ensures confederation_sets { brackets_as_printed CONFED_SET_BRACKETS ≡ codes "[,]" }
 {}
 
-/// States the values of the constants that the definitions name: the types of segments (RFC 4271,
-/// section 4.3; RFC 5065, section 3) and the well-known communities (RFC 1997).
+/// States the values of constants that the theorems and contracts use by name: the types of AS path
+/// segments, 1 to 4 (RFC 4271, section 4.3; RFC 5065, section 3), and the well-known communities
+/// `NO_EXPORT`, `NO_ADVERTISE` and `NO_EXPORT_SUBCONFED` (RFC 1997).
 pub fn law_path_constants()
     ensures segments { (AS_SET ≡ 1) × (AS_SEQUENCE ≡ 2) × (AS_CONFED_SEQUENCE ≡ 3)
         × (AS_CONFED_SET ≡ 4) }

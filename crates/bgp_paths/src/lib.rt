@@ -1,6 +1,6 @@
 //! AS numbers, AS paths and communities of BGP: their parsers, the merge of AS_PATH with AS4_PATH
-//! (RFC 6793, section 4.2.3), and their printed texts. `bgp_wire` and `bgpdump_lines` call it. Read
-//! `path.rt` first, then `path_reader.rt` and `merge.rt`.
+//! (RFC 6793, section 4.2.3), and their formatting as text. `bgp_wire` and `bgpdump_lines` call it.
+//! Read `path.rt` first, then `path_reader.rt` and `merge.rt`.
 #![tactic(auto)]
 
 mod fault;

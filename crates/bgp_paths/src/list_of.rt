@@ -1,15 +1,16 @@
-//! Lists that contracts see as their elements alone. AS paths, their segments, communities and the
-//! prefixes of messages are such lists. Read [`ListOf`] first.
+//! Lists whose values in contracts are their elements alone, without a capacity. AS paths, their
+//! segments, communities and the prefixes of messages are such lists. Read [`ListOf`] first.
 
 ghost use Rattle.std.specs.Prelude.{◌≡◌, []};
 
 use std::alloc::{AllocError, Global};
 use std::marker::Model;
 
-/// A list of values: a vector of which contracts see the elements, and not the capacity.
+/// A vector whose value in contracts is the list of its elements; the capacity doesn't show. So two
+/// lists with equal elements are equal there.
 #[derive(Debug, Drop)]
 pub struct ListOf<T> {
-    /// The elements.
+    /// The vector of the elements.
     pub items: Vec<T>,
 }
 
@@ -38,7 +39,8 @@ impl<T: Drop> ListOf<T> {
         ListOf::from_vec(Vec::new(alloc))
     }
 
-    /// Converts the list into a vector of its elements, without copying them.
+    /// Converts the list into a vector of its elements, without copying them. The vector may have
+    /// spare capacity.
     #[inline]
     pub fn into_vec(self) -> Vec<T>
         ensures { result.items ≡ self }
@@ -47,7 +49,7 @@ impl<T: Drop> ListOf<T> {
         kept
     }
 
-    /// Returns the elements as a slice.
+    /// Returns the elements as a slice, in order.
     #[inline]
     pub fn as_slice(&self) -> &[T]
         ensures { result.now ≡ self.now }

@@ -1,6 +1,6 @@
-//! The merge of an AS_PATH with AS numbers of two octets and the AS4_PATH sent with it (RFC 6793,
-//! section 4.2.3). `bgp_wire` calls [`merge_paths`] for the attributes of a route; read that
-//! function first.
+//! The merge of an AS_PATH, whose AS numbers have two octets, with the AS4_PATH sent with it, whose
+//! AS numbers have four (RFC 6793, section 4.2.3). `bgp_wire` calls [`merge_paths`] for the
+//! attributes of a route; read that function first.
 
 ghost use Rattle.std.specs.Prelude.{◌≡◌, ℕ, ◌≤◌, List, ◌++◌, IfOk, OnOk, sum_by};
 ghost use Rattle.bgp_paths.specs.Merge.{IsMerge, IsLongest, path_weight, segment_weight, PathUnit, units_from, segments_of};
@@ -13,9 +13,10 @@ use crate::segment::{AsNumbers, Segment, SegmentKind};
 use std::alloc::{AllocError, Global};
 
 /// Merges the AS_PATH `first` with the AS4_PATH `second` (RFC 6793, section 4.2.3). Returns the
-/// longest beginning of `first` that counts as many ASes as `second` lacks, followed by `second`
-/// without its confederation segments. If `first` counts fewer ASes than `second`, returns a copy
-/// of `first`.
+/// longest part of the start of `first` that counts as many ASes as `second` lacks, followed by
+/// `second` without its confederation segments. If `first` counts fewer ASes than `second`, returns
+/// a copy of `first`. A set counts as one AS, and confederation segments don't count. Returns
+/// `AllocError` if memory allocation fails.
 pub fn merge_paths(alloc: Global, first: &AsPath, second: &AsPath) -> Result<AsPath, AllocError>
     ensures { IfOk result (IsMerge first.now second.now) }
 {
@@ -40,8 +41,8 @@ pub fn merge_paths(alloc: Global, first: &AsPath, second: &AsPath) -> Result<AsP
     })
 }
 
-/// Returns the number of ASes that `path` counts, as [`count_ases_of_segment`] counts them (RFC 6793,
-/// section 4.2.3).
+/// Returns the number of ASes that `path` counts (RFC 6793, section 4.2.3): each AS number of a
+/// sequence, one for each set, and none for a confederation segment.
 fn count_ases(path: &AsPath) -> u128
     ensures { result ≡ path_weight path.now }
 {
@@ -52,8 +53,9 @@ fn count_ases(path: &AsPath) -> u128
     total
 }
 
-/// Returns the number of ASes that `segment` counts: each of a sequence, one for a set, and none
-/// for a confederation segment (RFC 4271, section 9.1.2.2; RFC 5065, section 5.3).
+/// Returns the number of ASes that `segment` counts when paths are compared by length: each AS
+/// number of a sequence, one for a set, and none for a confederation segment (RFC 4271, section
+/// 9.1.2.2; RFC 5065, section 5.3).
 fn count_ases_of_segment(segment: &Segment) -> usize
     ensures { result ≡ segment_weight segment.now }
 {
@@ -64,8 +66,10 @@ fn count_ases_of_segment(segment: &Segment) -> usize
     }
 }
 
-/// Appends to `path` the longest beginning of `segments` that counts `weight` ASes, which
-/// `segments` must count at least. A sequence may be cut. On error, `path` is unspecified.
+/// Appends to `path` the longest part of the start of `segments` that counts `weight` ASes: each AS
+/// number of a sequence counts, a set counts as one, and confederation segments don't count. The
+/// last sequence may be cut. Requires that `segments` counts at least `weight` ASes. Fails if
+/// memory allocation fails; `path` is then unspecified.
 fn push_leading_segments(
     alloc: Global,
     segments: &[Segment],
@@ -96,7 +100,7 @@ fn push_leading_segments(
 }
 
 /// Appends a segment of `kind` and `numbers` to `path`, or nothing if it would be a sequence
-/// without AS numbers. On error, `path` is unspecified.
+/// without AS numbers. Fails if memory allocation fails; `path` is then unspecified.
 fn push_segment(
     alloc: Global,
     kind: SegmentKind,

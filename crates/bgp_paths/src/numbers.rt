@@ -1,6 +1,6 @@
-//! Parsers of lists of AS numbers and of communities, which are sent in network byte order.
-//! `path_reader.rt` parses segments with [`fill_numbers`], and `bgp_wire` communities; read that
-//! function first.
+//! Parsers of lists of AS numbers and of communities, which are sent in network byte order
+//! (big-endian). `path_reader.rt` parses segments with [`fill_numbers`], and `bgp_wire`
+//! communities; read that function first.
 
 ghost use Rattle.std.specs.Prelude.{◌≡◌, ◌≤◌, ◌<◌, ◌+◌, ◌/◌, ◌%◌, ◌^◌, [], length, OnOk, IfErr, vec_capacity};
 ghost use Rattle.std.specs.Int.{to_be_bytes, w16};
@@ -12,17 +12,18 @@ use crate::fault::WireFault;
 use byteorder::{BigEndian, ByteOrder};
 use std::alloc::AllocError;
 
-/// The size of AS numbers.
+/// Whether AS numbers are sent in two or in four octets, in an AS_PATH or an AGGREGATOR.
 #[derive(Clone, Copy, Debug, PartialEq, Eq)]
 pub enum AsWidth {
-    /// Two octets, as before RFC 6793.
+    /// Two octets, as speakers send them that don't support RFC 6793. Greater AS numbers are then
+    /// in AS4_PATH and AS4_AGGREGATOR.
     Two,
-    /// Four octets (RFC 6793).
+    /// Four octets, as speakers send them that support RFC 6793.
     Four,
 }
 
 impl AsWidth {
-    /// Returns the size of an AS number, in octets: 2 or 4.
+    /// Returns the size of an AS number that is sent, in octets: 2 or 4.
     #[inline]
     pub fn octets(self) -> usize
         ensures { result ≡ asn_size self }
@@ -33,7 +34,8 @@ impl AsWidth {
         }
     }
 
-    /// Parses `octets` as a big-endian AS number. There must be [`AsWidth::octets`] of them.
+    /// Parses `octets` as an AS number, in big-endian order. Requires that `octets` has 2 octets
+    /// for `Two`, and 4 for `Four`.
     #[inline]
     pub fn number(self, octets: &[u8]) -> u32
         requires { length octets.now ≡ asn_size self }
@@ -46,7 +48,8 @@ impl AsWidth {
     }
 }
 
-/// Replaces `numbers` with an empty vector of capacity `count`. On error, `numbers` is unspecified.
+/// Replaces `numbers` with an empty vector of capacity `count`, in numbers. Fails if memory
+/// allocation fails; `numbers` is then unspecified.
 #[inline(never)]
 fn replace_with_capacity(numbers: &mut Vec<u32>, count: usize) -> Result<(), AllocError>
     ensures none { OnOk result (numbers.new.items ≡ []) }
@@ -57,8 +60,9 @@ fn replace_with_capacity(numbers: &mut Vec<u32>, count: usize) -> Result<(), All
     Ok(())
 }
 
-/// Clears `numbers`, and reallocates it if its capacity isn't from `count` to `count + max_spare`. On
-/// error, `numbers` is unspecified.
+/// Removes all `numbers`, and reallocates the vector if its capacity is less than `count` or more
+/// than `count + max_spare`, in numbers. So it takes about the memory that `count` numbers need.
+/// Fails if memory allocation fails; `numbers` is then unspecified.
 #[inline(always)]
 pub(crate) fn clear_and_reserve(
     numbers: &mut Vec<u32>,
@@ -79,8 +83,9 @@ pub(crate) fn clear_and_reserve(
     Ok(())
 }
 
-/// Parses `octets` as big-endian numbers of `width`, and appends them to `numbers`, which must be
-/// empty and have capacity for them. `octets` must not end inside a number.
+/// Parses `octets` as numbers of `width`, in big-endian order, and appends them to `numbers`.
+/// Requires that `octets` has a whole number of them, and that `numbers` is empty and has capacity
+/// for them.
 #[inline(always)]
 fn push_numbers(width: AsWidth, octets: &[u8], numbers: &mut Vec<u32>)
     requires whole { length octets.now % asn_size width ≡ 0 }
@@ -99,10 +104,10 @@ fn push_numbers(width: AsWidth, octets: &[u8], numbers: &mut Vec<u32>)
     }
 }
 
-/// Parses `octets` as big-endian numbers of `width`, and replaces `numbers` with them. The memory
-/// of `numbers` is reused unless its capacity is too small, or more than `max_spare` above what is
-/// needed. Returns `Malformed` if `octets` ends inside a number. On error, `numbers` is
-/// unspecified.
+/// Parses `octets` as numbers of `width`, in big-endian order, and replaces `numbers` with them.
+/// The memory of `numbers` is reused if its capacity is enough, and at most `max_spare` numbers
+/// above what is needed. Fails with `Malformed` if `octets` ends inside a number, and with `Memory`
+/// if memory allocation fails; `numbers` is then unspecified. Empty `octets` are no numbers.
 #[inline(always)]
 pub fn fill_numbers(
     numbers: &mut Vec<u32>,

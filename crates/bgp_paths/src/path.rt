@@ -1,5 +1,5 @@
-//! AS paths. `bgp_wire` parses the path of each route with [`AsPath::fill`], and `text.rt` prints
-//! it. Read [`AsPath`] first.
+//! AS paths. `bgp_wire` parses the path of each route with [`AsPath::fill`], and `text.rt` formats
+//! it as text. Read [`AsPath`] first.
 
 ghost use Rattle.std.specs.Prelude.{◌≡◌, [], OnOk, IfErr};
 ghost use Rattle.ip_prefix.specs.Sequences.{SpellsAll};
@@ -13,7 +13,7 @@ use crate::path_reader::{fill_segments, shrink_if_spare};
 use crate::segment::Segment;
 use std::alloc::{AllocError, Global};
 
-/// The segments of an AS path.
+/// The segments of an AS path, in the order in which they are sent.
 pub type Segments = ListOf<Segment>;
 
 impl Clone for ListOf<Segment> {
@@ -24,15 +24,17 @@ impl Clone for ListOf<Segment> {
     }
 }
 
-/// An AS path: the ASes that a route has passed through (RFC 4271, section 5.1.2).
+/// An AS path: the ASes that a route has passed through, in segments (RFC 4271, section 5.1.2). It
+/// has no segments if the route hasn't passed through another AS, or if AS_PATH is absent.
 #[derive(Clone, Debug, Drop)]
 pub struct AsPath {
-    /// The segments as they are sent, those of the latest ASes first.
+    /// The segments as they are sent: the ASes that the route has passed through last come first.
     pub segments: Segments,
 }
 
 impl AsPath {
-    /// Returns a path without segments, without allocating memory.
+    /// Returns an AS path without segments, without allocating memory. A path can be parsed into
+    /// it.
     #[inline]
     pub fn empty(alloc: Global) -> AsPath
         ensures { result ≡ empty_path }
@@ -42,7 +44,8 @@ impl AsPath {
         }
     }
 
-    /// Removes all segments. Capacity for more than four segments is freed.
+    /// Removes all segments, and keeps the memory of the list of segments for the next path, unless
+    /// it has capacity for more than four.
     #[inline]
     pub fn clear(&mut self)
         ensures { self.new ≡ empty_path }
@@ -53,8 +56,10 @@ impl AsPath {
     }
 
     /// Parses `octets` as an AS path with AS numbers of `width` (RFC 4271, section 4.3), and
-    /// replaces the path with it, reusing its memory. Returns `Malformed` if `octets` has another
-    /// form. On error, the path is unspecified.
+    /// replaces the path with it, reusing its memory. Empty `octets` are a path without segments.
+    /// Fails with `Malformed` if `octets` isn't a list of segments, each of a known type and with
+    /// at least one AS number, and with `Memory` if memory allocation fails. On error, the path is
+    /// unspecified.
     #[inline]
     pub fn fill(&mut self, alloc: Global, width: AsWidth, octets: &[u8]) -> Result<(), WireFault>
         ensures filled { OnOk result (SpellsPath width self.new octets.now) }

@@ -12,31 +12,36 @@ use crate::numbers::{AsWidth, fill_numbers};
 use crate::segment::{self, AsNumbers, Segment, SegmentKind};
 use std::alloc::{AllocError, Global};
 
-/// The type of a segment that is a set (RFC 4271, section 4.3).
+/// The number of the segment type AS_SET, a set of ASes (RFC 4271, section 4.3).
 const AS_SET: u8 = 1;
-/// The type of a segment that is a sequence (RFC 4271, section 4.3).
+/// The number of the segment type AS_SEQUENCE, an ordered list of ASes (RFC 4271, section 4.3).
 const AS_SEQUENCE: u8 = 2;
-/// The type of a segment that is a sequence of members of a confederation (RFC 5065, section 3).
+/// The number of the segment type AS_CONFED_SEQUENCE, an ordered list of member ASes of a
+/// confederation (RFC 5065, section 3).
 const AS_CONFED_SEQUENCE: u8 = 3;
-/// The type of a segment that is a set of members of a confederation (RFC 5065, section 3).
+/// The number of the segment type AS_CONFED_SET, a set of member ASes of a confederation (RFC 5065,
+/// section 3).
 const AS_CONFED_SET: u8 = 4;
 
-/// The greatest number by which the capacity of a path may exceed the number of its segments. At
-/// one more, the capacity is shrunk to their number.
+/// The greatest number of segments by which the capacity of a path's list may exceed its length. At
+/// one more, the capacity is shrunk to the length, so that stored paths take little memory.
 const MOST_SPARE: usize = 4;
 
-/// A segment at the start of a slice: its kind (RFC 4271, section 4.3; RFC 5065, section 3), the
-/// octets of its AS numbers, and the octets after it.
+/// The start of a slice split into parts: a segment's kind (RFC 4271, section 4.3; RFC 5065,
+/// section 3), the octets of the segment's AS numbers, and all octets after the segment.
 #[derive(Clone, Copy)]
 struct SegmentAndRest<'a> {
+    /// The kind of the segment.
     kind: SegmentKind,
+    /// The octets of the segment's AS numbers, without its type and count.
     body: &'a [u8],
+    /// The octets after the segment.
     rest: &'a [u8],
 }
 
 /// Splits a segment with AS numbers of `width` off the start of `octets`. Its AS numbers aren't
-/// parsed. Returns `None` if its type is unknown, its count of AS numbers is 0, or `octets` ends
-/// inside it.
+/// parsed. Returns `None` if its type isn't one of the four known ones, if its count of AS numbers
+/// is 0, or if `octets` ends inside it.
 #[inline(always)]
 fn split_segment(width: AsWidth, octets: &[u8]) -> Option<SegmentAndRest<'_>>
     ensures some { IfSome result (λ f. (count : ℕ)
@@ -61,7 +66,7 @@ fn split_segment(width: AsWidth, octets: &[u8]) -> Option<SegmentAndRest<'_>>
 }
 
 /// Shrinks the capacity of `segments` to their number. If memory allocation fails, the capacity is
-/// unchanged.
+/// unchanged, which isn't an error.
 #[inline(never)]
 fn shrink(segments: &mut Vec<Segment>)
     ensures { segments.new.items ≡ segments.old.items }
@@ -71,7 +76,7 @@ fn shrink(segments: &mut Vec<Segment>)
 }
 
 /// Shrinks the capacity of `segments` to their number if it is more than [`MOST_SPARE`] above it.
-/// If memory allocation fails, the capacity is unchanged.
+/// If memory allocation fails, the capacity is unchanged, which isn't an error.
 #[inline(always)]
 pub(crate) fn shrink_if_spare(segments: &mut Vec<Segment>)
     ensures { segments.new.items ≡ segments.old.items }
@@ -81,7 +86,8 @@ pub(crate) fn shrink_if_spare(segments: &mut Vec<Segment>)
     }
 }
 
-/// Appends a sequence without AS numbers to `segments`. On error, `segments` is unspecified.
+/// Appends a sequence without AS numbers to `segments`, for the caller to fill in. Fails if memory
+/// allocation fails; `segments` is then unspecified.
 #[inline(never)]
 pub(crate) fn push_empty_segment(
     alloc: Global,
@@ -100,8 +106,9 @@ pub(crate) fn push_empty_segment(
 }
 
 /// Parses `octets` as segments with AS numbers of `width`, and replaces `segments` with them,
-/// reusing their memory. Returns `Malformed` if `octets` has another form. On error, `segments` is
-/// unspecified.
+/// reusing their memory. Fails with `Malformed` if `octets` isn't a list of segments, each of a
+/// known type and with at least one AS number, and with `Memory` if memory allocation fails. On
+/// error, `segments` is unspecified.
 #[inline(always)]
 pub(crate) fn fill_segments(
     alloc: Global,

@@ -10,8 +10,9 @@ use crate::segment::MOST_SPARE;
 use std::alloc::{AllocError, Global};
 use std::mem;
 
-/// Returns a copy of `numbers` in the memory of `old`. Memory is allocated only if the capacity of
-/// `old` is too small, or more than `max_spare` above the length of `numbers`.
+/// Returns a copy of `numbers` in the memory of `old`, whose own numbers are dropped. Memory is
+/// allocated only if the capacity of `old` is too small, or more than `max_spare` numbers above the
+/// length of `numbers`. Returns `AllocError` if memory allocation fails.
 pub fn copy_numbers(old: Vec<u32>, numbers: &[u32], max_spare: u8) -> Result<Vec<u32>, AllocError>
     ensures { IfOk result (λ copy. copy.items ≡ numbers.now) }
 {
@@ -21,8 +22,9 @@ pub fn copy_numbers(old: Vec<u32>, numbers: &[u32], max_spare: u8) -> Result<Vec
     Ok(copy)
 }
 
-/// Returns a copy of `path` in the memory of `old`. More memory is allocated where that of `old` is
-/// too small.
+/// Returns a copy of `path` in the memory of `old`, whose own segments are dropped. Memory is
+/// allocated only where that of `old` is too small or much too large. Returns `AllocError` if
+/// memory allocation fails.
 pub fn copy_path(alloc: Global, old: AsPath, path: &AsPath) -> Result<AsPath, AllocError>
     ensures { IfOk result (λ copy. copy ≡ path.now) }
 {

@@ -1,33 +1,35 @@
 //! Segments of AS paths (RFC 4271, section 4.3; RFC 5065, section 3). `path_reader.rt` parses them,
-//! and `text.rt` prints them. Read [`Segment`] first.
+//! and `text.rt` formats them as text. Read [`Segment`] first.
 
 use crate::list_of::ListOf;
 
-/// The greatest spare capacity of a segment, in AS numbers. With capacity for one more, they are
-/// copied to memory of their size.
+/// The greatest spare capacity of a segment's list of AS numbers, in AS numbers. If a parsed or
+/// copied segment would have capacity for one more, its list is reallocated.
 pub(crate) const MOST_SPARE: u8 = 8;
 
-/// The kind of a segment of an AS path (RFC 4271, section 4.3; RFC 5065, section 3).
+/// Whether a segment of an AS path is ordered, and whether its ASes are members of a confederation
+/// (RFC 4271, section 4.3; RFC 5065, section 3).
 #[derive(Clone, Copy, Debug, PartialEq, Eq)]
 pub enum SegmentKind {
-    /// AS numbers in no order.
+    /// AS_SET: the AS numbers are in no order.
     AsSet,
-    /// AS numbers in order.
+    /// AS_SEQUENCE: the AS numbers are in order, the one passed through last first.
     AsSequence,
-    /// AS numbers of members of a confederation, in order.
+    /// AS_CONFED_SEQUENCE: AS numbers of members of a confederation, in order, the one passed
+    /// through last first.
     ConfedSequence,
-    /// AS numbers of members of a confederation, in no order.
+    /// AS_CONFED_SET: AS numbers of members of a confederation, in no order.
     ConfedSet,
 }
 
-/// The AS numbers of a segment.
+/// The AS numbers of a segment of an AS path, in the order in which they are sent.
 pub type AsNumbers = ListOf<u32>;
 
-/// A segment of an AS path.
+/// A segment of an AS path: AS numbers, and whether they are a sequence or a set.
 #[derive(Clone, Debug, Drop)]
 pub struct Segment {
-    /// The AS numbers of the segment.
+    /// The AS numbers of the segment, in the order in which they are sent, for sets too.
     pub numbers: AsNumbers,
-    /// The kind of the segment.
+    /// Whether the AS numbers are a sequence or a set, of ASes or of members of a confederation.
     pub kind: SegmentKind,
 }

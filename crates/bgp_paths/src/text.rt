@@ -1,4 +1,4 @@
-//! Printing AS paths and communities as text. `bgpdump_lines` calls [`AsPath::append_to`] and
+//! Formatting AS paths and communities as text. `bgpdump_lines` calls [`AsPath::append_to`] and
 //! [`append_communities`] for each printed route; read those first.
 
 ghost use Rattle.std.specs.Prelude.{◌≡◌, ◌+◌, ◌<◌, ◌≤◌, [], ◌∷◌, ◌++◌, OnOk, OnErr, length, map, decimal, flat_map};
@@ -12,40 +12,43 @@ use crate::segment::{Segment, SegmentKind};
 use ip_prefix::{COLON, SPACE, Text, WORD_ROOM, WordFormat, put_octets, write_ended_decimal};
 use std::alloc::AllocError;
 
-/// The community of routes that are not to be announced outside the AS or confederation (RFC 1997).
-const NO_EXPORT: u32 = 0xFFFF_FF01;
-/// The community of routes that are not to be announced to any peer (RFC 1997).
-const NO_ADVERTISE: u32 = 0xFFFF_FF02;
-/// The community of routes that are not to be announced outside the AS, nor to other members of its
+/// The well-known community NO_EXPORT, of routes that are not to be announced outside the AS or
 /// confederation (RFC 1997).
+const NO_EXPORT: u32 = 0xFFFF_FF01;
+/// The well-known community NO_ADVERTISE, of routes that are not to be announced to any peer (RFC
+/// 1997).
+const NO_ADVERTISE: u32 = 0xFFFF_FF02;
+/// The well-known community NO_EXPORT_SUBCONFED, of routes that are not to be announced outside the
+/// AS, nor to other members of its confederation (RFC 1997).
 const NO_EXPORT_SUBCONFED: u32 = 0xFFFF_FF03;
 
-/// The octets around the numbers of a segment in brackets, and between the numbers.
+/// The ASCII characters around the AS numbers of a segment that isn't a plain sequence, and between
+/// them.
 #[derive(Clone, Copy)]
 struct Brackets {
-    /// The octet before the first number.
+    /// The character before the first AS number.
     open: u8,
-    /// The octet between two numbers.
+    /// The character between two AS numbers.
     separator: u8,
-    /// The octet after the last number.
+    /// The character after the last AS number.
     close: u8,
 }
 
-/// The octets of a set, as in `{1,2}`.
+/// The brackets and separator of an AS_SET, as in `{1,2}`.
 const AS_SET_BRACKETS: Brackets = Brackets {
     open: b'{',
     separator: b',',
     close: b'}',
 };
 
-/// The octets of a sequence of members of a confederation, as in `(1 2)`.
+/// The brackets and separator of a sequence of members of a confederation, as in `(1 2)`.
 const CONFED_SEQUENCE_BRACKETS: Brackets = Brackets {
     open: b'(',
     separator: SPACE,
     close: b')',
 };
 
-/// The octets of a set of members of a confederation, as in `[1,2]`.
+/// The brackets and separator of a set of members of a confederation, as in `[1,2]`.
 const CONFED_SET_BRACKETS: Brackets = Brackets {
     open: b'[',
     separator: b',',
@@ -53,8 +56,10 @@ const CONFED_SET_BRACKETS: Brackets = Brackets {
 };
 
 impl AsPath {
-    /// Appends the path as text: the AS numbers of sequences, and each other segment in brackets,
-    /// joined by spaces. A path without segments has no octets. On error, `text` is unchanged.
+    /// Appends the path as text, as in `65001 65002 {1,2}`: the AS numbers of sequences, and each
+    /// other segment in brackets (`{1,2}` for a set, `(1 2)` and `[1,2]` for confederations),
+    /// joined by spaces. For a path without segments, appends nothing. Returns `AllocError` if
+    /// memory allocation fails; `text` is unchanged then.
     #[tactic(auto, unfolding(crate::specs::Text::path_text))]
     pub fn append_to(&self, text: &mut Text) -> Result<(), AllocError>
         ensures appended { OnOk result (text.new ≡ text.old ++ path_text self.now) }
@@ -70,8 +75,9 @@ impl AsPath {
         result
     }
 
-    /// Appends the path as text to a vector, in the form of [`AsPath::append_to`]. On error, `text`
-    /// is unchanged.
+    /// Appends the path as text, as in `65001 65002 {1,2}`, to a vector of octets. The text is that
+    /// of [`AsPath::append_to`], which appends to a [`Text`] instead. Returns `AllocError` if
+    /// memory allocation fails; `text` is unchanged then.
     pub fn put_text(&self, text: &mut Vec<u8>) -> Result<(), AllocError>
         ensures appended { OnOk result (text.new.items ≡ text.old.items ++ path_text self.now) }
         ensures unchanged { OnErr result (text.new.items ≡ text.old.items) }
@@ -83,9 +89,10 @@ impl AsPath {
     }
 }
 
-/// Appends communities (RFC 1997) as text, joined by spaces. Each is its two 16-bit halves in
-/// decimal, joined by a colon, but three have names: `no-export`, `no-advertise` and `local-AS`. On
-/// error, `text` is unchanged.
+/// Appends communities (RFC 1997) as text, joined by spaces, as in `65000:1 no-export`. Each is its
+/// two 16-bit halves in decimal, joined by a colon, but three have names: `no-export`,
+/// `no-advertise` and `local-AS`. Appends nothing if there are none. Returns `AllocError` if memory
+/// allocation fails; `text` is unchanged then.
 pub fn append_communities(communities: &[u32], text: &mut Text) -> Result<(), AllocError>
     ensures appended { OnOk result (text.new ≡ text.old ++ communities_text communities.now) }
     ensures unchanged { OnErr result (text.new ≡ text.old) }
@@ -96,8 +103,10 @@ pub fn append_communities(communities: &[u32], text: &mut Text) -> Result<(), Al
     Ok(())
 }
 
-/// Appends communities as text to a vector, in the form of [`append_communities`]. On error, `text`
-/// is unchanged.
+/// Appends communities (RFC 1997) as text, joined by spaces, as in `65000:1 no-export`, to a vector
+/// of octets: each as its two 16-bit halves or by its name. [`append_communities`] appends the same
+/// text to a [`Text`] instead. Returns `AllocError` if memory allocation fails; `text` is unchanged
+/// then.
 pub fn put_communities(communities: &[u32], text: &mut Vec<u8>) -> Result<(), AllocError>
     ensures appended { OnOk result
         (text.new.items ≡ text.old.items ++ communities_text communities.now) }
@@ -109,8 +118,9 @@ pub fn put_communities(communities: &[u32], text: &mut Vec<u8>) -> Result<(), Al
     result
 }
 
-/// Removes the last octet of `text`, which is the separator after its last word. If `text` has only
-/// the `before` octets that it had before the words, it is unchanged.
+/// Removes the last octet of `text`, which is the separator after its last word. `before` is the
+/// length that `text` had before words were appended; if it still has no more, none were, and it is
+/// unchanged.
 fn drop_separator(before: usize, text: &mut Text)
     ensures { JoinsWords before text.old text.new }
 {
@@ -118,8 +128,9 @@ fn drop_separator(before: usize, text: &mut Text)
     text.truncate(end);
 }
 
-/// Appends the words of each of `segments`, a space after each word. On error, `text` still begins
-/// with what it had, and the rest is unspecified.
+/// Appends the words of the segments, with a space after each, the last too: `65001 {1,2} `. The AS
+/// numbers of a plain sequence are a word each; any other segment is one word, in brackets. Fails
+/// if memory allocation fails; some of the words may have been appended then.
 fn put_segments(segments: &[Segment], text: &mut Text) -> Result<(), AllocError>
     ensures appended { OnOk result (text.new ≡
         text.old ++ ended_words SPACE (flat_map segment_words segments.now)) }
@@ -137,8 +148,9 @@ fn put_segments(segments: &[Segment], text: &mut Text) -> Result<(), AllocError>
     Ok(())
 }
 
-/// Appends `numbers` in brackets, with the octets of `marks`, and then a space. On error, `text`
-/// still begins with what it had, and the rest is unspecified.
+/// Appends `numbers` in decimal as one word in brackets, and then a space: `{1,2} `. `marks` has
+/// the brackets and the separator. Fails if memory allocation fails; a part of the word may have
+/// been appended then.
 fn put_bracketed(numbers: &[u32], marks: Brackets, text: &mut Text) -> Result<(), AllocError>
     ensures appended { OnOk result (text.new ≡
         text.old ++ ended_words SPACE (bracketed_numbers marks numbers.now ∷ [])) }
@@ -151,8 +163,9 @@ fn put_bracketed(numbers: &[u32], marks: Brackets, text: &mut Text) -> Result<()
     text.extend_from_slice(&[marks.close, SPACE])
 }
 
-/// How communities are written as words: three well-known ones by name, and each other as its two
-/// 16-bit halves in decimal, joined by a colon.
+/// The format of BGP communities as words: three well-known ones by name (`no-export`,
+/// `no-advertise` and `local-AS`), and each other as its two 16-bit halves in decimal, as in
+/// `65000:1`.
 struct CommunityFormat;
 
 impl WordFormat for CommunityFormat {
@@ -174,7 +187,9 @@ impl WordFormat for CommunityFormat {
 }
 
 /// Writes the high and the low 16 bits of `number` in decimal, joined by a colon, and then the
-/// octet `end` into `text` at offset `at`. Returns the offset of the octet after `end`.
+/// octet `end`, as in `65000:1|`, into `text` at offset `at`. Returns the offset of the octet after
+/// `end`. Requires that `text` has [`WORD_ROOM`] octets from `at` on, of which those after `end`
+/// are then unspecified.
 #[inline(always)]
 fn write_halves(number: u32, end: u8, text: &mut [u8], at: usize) -> usize
     requires { at + WORD_ROOM ≤ length text.old }
@@ -185,8 +200,9 @@ fn write_halves(number: u32, end: u8, text: &mut [u8], at: usize) -> usize
     write_ended_decimal(number % 0x1_0000, end, text, behind)
 }
 
-/// Writes `name`, which is of a community, and then the octet `end` into `text` at offset `at`.
-/// Returns the offset of the octet after `end`.
+/// Writes `name`, the ASCII name of a well-known community, and then the octet `end`, as in
+/// `no-export|`, into `text` at offset `at`. Returns the offset of the octet after `end`. Requires
+/// that `text` has octets for both from `at` on.
 #[inline(always)]
 fn write_community_name(name: &[u8], end: u8, text: &mut [u8], at: usize) -> usize
     requires { at + length name.now < length text.old }

@@ -1,6 +1,7 @@
-//! The merge of AS4_PATH and AS4_AGGREGATOR into attributes with AS numbers of two octets (RFC
-//! 6793, section 4.2.3). The parsers of UPDATEs and of RIB entries call [`merge_as4`] after they
-//! have parsed a list of attributes (`attribute_list.rt`).
+//! The merge of AS4_PATH and AS4_AGGREGATOR, which have AS numbers of four octets, into path
+//! attributes that were sent with AS numbers of two (RFC 6793, section 4.2.3). The parsers of
+//! UPDATEs and of RIB entries call [`merge_as4`] after they have parsed a list of attributes
+//! (`attribute_list.rt`).
 
 ghost use Rattle.std.specs.Prelude.{◌≡◌, List, OnOk, IfErr};
 ghost use Rattle.bgp_paths.specs.declared.numbers.AsWidth.TheVariants.{Two};
@@ -15,13 +16,14 @@ use crate::values::read_as4_aggregator;
 use bgp_paths::{AsPath, AsWidth, WireFault, merge_paths};
 use std::alloc::Global;
 
-/// The AS number that stands for one of four octets where only two are sent (RFC 6793, section 9).
+/// The AS number AS_TRANS, which stands for an AS number of four octets where only two are sent
+/// (RFC 6793, section 9).
 const AS_TRANS: u32 = 23456;
 
-/// Merges the AS4_PATH and the AS4_AGGREGATOR of `later` into the path and the aggregator of
-/// `attrs`, if their AS numbers have two octets, as `width` says (RFC 6793, section 4.2.3). With
-/// four octets, both are ignored. The next hop is unchanged. On error, which is always `Memory`,
-/// the rest of `attrs` is unspecified.
+/// Merges AS4_PATH and AS4_AGGREGATOR, whose octets `later` has if they were sent, into the AS path
+/// and the aggregator of `attrs` (RFC 6793, section 4.2.3). `width` is that of the AS numbers of
+/// AS_PATH: with four octets, nothing is merged. The next hop is unchanged. Fails with `Memory` if
+/// memory allocation fails, and never otherwise; the rest of `attrs` is then unspecified.
 #[inline(always)]
 pub(crate) fn merge_as4(
     alloc: Global,
@@ -43,11 +45,12 @@ pub(crate) fn merge_as4(
     }
 }
 
-/// Merges the AS4_PATH and the AS4_AGGREGATOR of `later` into the path and the aggregator of
-/// `attrs`, whose AS numbers have two octets (RFC 6793, section 4.2.3). One that is absent or
-/// malformed is ignored, and so is AS4_AGGREGATOR without AGGREGATOR. If both aggregators are
-/// present and the AS number of AGGREGATOR isn't AS_TRANS, AS4_PATH is ignored too. The next hop is
-/// unchanged. On error, which is always `Memory`, the rest of `attrs` is unspecified.
+/// Merges AS4_PATH and AS4_AGGREGATOR, whose octets `later` has if they were sent, into the AS path
+/// and the aggregator of `attrs`, whose AS numbers were sent in two octets (RFC 6793, section
+/// 4.2.3). One that is absent or malformed is ignored, and so is AS4_AGGREGATOR without AGGREGATOR.
+/// If both aggregators are present and the AS number of AGGREGATOR isn't AS_TRANS, AS4_PATH is
+/// ignored too. The next hop is unchanged. Fails only with `Memory`; the rest of `attrs` is then
+/// unspecified.
 #[inline(never)]
 fn merge_present_as4(
     alloc: Global,

@@ -1,5 +1,6 @@
-//! A parser of lists of path attributes (RFC 4271, section 4.3). Of each type, the first attribute
-//! counts. The parsers of UPDATEs and of RIB entries call [`read_attribute_list`]; read that function first.
+//! A parser of lists of path attributes (RFC 4271, section 4.3). If a list has several attributes
+//! of one type, the first counts. The parsers of UPDATEs and of RIB entries call
+//! [`read_attribute_list`]; read that function first.
 
 ghost use Rattle.std.specs.Prelude.{◌≡◌, ◌<◌, [], Some, OnOk, OnErr, IfErr};
 ghost use Rattle.bgp_wire.specs.declared.framing.TheConstants.{KINDS};
@@ -22,25 +23,33 @@ use std::alloc::Global;
 /// The octets of a list of path attributes, and the size of the AS numbers in its AS_PATH.
 #[derive(Clone, Copy)]
 pub(crate) struct AttributeOctets<'a> {
+    /// The octets of the list, without the field with their number.
     pub(crate) octets: &'a [u8],
+    /// The size of the AS numbers in AS_PATH.
     pub(crate) width: AsWidth,
 }
 
-/// The values that are parsed after the list, because they depend on other attributes or on the
-/// message: of MP_REACH_NLRI, MP_UNREACH_NLRI, AS4_PATH and AS4_AGGREGATOR. Each is of the first
-/// attribute of its type, or `None` if the list has none.
+/// The values of MP_REACH_NLRI, MP_UNREACH_NLRI, AS4_PATH and AS4_AGGREGATOR in a list of path
+/// attributes, as octets. They are parsed after the list, because that depends on other attributes
+/// or on whether the list is of an UPDATE or a RIB entry. Each is of the first attribute of its
+/// type, or `None` if the list has none.
 #[derive(Clone, Copy, Default)]
 pub(crate) struct DeferredValues<'a> {
+    /// The value of MP_REACH_NLRI, or `None` if it is absent.
     pub(crate) reach: Option<&'a [u8]>,
+    /// The value of MP_UNREACH_NLRI, or `None` if it is absent.
     pub(crate) unreach: Option<&'a [u8]>,
+    /// The value of AS4_PATH, or `None` if it is absent.
     pub(crate) as4_path: Option<&'a [u8]>,
+    /// The value of AS4_AGGREGATOR, or `None` if it is absent.
     pub(crate) as4_aggregator: Option<&'a [u8]>,
 }
 
-/// Parses the value of `framed`, which must be the first attribute of its type, into `attrs`, or
-/// stores its octets in `later`. Values of other types are ignored. Fails with `Malformed` if the
-/// value doesn't have the form of its type, and with `Memory` if memory allocation fails. On error,
-/// `attrs` is unspecified.
+/// Parses the value of the attribute `framed` into `attrs`, or stores its octets in `later` if it
+/// is to be parsed after the list. `width` is the size of the AS numbers in AS_PATH. Attributes of
+/// unknown types are ignored. The caller passes the first attribute of each type only. Fails with
+/// `Malformed` if the value doesn't have the format of its type, and with `Memory` if memory
+/// allocation fails; `attrs` is then unspecified.
 #[inline(always)]
 fn read_attribute<'a>(
     alloc: Global,
@@ -80,9 +89,9 @@ fn read_attribute<'a>(
     Ok(())
 }
 
-/// Clears the path of `attrs` if `types` lacks AS_PATH, and the communities if it lacks
-/// COMMUNITIES. The memory of cleared communities is freed if it has capacity for more than
-/// [`MOST_SPARE`].
+/// Clears the path of `attrs` if AS_PATH isn't in `types`, the types of the attributes that a list
+/// has, and the communities if COMMUNITIES isn't: they are of the list parsed before. The memory of
+/// the communities is freed if it has capacity for more than [`MOST_SPARE`] of them.
 #[inline]
 fn clear_absent_lists(attrs: &mut Attrs, types: &SeenTypes)
     ensures { AreCleared types.now attrs.old attrs.new }
@@ -98,7 +107,7 @@ fn clear_absent_lists(attrs: &mut Attrs, types: &SeenTypes)
     }
 }
 
-/// Clears the communities and frees their memory.
+/// Removes all communities and frees their memory.
 #[inline(never)]
 fn free_communities(communities: &mut Communities)
     ensures { communities.new ≡ [] }
@@ -107,11 +116,12 @@ fn free_communities(communities: &mut Communities)
     communities.items = Vec::new(*communities.items.allocator());
 }
 
-/// Parses the list `sent` into `attrs`, whose memory is reused, and into `later` and `types`, which
-/// must be empty before. Attributes that the list doesn't have become `None`, false or empty. Fails
-/// with `Malformed` if `sent` isn't a list of attributes or if a value doesn't have the form of its
-/// type, and with `Memory` if memory allocation fails. On error, `attrs`, `later` and `types` are
-/// unspecified.
+/// Parses the list of path attributes `sent` into `attrs`, whose memory is reused. Attributes that
+/// the list doesn't have become `None`, false or empty. Puts the octets of values that are to be
+/// parsed later into `later`, and the types of all attributes into `types`. Requires that `later`
+/// and `types` are empty. Fails with `Malformed` if `sent` isn't a list of attributes or if a value
+/// doesn't have the format of its type, and with `Memory` if memory allocation fails; all three are
+/// then unspecified.
 #[inline(always)]
 pub(crate) fn read_attribute_list<'a>(
     alloc: Global,

@@ -6,7 +6,8 @@ ghost use Rattle.bgp_paths.specs.declared.fault.WireFault.TheVariants.{Malformed
 
 use bgp_paths::WireFault;
 
-/// An error of a parser: the octets don't have the form of the value that was to be parsed.
+/// The error of a parser that allocates no memory: the octets don't have the format of the value
+/// that was to be parsed. It becomes [`WireFault::Malformed`].
 #[derive(Clone, Copy)]
 pub(crate) struct IllFormed;
 

@@ -17,27 +17,28 @@ ghost use Rattle.bgp_wire.specs.Attribute.{SpellsAttribute};
 ghost use Rattle.bgp_wire.specs.Content.{SpellsRibAttrs};
 ghost use Rattle.bgp_wire.specs.Update.{SpellsMessage, SpellsUpdate};
 
-/// States that octets encode at most one list of path attributes (RFC 4271, section 4.3).
+/// States that octets decode as at most one list of path attributes (RFC 4271, section 4.3), so
+/// that there is one right result of parsing them.
 pub fn law_octets_have_one_attribute_list()
     ensures { IsUnambiguous (SpellsAll SpellsAttribute) }
 {}
 
-/// States that octets encode the attributes of at most one RIB entry, for a given family and size
-/// of AS numbers (RFC 6396, section 4.3.4).
+/// States that octets decode as the path attributes of at most one RIB entry, for a given family of
+/// its prefix and a given size of AS numbers (RFC 6396, section 4.3.4).
 pub fn law_octets_have_one_rib_entry()
     ensures { (family : Family) (width : AsWidth) → IsUnambiguous (SpellsRibAttrs family width) }
 {}
 
-/// States that octets encode at most one message, and at most one body of an UPDATE, for a given
-/// size of AS numbers (RFC 4271, sections 4.1 and 4.3).
+/// States that octets decode as at most one BGP message, and as at most one body of an UPDATE, for
+/// a given size of AS numbers (RFC 4271, sections 4.1 and 4.3).
 pub fn law_octets_have_one_message()
     ensures message { (width : AsWidth) → IsUnambiguous (SpellsMessage width) }
     ensures update { (width : AsWidth) → IsUnambiguous (SpellsUpdate width) }
 {}
 
-/// States the values of the constants that the definitions name: of attributes (RFC 4271, section
-/// 4.3; RFC 4760; RFC 6793), of messages (RFC 4271, section 4.1) and of address families (RFC
-/// 4760).
+/// States the values of constants that the theorems and contracts use by name: of attributes, as
+/// the types and the flag (RFC 4271, section 4.3; RFC 4760; RFC 6793), of messages, as the size of
+/// the header and the type of UPDATE (RFC 4271, section 4.1), and of address families (RFC 4760).
 pub fn law_attribute_constants()
     ensures extended_length { EXTENDED_LENGTH ≡ 16 }
     ensures kinds { KINDS ≡ 19 }

@@ -10,7 +10,8 @@ use byteorder::{BigEndian, ByteOrder};
 /// attributes have one octet instead.
 pub(crate) const LENGTH_SIZE: usize = 2;
 
-/// Parses `octets`, which must be two, as a big-endian length.
+/// Parses `octets` as a length field: a 16-bit number in big-endian order. Requires that `octets`
+/// has exactly two octets.
 #[inline]
 pub(crate) fn read_length(octets: &[u8]) -> usize
     requires { length octets.now ≡ LENGTH_SIZE }

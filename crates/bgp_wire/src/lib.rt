@@ -1,7 +1,7 @@
-//! Parsers of BGP messages (RFC 4271, section 4) and of the path attributes of RIB entries (RFC
-//! 6396, section 4.3.4). Parsers of MRT records call [`read_message_into`] and [`read_rib_attrs_into`].
-//! Read `attrs.rt` and `parts.rt` first, for what is parsed, then `attribute_list.rt`, which parses
-//! a list of attributes, then `update.rt` and `rib_entry.rt`.
+//! Parsers of BGP messages (RFC 4271, section 4) and of the path attributes of RIB entries in MRT
+//! records (RFC 6396, section 4.3.4). Parsers of MRT records call [`read_message_into`] and
+//! [`read_rib_attrs_into`]. Read `attrs.rt` and `parts.rt` first, for what is parsed, then
+//! `attribute_list.rt`, which parses a list of attributes, then `update.rt` and `rib_entry.rt`.
 #![tactic(auto)]
 
 mod as4;

@@ -13,35 +13,39 @@ use crate::update::fill_update;
 use bgp_paths::{AsWidth, WireFault};
 use std::alloc::Global;
 
-/// A BGP message (RFC 4271, section 4).
+/// A parsed BGP message (RFC 4271, section 4): an UPDATE, or the type of another.
 #[derive(Debug, Drop)]
 pub enum Message {
-    /// An UPDATE message.
+    /// An UPDATE message: prefixes that are withdrawn or announced, and path attributes.
     Update(Update),
-    /// A message of another type, with the type's number. Its body isn't parsed.
+    /// A message of another type (OPEN, KEEPALIVE, NOTIFICATION and so on), with the type's number.
+    /// Its body isn't parsed.
     Other(u8),
 }
 
-/// The message type of an UPDATE (RFC 4271, section 4.1).
+/// The number of the message type UPDATE (RFC 4271, section 4.1).
 const UPDATE: u8 = 2;
 
 /// The size of a message header, in octets: the marker, the length and the type (RFC 4271, section
 /// 4.1).
 const HEADER_SIZE: usize = 19;
 
-/// The size of the marker, in octets (RFC 4271, section 4.1).
+/// The size of the marker with which a message begins, in octets (RFC 4271, section 4.1).
 const MARKER_SIZE: usize = 16;
 
-/// A message split into its type and its body, which isn't parsed.
+/// A message split into the number of its type (`kind`) and its body, the octets after the header,
+/// which aren't parsed.
 #[derive(Clone, Copy)]
 struct TypeAndBody<'a> {
+    /// The type of the message, by its number.
     kind: u8,
+    /// The octets after the header.
     body: &'a [u8],
 }
 
 /// Splits the message `octets` into its type and its body (RFC 4271, section 4.1). Returns `None`
-/// if `octets` is shorter than a header, or if its length isn't the one in the header. The marker
-/// isn't checked.
+/// if `octets` is shorter than a header, or if its number of octets isn't the length in the header.
+/// The marker isn't checked, nor whether the type is known.
 fn split_message(octets: &[u8]) -> Option<TypeAndBody<'_>>
     ensures some { IfSome result (λ f. IsMessage f.kind f.body.now octets.now) }
     ensures none { IfNone result ((kind : ℕ) (body : List ℕ) →
@@ -59,9 +63,10 @@ fn split_message(octets: &[u8]) -> Option<TypeAndBody<'_>>
     Some(TypeAndBody { kind, body })
 }
 
-/// Parses `octets` as a message, with AS numbers of `width` in AS_PATH. Fails with `Malformed` if
-/// `octets` isn't one message of the length in its header, or if it is an UPDATE whose body is
-/// malformed, and with `Memory` if memory allocation fails. The marker isn't checked.
+/// Parses `octets` as one BGP message. `width` is the size of the AS numbers in its AS_PATH. Fails
+/// with `Malformed` if the length in the header isn't the number of `octets`, or if it is an UPDATE
+/// whose body is malformed, and with `Memory` if memory allocation fails. The marker isn't checked.
+/// [`read_message_into`] reuses memory instead.
 pub fn read_message(alloc: Global, width: AsWidth, octets: &[u8]) -> Result<Message, WireFault>
     ensures { ParsesOrFails (SpellsMessage width) octets.now result }
 {
@@ -72,9 +77,11 @@ pub fn read_message(alloc: Global, width: AsWidth, octets: &[u8]) -> Result<Mess
     }
 }
 
-/// Parses `octets` as a message, with AS numbers of `width` in AS_PATH, and returns its kind. Sets
-/// `parts` to an UPDATE; a message of another type leaves them unchanged. Fails as [`read_message`]
-/// does. On error, `parts` is unspecified.
+/// Parses `octets` as one BGP message, and returns whether it is an UPDATE. `width` is the size of
+/// the AS numbers in AS_PATH. An UPDATE replaces `parts`, reusing their memory; a message of
+/// another type leaves them unchanged. Fails with `Malformed` if the length in the header isn't the
+/// number of `octets` or if the UPDATE is malformed, and with `Memory` if memory allocation fails;
+/// `parts` is then unspecified.
 #[inline]
 fn fill_message(
     alloc: Global,
@@ -97,9 +104,11 @@ fn fill_message(
     Ok(MessageKind::Update)
 }
 
-/// Parses `octets` as a message, with AS numbers of `width` in AS_PATH, and returns its kind. Sets
-/// `parts` to an UPDATE, reusing their memory; a message of another type leaves them unchanged.
-/// Fails as [`read_message`] does. On error, `parts` is empty.
+/// Parses `octets` as one BGP message, and returns whether it is an UPDATE. `width` is the size of
+/// the AS numbers in AS_PATH. An UPDATE replaces `parts`, reusing their memory; a message of
+/// another type leaves them unchanged. Fails with `Malformed` if the length in the header isn't the
+/// number of `octets` or if the UPDATE is malformed, and with `Memory` if memory allocation fails;
+/// `parts` is then empty, without memory.
 pub fn read_message_into(
     alloc: Global,
     parts: &mut UpdateParts,

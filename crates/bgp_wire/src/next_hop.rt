@@ -1,6 +1,6 @@
 //! Parsers of the next hop in MP_REACH_NLRI (RFC 4760, section 3; RFC 2545, section 3). The parser
-//! of RIB entries calls [`set_rib_next_hop`], and the parser of UPDATEs [`read_next_hop`]; read that
-//! function first.
+//! of RIB entries calls [`set_rib_next_hop`], and the parser of UPDATEs [`read_next_hop`]; read
+//! that function first.
 
 ghost use Rattle.std.specs.Prelude.{◌≡◌, if◌then◌else◌, Option, Some, length, OnOk, OnErr};
 ghost use Rattle.ip_prefix.specs.Network.{Address};
@@ -14,10 +14,10 @@ use crate::ill_formed::IllFormed;
 use crate::values::{IPV4_SIZE, ipv4_addr};
 use ip_prefix::{Addr, Family};
 
-/// The size of an AFI and a SAFI, in octets (RFC 4760, section 3).
+/// The size of an AFI and a SAFI together, in octets: two and one (RFC 4760, section 3).
 pub(crate) const FAMILY_SIZE: usize = 3;
 
-/// The size of an IPv6 address, in octets (RFC 4291, section 2).
+/// The size of an IPv6 address, and of a next hop that is one, in octets (RFC 4291, section 2).
 const IPV6_SIZE: usize = 16;
 
 /// The size of the link-local address after an IPv6 next hop, in octets (RFC 2545, section 3).
@@ -27,9 +27,9 @@ const LINK_LOCAL_SIZE: usize = 16;
 /// 3).
 const BOTH_SIZE: usize = 32;
 
-/// Parses `octets` as a next hop: an IPv4 address of 4 octets, an IPv6 address of 16, or an IPv6
-/// address and a link-local one of 32, of which the second is ignored (RFC 4760, section 3; RFC
-/// 2545, section 3). Returns `None` for other lengths.
+/// Parses `octets` as a next hop without its length (RFC 4760, section 3; RFC 2545, section 3): 4
+/// octets are an IPv4 address, 16 an IPv6 address, and 32 an IPv6 address and a link-local one,
+/// which is ignored. Returns `None` if `octets` has another length.
 pub(crate) fn read_next_hop(octets: &[u8]) -> Option<Addr>
     ensures { ParsesTo SpellsNextHop octets.now result }
 {
@@ -45,8 +45,8 @@ pub(crate) fn read_next_hop(octets: &[u8]) -> Option<Addr>
 }
 
 /// Parses the next hop at the start of `octets`: its length, of one octet, and then the address.
-/// Octets after it are ignored. Returns `None` if `octets` ends inside the next hop, or if no next
-/// hop has that length.
+/// Octets after it are ignored. Returns `None` if `octets` ends before or inside the next hop, or
+/// if its length isn't 4, 16 or 32.
 fn read_sized_next_hop(octets: &[u8]) -> Option<Addr>
     ensures { ParsesTo SpellsSizedHop octets.now result }
 {
@@ -55,8 +55,10 @@ fn read_sized_next_hop(octets: &[u8]) -> Option<Addr>
     read_next_hop(hop)
 }
 
-/// Parses the next hop in the value of MP_REACH_NLRI of a RIB entry, which has the next hop alone,
-/// or is in full (RFC 6396, section 4.3.4). Returns `None` if `octets` has neither form.
+/// Parses the next hop in `octets`, the value of MP_REACH_NLRI of a RIB entry. The value has the
+/// length and the next hop alone, or is as in an UPDATE, where an AFI and a SAFI come first (RFC
+/// 6396, section 4.3.4). Octets after the next hop are ignored. Returns `None` if `octets` has
+/// neither format.
 fn read_rib_next_hop(octets: &[u8]) -> Option<Addr>
     ensures { ParsesTo SpellsRibHop octets.now result }
 {
@@ -70,10 +72,11 @@ fn read_rib_next_hop(octets: &[u8]) -> Option<Addr>
     read_sized_next_hop(rest)
 }
 
-/// Sets `hop`, which is the next hop of NEXT_HOP, to the next hop of a RIB entry for a prefix of
-/// `family`. That is the next hop in `value`, the value of MP_REACH_NLRI, if the family is IPv6 or
-/// `hop` is `None`; else, or if `value` is `None`, `hop` is unchanged (RFC 6396, section 4.3.4).
-/// Fails if `value` is malformed, and then leaves `hop` unchanged.
+/// Chooses the next hop of a RIB entry for a prefix of `family` (RFC 6396, section 4.3.4). `hop` is
+/// that of NEXT_HOP before, and `value` is the value of MP_REACH_NLRI, or `None` if that is absent.
+/// If the family is IPv6 or `hop` is `None`, `hop` becomes the next hop in `value`; otherwise, or
+/// if `value` is `None`, it is unchanged. Fails if `value` is malformed, be its next hop needed or
+/// not; `hop` is then unchanged.
 #[inline(always)]
 pub(crate) fn set_rib_next_hop(
     family: Family,

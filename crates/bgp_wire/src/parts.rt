@@ -1,4 +1,4 @@
-//! A parsed UPDATE (RFC 4271, section 4.3), in two forms. Messages are parsed into [`UpdateParts`],
+//! A parsed UPDATE (RFC 4271, section 4.3), in two types. Messages are parsed into [`UpdateParts`],
 //! whose memory is reused for the next message; [`Update`] is for a caller that keeps it.
 
 ghost use Rattle.std.specs.Prelude.{◌≡◌, IfOk};
@@ -10,56 +10,69 @@ use crate::prefixes::Prefixes;
 use ip_prefix::Addr;
 use std::alloc::{AllocError, Global};
 
-/// An UPDATE message: the prefixes that a peer withdraws and those that it announces (RFC 4271,
-/// section 4.3).
+/// An UPDATE message: the prefixes that a peer withdraws, those that it announces, and the path
+/// attributes of the latter (RFC 4271, section 4.3; RFC 4760). The attributes of the prefixes in
+/// its NLRI field and of those in MP_REACH_NLRI are in two fields, since the next hops differ.
 #[derive(Debug, Drop)]
 pub struct Update {
-    /// The prefixes in the Withdrawn Routes field, which are of IPv4 (RFC 4271, section 4.3).
+    /// The IPv4 prefixes in the Withdrawn Routes field (RFC 4271, section 4.3).
     pub withdrawn: Prefixes,
-    /// The prefixes that MP_UNREACH_NLRI withdraws (RFC 4760, section 4).
+    /// The IPv4 or IPv6 unicast prefixes that MP_UNREACH_NLRI withdraws (RFC 4760, section 4).
+    /// Empty if that attribute is absent or for another address family.
     pub mp_withdrawn: Prefixes,
-    /// The attributes of the prefixes in `announced`, with the next hop of NEXT_HOP.
+    /// The path attributes of the prefixes in `announced`, with the next hop of NEXT_HOP. They are
+    /// there even if no prefix is announced.
     pub attrs: Attrs,
-    /// The prefixes in the Network Layer Reachability Information field, which are of IPv4 (RFC
-    /// 4271, section 4.3).
+    /// The IPv4 prefixes in the Network Layer Reachability Information (NLRI) field, which are
+    /// announced (RFC 4271, section 4.3).
     pub announced: Prefixes,
-    /// The attributes of the prefixes in `mp_announced`, which are `attrs` with the next hop of
-    /// MP_REACH_NLRI, or `None` if there are no such prefixes.
+    /// The path attributes of the prefixes in `mp_announced`: `attrs` with the next hop of
+    /// MP_REACH_NLRI. `None` if `mp_announced` is empty.
     pub mp_attrs: Option<Attrs>,
-    /// The prefixes that MP_REACH_NLRI announces (RFC 4760, section 3).
+    /// The IPv4 or IPv6 unicast prefixes that MP_REACH_NLRI announces (RFC 4760, section 3). Empty
+    /// if that attribute is absent or for another address family.
     pub mp_announced: Prefixes,
 }
 
-/// An UPDATE message whose memory can be reused. It has no copy of the attributes for the prefixes
-/// that MP_REACH_NLRI announces: they are `attrs` with `mp_hop` as the next hop.
+/// An UPDATE message into which the next one can be parsed, reusing its memory. It has no second
+/// copy of the path attributes for the prefixes that MP_REACH_NLRI announces: those are `attrs`
+/// with `mp_hop` as the next hop. [`UpdateParts::into_update`] makes that copy.
 #[derive(Debug, Drop)]
 pub struct UpdateParts {
-    /// The prefixes in the Withdrawn Routes field, which are of IPv4 (RFC 4271, section 4.3).
+    /// The IPv4 prefixes in the Withdrawn Routes field (RFC 4271, section 4.3).
     pub withdrawn: Prefixes,
-    /// The prefixes that MP_UNREACH_NLRI withdraws (RFC 4760, section 4).
+    /// The IPv4 or IPv6 unicast prefixes that MP_UNREACH_NLRI withdraws (RFC 4760, section 4).
+    /// Empty if that attribute is absent or for another address family.
     pub mp_withdrawn: Prefixes,
-    /// The attributes of the prefixes in `announced`, with the next hop of NEXT_HOP.
+    /// The path attributes of the prefixes in `announced`, with the next hop of NEXT_HOP. They are
+    /// there even if no prefix is announced.
     pub attrs: Attrs,
-    /// The prefixes in the Network Layer Reachability Information field, which are of IPv4 (RFC
-    /// 4271, section 4.3).
+    /// The IPv4 prefixes in the Network Layer Reachability Information (NLRI) field, which are
+    /// announced (RFC 4271, section 4.3).
     pub announced: Prefixes,
-    /// The next hop of MP_REACH_NLRI, or `None` if it is absent or isn't of IPv4 or IPv6 unicast.
+    /// The next hop of MP_REACH_NLRI, or `None` if that attribute is absent or is for an address
+    /// family other than IPv4 and IPv6 unicast.
     pub mp_hop: Option<Addr>,
-    /// The prefixes that MP_REACH_NLRI announces (RFC 4760, section 3).
+    /// The IPv4 or IPv6 unicast prefixes that MP_REACH_NLRI announces (RFC 4760, section 3). Empty
+    /// if that attribute is absent or for another address family.
     pub mp_announced: Prefixes,
 }
 
-/// The kind of a message that was parsed into [`UpdateParts`].
+/// Whether a message is an UPDATE or of another type (OPEN, KEEPALIVE, NOTIFICATION and so on).
+/// [`read_message_into`](crate::read_message_into) returns it, since it parses UPDATEs alone, into
+/// [`UpdateParts`].
 #[derive(Clone, Copy, Debug)]
 pub enum MessageKind {
-    /// An UPDATE, which is in the parts.
+    /// An UPDATE, which was parsed into the [`UpdateParts`].
     Update,
-    /// A message of another type, with the type's number.
+    /// A message of another type, with the number of its type (RFC 4271, section 4.1). Its body
+    /// wasn't parsed, and the [`UpdateParts`] are as they were.
     Other(u8),
 }
 
 impl UpdateParts {
-    /// Returns an UPDATE without prefixes and attributes, without allocating memory.
+    /// Returns an UPDATE without prefixes and path attributes, without allocating memory. Messages
+    /// can be parsed into it.
     pub fn empty(alloc: Global) -> UpdateParts
         ensures { result ≡ empty_parts }
     {
@@ -73,8 +86,8 @@ impl UpdateParts {
         }
     }
 
-    /// Converts the parts into an [`Update`]. If `mp_announced` has prefixes, the attributes are
-    /// copied for them, which fails if memory allocation fails.
+    /// Converts the parts into an [`Update`]. If `mp_announced` has prefixes, the path attributes
+    /// are copied for them; if memory allocation for that fails, returns `AllocError`.
     pub fn into_update(self) -> Result<Update, AllocError>
         ensures { IfOk result (λ update. update ≡ update_of_parts self) }
     {

@@ -9,13 +9,15 @@ ghost use Rattle.bgp_paths.specs.Readers.{Refuses};
 use bgp_paths::{ListOf, WireFault};
 use ip_prefix::{Family, Prefix};
 
-/// The prefixes that a field of a message announces or withdraws.
+/// The IP prefixes that a field of a message announces or withdraws, in the order in which they are
+/// sent.
 pub type Prefixes = ListOf<Prefix>;
 
-/// Parses `octets` as prefixes of `family`, one after the other (RFC 4271, section 4.3), and
-/// replaces `prefixes` with them. Fails with `Malformed` if `octets` ends inside a prefix or if a
-/// length is more than 32 or 128 bits, and with `Memory` if memory allocation fails. On error,
-/// `prefixes` is unspecified.
+/// Parses `octets` as prefixes of `family`, one after the other, each a length in bits and as few
+/// octets as hold them (RFC 4271, section 4.3), and replaces `prefixes` with them. Empty `octets`
+/// are no prefixes. Fails with `Malformed` if `octets` ends inside a prefix or if a length is more
+/// than 32 (IPv4) or 128 (IPv6) bits, and with `Memory` if memory allocation fails; `prefixes` is
+/// then unspecified.
 #[inline(always)]
 pub(crate) fn fill_prefixes(
     prefixes: &mut Prefixes,
@@ -32,7 +34,10 @@ pub(crate) fn fill_prefixes(
     fill_nonempty_prefixes(prefixes, family, octets)
 }
 
-/// Parses `octets` as [`fill_prefixes`] does, out of line.
+/// Parses `octets` as prefixes of `family`, one after the other (RFC 4271, section 4.3), and
+/// replaces `prefixes` with them. It is the part of [`fill_prefixes`] that isn't inlined. Fails
+/// with `Malformed` if `octets` ends inside a prefix or if a length is too great, and with `Memory`
+/// if memory allocation fails; `prefixes` is then unspecified.
 #[inline(never)]
 fn fill_nonempty_prefixes(
     prefixes: &mut Prefixes,

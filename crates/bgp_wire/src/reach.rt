@@ -17,21 +17,21 @@ use ip_prefix::{Addr, Family};
 const AFI_IPV4: u8 = 1;
 /// The AFI of IPv6, which is sent in two octets (RFC 4760, section 3).
 const AFI_IPV6: u8 = 2;
-/// The SAFI of unicast (RFC 4760, section 6).
+/// The SAFI of prefixes for unicast forwarding (RFC 4760, section 6).
 const SAFI_UNICAST: u8 = 1;
 
-/// The AFI and the SAFI at the start of the value of MP_REACH_NLRI or MP_UNREACH_NLRI (RFC 4760,
-/// sections 3 and 4).
+/// Whether the AFI and the SAFI at the start of the value of MP_REACH_NLRI or MP_UNREACH_NLRI are
+/// those of IPv4 or IPv6 unicast, the only ones that are parsed (RFC 4760, sections 3 and 4).
 #[derive(Clone, Copy)]
 enum AfiSafi<'a> {
-    /// Unicast of IPv4 or IPv6, and the octets after the SAFI.
+    /// Unicast of IPv4 or IPv6, and the octets of the value after the SAFI.
     Unicast(Family, &'a [u8]),
-    /// Another AFI, or another SAFI.
+    /// Another AFI, or another SAFI. The rest of the value isn't parsed.
     Another,
 }
 
-/// Parses the AFI, of two octets, and the SAFI, of one, at the start of `octets` (RFC 4760,
-/// sections 3 and 4). Returns `None` if `octets` has fewer than three octets.
+/// Parses the AFI, of two octets, big-endian, and the SAFI, of one, at the start of `octets` (RFC
+/// 4760, sections 3 and 4). Returns `None` if `octets` has fewer than three octets.
 fn read_afi_safi(octets: &[u8]) -> Option<AfiSafi<'_>>
     ensures { IsAfiSafiOf octets.now result }
 {
@@ -43,16 +43,19 @@ fn read_afi_safi(octets: &[u8]) -> Option<AfiSafi<'_>>
     }
 }
 
-/// A next hop at the start of a slice, and the octets after the reserved octet that follows it.
+/// The start of a slice split into parts: a next hop, and the octets after the reserved octet that
+/// follows it.
 #[derive(Clone, Copy)]
 struct NextHopAndRest<'a> {
+    /// The next hop; a link-local address after it is dropped.
     hop: Addr,
+    /// The octets after the reserved octet: the prefixes.
     rest: &'a [u8],
 }
 
 /// Splits a next hop off the start of `octets`: its length, of one octet, its address, and a
 /// reserved octet, which is ignored (RFC 4760, section 3). Returns `None` if `octets` ends before
-/// the reserved octet, or if no next hop has that length.
+/// the reserved octet is there, or if the length isn't 4, 16 or 32.
 fn split_next_hop(octets: &[u8]) -> Option<NextHopAndRest<'_>>
     ensures some { IfSome result (λ f. BeginsWithHop f.hop f.rest.now octets.now) }
     ensures none { IfNone result ((hop : Address) (rest : List ℕ) →
@@ -69,10 +72,10 @@ fn split_next_hop(octets: &[u8]) -> Option<NextHopAndRest<'_>>
     Some(NextHopAndRest { hop, rest })
 }
 
-/// Parses `value`, the value of MP_REACH_NLRI, into `next_hop` and `prefixes` (RFC 4760, section
-/// 3). If it is absent or isn't of IPv4 or IPv6 unicast, they become `None` and empty. Fails with
-/// `Malformed` if the value has another form, and with `Memory` if memory allocation fails. On
-/// error, both are unspecified.
+/// Parses `value`, the value of MP_REACH_NLRI in an UPDATE (RFC 4760, section 3), into `next_hop`
+/// and `prefixes`. If it is `None`, since the attribute is absent, or isn't of IPv4 or IPv6
+/// unicast, they become `None` and empty. Fails with `Malformed` if the value has another format,
+/// and with `Memory` if memory allocation fails; both are then unspecified.
 pub(crate) fn fill_mp_reach(
     next_hop: &mut Option<Addr>,
     prefixes: &mut Prefixes,
@@ -100,10 +103,10 @@ pub(crate) fn fill_mp_reach(
     }
 }
 
-/// Parses `value`, the value of MP_UNREACH_NLRI, into `prefixes` (RFC 4760, section 4). If it is
-/// absent or isn't of IPv4 or IPv6 unicast, they become empty. Fails with `Malformed` if the value
-/// has another form, and with `Memory` if memory allocation fails. On error, `prefixes` is
-/// unspecified.
+/// Parses `value`, the value of MP_UNREACH_NLRI in an UPDATE (RFC 4760, section 4), into
+/// `prefixes`. If it is `None`, since the attribute is absent, or isn't of IPv4 or IPv6 unicast,
+/// they become empty. Fails with `Malformed` if the value has another format, and with `Memory` if
+/// memory allocation fails; `prefixes` is then unspecified.
 pub(crate) fn fill_mp_unreach(
     prefixes: &mut Prefixes,
     value: Option<&[u8]>,

@@ -17,8 +17,9 @@ use ip_prefix::Family;
 use std::alloc::Global;
 
 /// Parses `octets` as the path attributes of a RIB entry for a prefix of `family` into `attrs`,
-/// with AS numbers of `width` in AS_PATH (RFC 6396, section 4.3.4). The memory of `attrs` is
-/// reused. Fails as [`read_rib_attrs`] does. On error, `attrs` is unspecified.
+/// whose memory is reused (RFC 6396, section 4.3.4). `width` is the size of the AS numbers in
+/// AS_PATH. Fails with `Malformed` or `Memory` for the reasons that [`read_rib_attrs`] names;
+/// `attrs` is then unspecified.
 #[inline]
 fn fill_rib_attrs(
     alloc: Global,
@@ -42,11 +43,11 @@ fn fill_rib_attrs(
     Ok(())
 }
 
-/// Parses `octets` as the path attributes of a RIB entry for a prefix of `family`, with AS numbers
-/// of `width` in AS_PATH (RFC 6396, section 4.3.4). Fails with `Malformed` if `octets` isn't a list
-/// of attributes, if the first value of a type doesn't have the form of the type (but AS4_PATH and
-/// AS4_AGGREGATOR are then ignored), or if MP_REACH_NLRI is there twice. Fails with `Memory` if
-/// memory allocation fails.
+/// Parses `octets` as the path attributes of a RIB entry for a prefix of `family` (RFC 6396,
+/// section 4.3.4). `width` is the size of the AS numbers in AS_PATH. Fails with `Malformed` if
+/// `octets` isn't a list of attributes, if the first value of a type doesn't have the format of the
+/// type (but AS4_PATH and AS4_AGGREGATOR are then ignored), or if MP_REACH_NLRI is there twice.
+/// Fails with `Memory` if memory allocation fails.
 pub fn read_rib_attrs(
     alloc: Global,
     family: Family,
@@ -61,8 +62,9 @@ pub fn read_rib_attrs(
 }
 
 /// Parses `octets` as the path attributes of a RIB entry for a prefix of `family` into `attrs`,
-/// with AS numbers of `width` in AS_PATH (RFC 6396, section 4.3.4). The memory of `attrs` is
-/// reused. Fails as [`read_rib_attrs`] does. On error, all attributes are absent.
+/// whose memory is reused (RFC 6396, section 4.3.4). `width` is the size of the AS numbers in
+/// AS_PATH. Fails with `Malformed` or `Memory` for the reasons that [`read_rib_attrs`] names; all
+/// attributes of `attrs` are then absent.
 pub fn read_rib_attrs_into(
     alloc: Global,
     attrs: &mut Attrs,

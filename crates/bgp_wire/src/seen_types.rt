@@ -1,5 +1,6 @@
-//! The set of the types of attributes that a list has. The parser of lists (`attribute_list.rt`)
-//! fills it, and the parsers of UPDATEs and of RIB entries ask it for types that are there twice.
+//! The set of the types of path attributes that a list has, and of those that it has more than
+//! once. The parser of lists (`attribute_list.rt`) fills it, and the parsers of UPDATEs and of RIB
+//! entries ask it for types that are there twice.
 
 ghost use Rattle.std.specs.Prelude.{◌≡◌, ◌<◌, List, [], ◌∷◌, ◌++◌, true, false, None, is_some};
 ghost use Rattle.bgp_wire.specs.Attribute.{Attribute, first_value, repeats};
@@ -8,11 +9,13 @@ ghost use Rattle.bgp_wire.specs.PlainValues.{AreTypesOf};
 use crate::framing::KINDS;
 use std::marker::Model;
 
-/// The types of attributes that were seen in a list, and those that were seen more than once. Only
-/// types below [`KINDS`] are kept.
+/// Which types of path attributes a list has, and which of them it has more than once. Types of
+/// [`KINDS`] and above are ignored: they are never in the set.
 #[derive(Drop)]
 pub(crate) struct SeenTypes {
+    /// For each type, by its number, `true` if an attribute of the type was seen.
     seen: [bool; KINDS],
+    /// For each type, by its number, `true` if more than one attribute of the type was seen.
     again: [bool; KINDS],
 }
 
@@ -29,7 +32,7 @@ impl Model for SeenTypes {
 }
 
 impl SeenTypes {
-    /// Returns an empty set.
+    /// Returns a set for a list of which no attribute has been seen: no type is in it.
     #[inline]
     pub(crate) fn empty() -> SeenTypes
         ensures { AreTypesOf result [] }
@@ -41,8 +44,8 @@ impl SeenTypes {
     }
 
     /// Adds `kind`, the type of the next attribute of the list. Returns `true` if an attribute of
-    /// this type was seen before. A type that isn't below [`KINDS`] isn't added, and `false` is
-    /// returned.
+    /// this type was seen before, which is then noted as repeated; returns `false` if it is the
+    /// first, or if `kind` isn't below [`KINDS`], so that it isn't added.
     #[inline]
     pub(crate) fn test_and_set(&mut self, kind: u8) -> bool
         ensures noted { (list : List Attribute) (a : Attribute) → a.kind ≡ kind →
@@ -64,7 +67,8 @@ impl SeenTypes {
         false
     }
 
-    /// Returns `true` if an attribute of type `kind` was seen. `kind` must be below [`KINDS`].
+    /// Returns `true` if at least one attribute of type `kind` was added, `false` if none was.
+    /// Requires that `kind` is below [`KINDS`].
     #[inline]
     pub(crate) fn has(&self, kind: u8) -> bool
         requires { kind < KINDS }
@@ -74,8 +78,8 @@ impl SeenTypes {
         self.seen[usize::from(kind)]
     }
 
-    /// Returns `true` if more than one attribute of type `kind` was seen. `kind` must be below
-    /// [`KINDS`].
+    /// Returns `true` if two or more attributes of type `kind` were added, `false` if one or none
+    /// was. Requires that `kind` is below [`KINDS`].
     #[inline]
     pub(crate) fn repeats(&self, kind: u8) -> bool
         requires { kind < KINDS }

@@ -20,7 +20,7 @@ use std::alloc::Global;
 
 /// Splits a field off the start of `octets` that begins with its length, of two octets, big-endian.
 /// Returns the octets of the field after its length, and the octets after the field. Returns `None`
-/// if `octets` ends inside the field.
+/// if `octets` ends before or inside the field.
 fn split_length_prefixed(octets: &[u8]) -> Option<(&[u8], &[u8])>
     ensures some { IfSome result (λ found. (length found.0.now < 2 ^ 16)
         × (octets.now ≡ with_u16_length found.0.now ++ found.1.now)) }
@@ -34,12 +34,12 @@ fn split_length_prefixed(octets: &[u8]) -> Option<(&[u8], &[u8])>
     rest.split_at_checked(read_length(len))
 }
 
-/// Parses `octets` as the path attributes of an UPDATE into `parts`: its attributes, with AS
-/// numbers of `width` in AS_PATH, and the prefixes of MP_REACH_NLRI and MP_UNREACH_NLRI. The other
-/// two lists of prefixes are unchanged. Fails with `Malformed` if `octets` isn't a list of
-/// attributes, if the first value of a type doesn't have the form of the type (but AS4_PATH and
-/// AS4_AGGREGATOR are then ignored), or if MP_REACH_NLRI or MP_UNREACH_NLRI is there twice, and
-/// with `Memory` if memory allocation fails. On error, `parts` is unspecified.
+/// Parses `octets`, the path attributes of an UPDATE, into `parts`: the attributes themselves, and
+/// the prefixes of MP_REACH_NLRI and MP_UNREACH_NLRI. The prefixes of the message's other fields
+/// are unchanged. `width` is the size of the AS numbers in AS_PATH. Fails with `Malformed` if
+/// `octets` isn't a list of attributes, if the first value of a type doesn't have the format of the
+/// type (but AS4_PATH and AS4_AGGREGATOR are then ignored), or if MP_REACH_NLRI or MP_UNREACH_NLRI
+/// is there twice, and with `Memory` if memory allocation fails; `parts` is then unspecified.
 #[inline]
 fn fill_from_attributes(
     alloc: Global,
@@ -63,10 +63,11 @@ fn fill_from_attributes(
     Ok(())
 }
 
-/// Parses `body` as the body of an UPDATE into `parts`, with AS numbers of `width` in AS_PATH (RFC
-/// 4271, section 4.3). Fails with `Malformed` if `body` isn't two fields with lengths and prefixes,
-/// or if the attributes or the prefixes are malformed, and with `Memory` if memory allocation
-/// fails. On error, `parts` is unspecified.
+/// Parses `body`, the body of an UPDATE, into `parts`, whose memory is reused (RFC 4271, section
+/// 4.3). `width` is the size of the AS numbers in AS_PATH. Fails with `Malformed` if `body` isn't
+/// two fields with lengths (withdrawn routes and path attributes) and prefixes, or if these or the
+/// attributes are malformed, and with `Memory` if memory allocation fails; `parts` is then
+/// unspecified.
 #[inline]
 pub(crate) fn fill_update(
     alloc: Global,

@@ -1,4 +1,4 @@
-//! Parsers of the values of path attributes, one for each form (RFC 4271, section 4.3; RFC 6793,
+//! Parsers of the values of path attributes, one for each format (RFC 4271, section 4.3; RFC 6793,
 //! section 3). The parser of lists (`attribute_list.rt`) calls them for the first attribute of each
 //! type.
 
@@ -15,11 +15,12 @@ use bgp_paths::AsWidth;
 use byteorder::{BigEndian, ByteOrder};
 use ip_prefix::Addr;
 
-/// The value of ORIGIN for IGP (RFC 4271, section 4.3).
+/// The value of ORIGIN for IGP: the route originates inside its AS (RFC 4271, section 4.3).
 const ORIGIN_IGP: u8 = 0;
-/// The value of ORIGIN for EGP (RFC 4271, section 4.3).
+/// The value of ORIGIN for EGP: the route was learned through EGP (RFC 4271, section 4.3).
 const ORIGIN_EGP: u8 = 1;
-/// The value of ORIGIN for INCOMPLETE (RFC 4271, section 4.3).
+/// The value of ORIGIN for INCOMPLETE: the route was learned in another way (RFC 4271, section
+/// 4.3).
 const ORIGIN_INCOMPLETE: u8 = 2;
 
 /// The size of an IPv4 address, in octets (RFC 791, section 3.2).
@@ -35,8 +36,8 @@ const AGGREGATOR_SIZE: usize = 6;
 /// 6793, section 3).
 const AS4_AGGREGATOR_SIZE: usize = 8;
 
-/// Parses `value`, the value of ORIGIN (RFC 4271, section 4.3). Returns `None` if it isn't one
-/// octet of 0, 1 or 2.
+/// Parses `value` as the value of ORIGIN (RFC 4271, section 4.3). Returns `None` if it isn't a
+/// single octet of 0, 1 or 2.
 #[inline]
 pub(crate) fn read_origin(value: &[u8]) -> Option<Origin>
     ensures { ParsesTo SpellsOrigin value.now result }
@@ -49,8 +50,8 @@ pub(crate) fn read_origin(value: &[u8]) -> Option<Origin>
     }
 }
 
-/// Parses `value`, the value of MULTI_EXIT_DISC or LOCAL_PREF: a big-endian 32-bit number (RFC
-/// 4271, section 4.3). Returns `None` if it doesn't have four octets.
+/// Parses `value` as the value of MULTI_EXIT_DISC or LOCAL_PREF: a 32-bit number in big-endian
+/// order (RFC 4271, section 4.3). Returns `None` if it doesn't have exactly four octets.
 #[inline]
 pub(crate) fn read_u32(value: &[u8]) -> Option<u32>
     ensures { ParsesTo SpellsU32 value.now result }
@@ -61,8 +62,8 @@ pub(crate) fn read_u32(value: &[u8]) -> Option<u32>
     Some(AsWidth::Four.number(value))
 }
 
-/// Parses `value`, the value of NEXT_HOP: an IPv4 address (RFC 4271, section 4.3). Returns `None`
-/// if it doesn't have four octets.
+/// Parses `value` as the value of NEXT_HOP: an IPv4 address (RFC 4271, section 4.3). Returns `None`
+/// if it doesn't have exactly four octets.
 #[inline]
 pub(crate) fn read_ipv4(value: &[u8]) -> Option<Addr>
     ensures { ParsesTo SpellsIPv4 value.now result }
@@ -73,8 +74,9 @@ pub(crate) fn read_ipv4(value: &[u8]) -> Option<Addr>
     Some(ipv4_addr(value))
 }
 
-/// Parses `value`, the value of AGGREGATOR: an AS number of two or four octets, and an IPv4 address
-/// (RFC 4271, section 4.3; RFC 6793, section 3). Returns `None` if it has neither 6 nor 8 octets.
+/// Parses `value` as the value of AGGREGATOR: an AS number of two or four octets, and an IPv4
+/// address (RFC 4271, section 4.3; RFC 6793, section 3). Its length, 6 or 8 octets, decides which.
+/// Returns `None` for another length.
 pub(crate) fn read_aggregator(value: &[u8]) -> Option<Aggregator>
     ensures { ParsesTo SpellsAggregator value.now result }
 {
@@ -85,7 +87,8 @@ pub(crate) fn read_aggregator(value: &[u8]) -> Option<Aggregator>
     }
 }
 
-/// Sets `place` to `found`. Fails if `found` is `None`, and then leaves `place` unchanged.
+/// Sets `place` to `found`, the result of a parser, if that is `Some`. Fails with [`IllFormed`] if
+/// it is `None`; `place` is then unchanged.
 #[inline(always)]
 pub(crate) fn set_if_found<T: Copy>(
     place: &mut Option<T>,
@@ -101,8 +104,8 @@ pub(crate) fn set_if_found<T: Copy>(
     Ok(())
 }
 
-/// Sets `atomic` to true if `value`, the value of ATOMIC_AGGREGATE, is empty (RFC 4271, section
-/// 4.3). Fails if it isn't, and then leaves `atomic` unchanged.
+/// Sets `atomic` to true if `value`, the value of ATOMIC_AGGREGATE, is empty, as it is to be (RFC
+/// 4271, section 4.3). Fails with [`IllFormed`] if it isn't; `atomic` is then unchanged.
 #[inline]
 pub(crate) fn set_atomic_if_empty(atomic: &mut bool, value: &[u8]) -> Result<(), IllFormed>
     ensures filled { OnOk result (SpellsPresence atomic.new (Some value.now)) }
@@ -115,8 +118,9 @@ pub(crate) fn set_atomic_if_empty(atomic: &mut bool, value: &[u8]) -> Result<(),
     Ok(())
 }
 
-/// Parses `value`, the value of AS4_AGGREGATOR: an AS number of four octets, and an IPv4 address
-/// (RFC 6793, section 3). Returns `None` if it is absent or doesn't have eight octets.
+/// Parses `value` as the value of AS4_AGGREGATOR: an AS number of four octets, and an IPv4 address
+/// (RFC 6793, section 3). Returns `None` if it is `None`, since the attribute is absent, or doesn't
+/// have exactly eight octets.
 pub(crate) fn read_as4_aggregator(value: Option<&[u8]>) -> Option<Aggregator>
     ensures { SpellsIfWellFormed (SpellsAggregatorAt AsWidth.Four) result (lent_octets value.entry) }
 {
@@ -128,8 +132,8 @@ pub(crate) fn read_as4_aggregator(value: Option<&[u8]>) -> Option<Aggregator>
     }
 }
 
-/// Parses `octets` as an aggregator: a big-endian AS number of `width`, and an IPv4 address (RFC
-/// 4271, section 4.3). `octets` must have the length of both.
+/// Parses `octets` as an aggregator: an AS number of `width`, big-endian, and an IPv4 address (RFC
+/// 4271, section 4.3). Requires that `octets` has exactly the octets of both: 6 or 8.
 fn aggregator(width: AsWidth, octets: &[u8]) -> Aggregator
     requires { length octets.now ≡ asn_size width + IPV4_SIZE }
     ensures { SpellsAggregatorAt width result octets.now }
@@ -139,7 +143,8 @@ fn aggregator(width: AsWidth, octets: &[u8]) -> Aggregator
     Aggregator { addr, asn }
 }
 
-/// Parses `octets`, which must be four, as an IPv4 address.
+/// Returns the IPv4 address of `octets`, the most significant first. Requires that `octets` has
+/// exactly four octets.
 #[inline]
 pub(crate) fn ipv4_addr(octets: &[u8]) -> Addr
     requires { length octets.now ≡ IPV4_SIZE }

@@ -13,29 +13,30 @@ use crate::number::{NUMBER_BITS, U128Halves};
 use std::cmp::Ordering;
 use std::marker::Model;
 
-/// The number of octets of an IPv4 address.
+/// The number of octets of an IPv4 address, in BGP messages and in MRT records.
 pub const V4_OCTETS: usize = 4;
 
-/// The number of octets of an IPv6 address.
+/// The number of octets of an IPv6 address, in BGP messages and in MRT records.
 pub const V6_OCTETS: usize = 16;
 
-/// The number of bits of an IPv4 address.
+/// The number of bits of an IPv4 address, and the greatest length of an IPv4 prefix.
 pub const V4_BITS: u8 = 32;
 
-/// The number of bits of an IPv6 address.
+/// The number of bits of an IPv6 address, and the greatest length of an IPv6 prefix.
 pub const V6_BITS: u8 = 128;
 
 /// The number of bits of an octet.
 pub(crate) const OCTET_BITS: usize = 8;
 
-/// The number of bits of a group, one of the fields of an IPv6 address that colons separate in its
-/// text (RFC 4291, section 2.2).
+/// The number of bits of a group, one of the eight numbers that colons separate in the text of an
+/// IPv6 address (RFC 4291, section 2.2).
 pub(crate) const GROUP_BITS: usize = 16;
 
-/// The number of groups of an IPv6 address.
+/// The number of groups of an IPv6 address: the 16-bit numbers that colons separate in its text
+/// (RFC 4291, section 2.2).
 pub(crate) const GROUP_COUNT: usize = 8;
 
-/// The family of an address or a prefix. `V4` is ordered before `V6`.
+/// Whether an address or a prefix is of IPv4 or IPv6. `V4` is ordered before `V6`.
 #[derive(Clone, Copy, Debug, PartialEq, Eq, PartialOrd, Ord)]
 pub enum Family {
     /// IPv4, whose addresses have 32 bits (RFC 791).
@@ -45,7 +46,8 @@ pub enum Family {
 }
 
 impl Family {
-    /// Returns the number of bits of an address of the family: 32 or 128.
+    /// Returns the number of bits of an address of the family: 32 or 128. It is the greatest length
+    /// of a prefix of the family.
     #[inline]
     pub fn width(self) -> u8
         ensures { result ≡ bit_count self }
@@ -57,7 +59,8 @@ impl Family {
     }
 }
 
-/// An IPv4 or IPv6 address. Addresses are ordered by family, then by their octets.
+/// An IPv4 or IPv6 address. Addresses are ordered by family, IPv4 first, and then by their octets.
+/// An IPv4 address never equals an IPv6 address.
 #[derive(Clone, Copy, Debug)]
 pub struct Addr {
     // The bits of the address are the highest of the number, for either family, and the bits below
@@ -92,7 +95,8 @@ impl Model for Addr {
 }
 
 impl Addr {
-    /// Returns the IPv4 address of `octets`, the most significant first.
+    /// Returns the IPv4 address of `octets`, the most significant first: `[192, 0, 2, 1]` is
+    /// `192.0.2.1`.
     #[inline]
     pub fn v4(octets: [u8; V4_OCTETS]) -> Self
         ensures { result ≡ record { family = Family.V4; bits = bits_of_octets octets } }
@@ -104,7 +108,8 @@ impl Addr {
         }
     }
 
-    /// Returns the IPv6 address of `octets`, the most significant first.
+    /// Returns the IPv6 address of `octets`, the most significant first: with 15 zeros and then 1,
+    /// it is `::1`.
     #[inline]
     pub fn v6(octets: [u8; V6_OCTETS]) -> Self
         ensures { result ≡ record { family = Family.V6; bits = bits_of_octets octets } }
@@ -115,8 +120,8 @@ impl Addr {
         }
     }
 
-    /// Returns the address of `family` whose bits are the highest of `number`. The bits of `number`
-    /// below them must be 0.
+    /// Returns the address of `family` whose bits are the highest of `number`: for IPv4, the
+    /// highest 32. Requires that the bits of `number` below them are 0.
     #[inline]
     pub(crate) fn from_high_bits(number: u128, family: Family) -> Self
         requires { IsAligned family number }
@@ -131,7 +136,8 @@ impl Addr {
         }
     }
 
-    /// Returns the address as a number: its bits are the highest, and the bits below them are 0.
+    /// Returns the address as a 128-bit number: its bits are the highest, and, for IPv4, the 96
+    /// bits below them are 0.
     #[inline]
     pub(crate) fn number(&self) -> u128
         ensures aligned { IsAligned self.now.family result }
@@ -140,7 +146,7 @@ impl Addr {
         self.number.get()
     }
 
-    /// Returns the family of the address.
+    /// Returns whether the address is of IPv4 or of IPv6.
     #[inline]
     pub fn family(&self) -> Family
         ensures value { result ≡ self.now.family }
@@ -149,8 +155,8 @@ impl Addr {
         self.family
     }
 
-    /// Returns the octet at index `index`, where 0 is the most significant. `index` must be below 4
-    /// for IPv4, and below 16 for IPv6.
+    /// Returns one octet of the address, where index 0 is the most significant. Requires that
+    /// `index` is below 4 for IPv4, and below 16 for IPv6.
     #[inline]
     pub fn octet(&self, index: usize) -> u8
         requires { index < octet_count self.now.family }
@@ -159,8 +165,8 @@ impl Addr {
         (self.number.get() >> (NUMBER_BITS as usize - OCTET_BITS - OCTET_BITS * index) & 0xff) as u8
     }
 
-    /// Returns the 16-bit group at index `index`, where 0 is the most significant. `index` must be
-    /// below 2 for IPv4, and below 8 for IPv6.
+    /// Returns 16 bits of the address as a number, where index 0 is the most significant group.
+    /// Requires that `index` is below 2 for IPv4, and below 8 for IPv6.
     #[inline]
     pub(crate) fn group(&self, index: usize) -> u16
         requires { GROUP_BITS * index + GROUP_BITS ≤ bit_count self.now.family }
@@ -170,8 +176,8 @@ impl Addr {
             & 0xffff) as u16
     }
 
-    /// Returns whether the bit at index `index` is 1, where 0 is the most significant. `index` must
-    /// be below the number of bits of the address.
+    /// Returns `true` if a bit of the address is 1, `false` if it is 0, where index 0 is the most
+    /// significant. Requires that `index` is below 32 for IPv4, and below 128 for IPv6.
     #[inline]
     pub fn bit(&self, index: usize) -> bool
         requires { index < bit_count self.now.family }

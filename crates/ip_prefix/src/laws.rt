@@ -19,14 +19,17 @@ ghost use Rattle.ip_prefix.specs.Marks.{IsFirstLongestRun};
 ghost use Rattle.octet_forms.specs.Sequences.{SpellsAll};
 ghost use Rattle.octet_forms.specs.Fronts.{IsSelfDelimiting};
 
-/// States that addresses are totally ordered, and that only equal addresses compare as equal.
+/// States that the order of addresses (by family, and then by octets) is total, and that only equal
+/// addresses compare as equal.
 pub fn law_address_order_is_total()
     ensures total { IsTotalOrder address_cmp }
     ensures ties { IsAntisymmetric address_cmp }
 {}
 
-/// States that prefixes are totally ordered, that only equal prefixes compare as equal, and that
-/// the order is by the least address, then by the length.
+/// States three facts about the order of prefixes:
+/// - it is total;
+/// - only equal prefixes compare as equal;
+/// - it is by the least address that the prefix contains, and then by the length.
 pub fn law_prefix_order_is_total()
     ensures total { IsTotalOrder network_cmp }
     ensures ties { IsAntisymmetric network_cmp }
@@ -34,9 +37,12 @@ pub fn law_prefix_order_is_total()
         → network_cmp m n ≡ least_address_cmp m n }
 {}
 
-/// States that a prefix contains exactly the addresses of its family that begin with its bits, and
-/// covers exactly the prefixes of its family that do. These are the prefixes whose addresses it all
-/// contains.
+/// States what the contracts mean by "contains" and "covers":
+/// - a prefix contains an address if and only if it is of the address's family, and the address
+///   begins with its bits;
+/// - a prefix covers another if and only if they are of one family, and the other begins with its
+///   bits;
+/// - that is so if and only if it contains all addresses that the other contains.
 pub fn law_containment_is_by_bits()
     ensures contained { (n : Network) (a : Address)
         → (IsTrue (contains n a) ↔ ((n.family ≡ a.family) × IsFront n.bits a.bits)) }
@@ -46,7 +52,9 @@ pub fn law_containment_is_by_bits()
         → (IsTrue (covers n other) ↔ ContainsAllOf n other) }
 {}
 
-/// States that covering is a partial order of prefixes, and that no prefix covers a shorter one.
+/// States that "covers" is a partial order of prefixes (each covers itself, two that cover each
+/// other are equal, and one covers what a prefix that it covers does), and that no prefix covers a
+/// shorter one.
 pub fn law_covering_is_partial_order()
     ensures reflexive { (n : Network) → IsTrue (covers n n) }
     ensures transitive { (a b c : Network)
@@ -55,8 +63,9 @@ pub fn law_covering_is_partial_order()
     ensures lengths { (a b : Network) → IsTrue (covers a b) → length a.bits ≤ length b.bits }
 {}
 
-/// States that of two prefixes that contain one address, the shorter covers the longer. So at most
-/// one prefix of each length contains an address.
+/// States that of two prefixes that contain the same address, the one that isn't longer covers the
+/// other; and that they are equal if they have one length, so that at most one prefix of each
+/// length contains an address.
 pub fn law_containing_prefixes_nest()
     ensures covered { (m n : Network) (a : Address) → IsTrue (contains m a) → IsTrue (contains n a)
         → length m.bits ≤ length n.bits → IsTrue (covers m n) }
@@ -64,9 +73,11 @@ pub fn law_containing_prefixes_nest()
         → length m.bits ≡ length n.bits → m ≡ n }
 {}
 
-/// States which [`Turn`](crate::Turn) a prefix has as seen from another: `Outside` if the other
-/// doesn't cover it, `Here` if they are equal, else `Left` or `Right` by the half of the other that
-/// covers it.
+/// States what a [`Turn`](crate::Turn) means for a prefix as seen from another:
+/// - it is `Outside` if and only if the other doesn't cover it;
+/// - it is `Here` if and only if they are equal;
+/// - it is `Left` or `Right` if and only if it is covered by the left or right half of the other,
+///   which has one bit more than the other: 0 or 1.
 pub fn law_turns_are_by_bits()
     ensures outside { (m n : Network)
         → ((turn_of (way m) (way n) ≡ Outside) ↔ (covers m n ≡ false)) }
@@ -77,8 +88,8 @@ pub fn law_turns_are_by_bits()
         → ((turn_of (way m) (way n) ≡ Right) ↔ IsTrue (covers (half m true) n)) }
 {}
 
-/// States that the prefix of the leading bits that two prefixes of one family share covers both,
-/// and that each prefix that covers both covers it.
+/// States that the prefix made of the leading bits that two prefixes of one family share covers
+/// both of them, and that it is the longest that does: each prefix that covers both covers it.
 pub fn law_common_prefix_is_longest()
     ensures both { (m n : Network) → m.family ≡ n.family
         → IsTrue (covers (common m n) m) × IsTrue (covers (common m n) n) }
@@ -86,20 +97,20 @@ pub fn law_common_prefix_is_longest()
         → IsTrue (covers other (common m n)) }
 {}
 
-/// States that the printed text of an address can be parsed as this address, and the printed text
-/// of a prefix as this prefix.
+/// States that the text that is written for an address can be parsed, as this address, and that the
+/// text that is written for a prefix can be parsed, as this prefix.
 pub fn law_printed_text_parses()
     ensures addresses { (a : Address) → IsAddress a → SpellsAddress a (address_text a) }
     ensures prefixes { (n : Network) → IsNetwork n → SpellsPrefix n (network_text n) }
 {}
 
-/// States that the groups that `::` replaces in the printed text of an IPv6 address are the first
-/// of the longest runs of zeros (RFC 5952, section 4.2).
+/// States that `::` in the text that is written for an IPv6 address replaces the longest run of
+/// groups of 0, and the first of them if several have that length (RFC 5952, section 4.2).
 pub fn law_longest_zero_run_is_shortened()
     ensures { (groups : List ℕ) → IsFirstLongestRun groups (longest_zero_run groups) }
 {}
 
-/// States that no text can be parsed as two addresses, nor as two prefixes.
+/// States that a text can be parsed as at most one address, and as at most one prefix.
 pub fn law_text_has_one_value()
     ensures addresses { (a b : Address) (text : List ℕ)
         → SpellsAddress a text → SpellsAddress b text → a ≡ b }
@@ -107,8 +118,8 @@ pub fn law_text_has_one_value()
         → SpellsPrefix m text → SpellsPrefix n text → m ≡ n }
 {}
 
-/// States that no octets begin with two prefixes of one family, and that none are two lists of such
-/// prefixes, as BGP sends them (RFC 4271, section 4.3).
+/// States that octets decode in at most one way: as one prefix of a given family at their start,
+/// and as one list of such prefixes (NLRI, RFC 4271, section 4.3).
 pub fn law_octets_have_one_prefix()
     ensures single { (family : Family) → IsSelfDelimiting (SpellsNetwork family) }
     ensures lists { (family : Family) (octets : List ℕ) (a b : List Network)
@@ -116,7 +127,9 @@ pub fn law_octets_have_one_prefix()
         → SpellsAll (SpellsNetwork family) b octets → a ≡ b }
 {}
 
-/// States the values of the constants that the definitions name.
+/// States the values of constants that the theorems and contracts use by name: the sizes of
+/// addresses in octets and in bits, of an octet and of a group of an IPv6 address, the number of
+/// these groups, and the characters `.`, `:` and `/`.
 pub fn law_address_constants()
     ensures octets { (V4_OCTETS ≡ 4) × (V6_OCTETS ≡ 16) }
     ensures bits { (V4_BITS ≡ 32) × (V6_BITS ≡ 128) × (NUMBER_BITS ≡ 128) }

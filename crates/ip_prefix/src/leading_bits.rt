@@ -1,5 +1,5 @@
-//! The highest bits of numbers and of octets. `prefix.rt` makes prefixes with these functions. Read
-//! [`keep_highest_bits`] first.
+//! Functions on the highest bits of numbers and of octets, of which `prefix.rt` makes prefixes.
+//! Read [`keep_highest_bits`] first.
 
 ghost use Rattle.std.specs.Prelude.{◌≡◌, ◌*◌, ◌^◌, ◌<◌, ◌≤◌, length, take};
 ghost use Rattle.ip_prefix.specs.Bits.{bits_of_octets, highest_bits};
@@ -8,11 +8,12 @@ ghost use Rattle.ip_prefix.specs.Kept.{highest_part};
 use crate::addr::{OCTET_BITS, V6_OCTETS};
 use crate::number::{HALF_BITS, NUMBER_BITS};
 
-/// The number of octets up to which the bits of a prefix are read as three octets. Most prefixes of
-/// IPv4 have at most 24 bits.
+/// The number of octets up to which the bits of a prefix are read as three octets at once. Most
+/// IPv4 prefixes have at most 24 bits.
 const SHORT: usize = 3;
 
-/// Returns `number` with all bits but its highest `len` cleared. `len` must be at most 128.
+/// Returns `number` with all bits but its highest `len` set to 0: the bits of a prefix of an
+/// address. Requires that `len` is at most 128.
 #[inline]
 pub(crate) fn keep_highest_bits(number: u128, len: u8) -> u128
     requires { len ≤ NUMBER_BITS }
@@ -31,8 +32,9 @@ pub(crate) fn keep_highest_bits(number: u128, len: u8) -> u128
     number >> below << below
 }
 
-/// Returns the number whose highest bits are those of the first `size` octets, in big-endian order.
-/// The bits below them are unspecified. `size` must be at most 16 and the length of `octets`.
+/// Returns a 128-bit number whose highest bits are the first `size` of `octets`, the most
+/// significant first. The bits below them are unspecified. Requires that `size` is at most 16 and
+/// at most the length of `octets`.
 #[inline]
 pub(crate) fn number_from_leading_octets(octets: &[u8], size: usize) -> u128
     requires { (size ≤ length octets.now) × (size ≤ V6_OCTETS) }

@@ -1,5 +1,5 @@
 //! IPv4 and IPv6 addresses and prefixes: their orders, their texts, and the parser of prefixes as
-//! BGP sends them (RFC 4271, section 4.3). The crates that read, store and print routes call it.
+//! BGP sends them (RFC 4271, section 4.3). The crates that parse, store and print routes call it.
 //! Read `addr.rt` and `prefix.rt` first.
 #![tactic(auto)]
 

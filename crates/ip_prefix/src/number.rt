@@ -1,5 +1,5 @@
-//! 128-bit numbers as two halves. `addr.rt` and `prefix.rt` store the bits of addresses and
-//! prefixes so. Read [`U128Halves`] first.
+//! 128-bit numbers stored as two halves. `addr.rt` and `prefix.rt` store the bits of addresses and
+//! prefixes so, since a `u128` has an alignment of 16 octets. Read [`U128Halves`] first.
 
 ghost use Rattle.std.specs.Prelude.{◌≡◌, ◌-◌, ◌/◌, ◌^◌, ◌<◌, ◌==◌, bit_and};
 ghost use Rattle.std.specs.Ordering.{nat_cmp};
@@ -7,13 +7,15 @@ ghost use Rattle.std.specs.Ordering.{nat_cmp};
 use std::cmp::Ordering;
 use std::marker::Model;
 
-/// The number of bits of a [`U128Halves`].
+/// The number of bits of a [`U128Halves`], which stores the bits of an address.
 pub(crate) const NUMBER_BITS: u8 = 128;
 
-/// The number of bits of half a [`U128Halves`].
+/// The number of bits of each half of a [`U128Halves`], which stores a 128-bit number as two
+/// halves.
 pub(crate) const HALF_BITS: u8 = 64;
 
-/// A 128-bit number, stored as two halves of 64 bits.
+/// A 128-bit number, stored as two halves of 64 bits. So its alignment is 8 octets, and values with
+/// it take less memory than with a `u128`. In contracts, its value is the number.
 #[derive(Clone, Copy, Debug)]
 pub(crate) struct U128Halves {
     // Two halves have an alignment of eight octets, where a `u128` has one of sixteen.
@@ -44,7 +46,7 @@ impl Model for U128Halves {
 }
 
 impl U128Halves {
-    /// Splits `number` into its two halves.
+    /// Converts a `u128`, splitting it into two halves.
     #[inline]
     pub(crate) fn new(number: u128) -> Self
         ensures { result ≡ number }
@@ -55,7 +57,7 @@ impl U128Halves {
         }
     }
 
-    /// Returns the number as a `u128`.
+    /// Converts the two halves into a `u128`.
     #[inline]
     pub(crate) fn get(self) -> u128
         ensures { result ≡ self }
@@ -63,8 +65,8 @@ impl U128Halves {
         u128::from(self.high) << HALF_BITS | u128::from(self.low)
     }
 
-    /// Returns whether the bit at index `index` is 1, where 0 is the most significant. `index` must
-    /// be below 128.
+    /// Returns `true` if a bit of the number is 1, `false` if it is 0, where index 0 is the most
+    /// significant. Requires that `index` is below 128.
     #[inline]
     pub(crate) fn bit(self, index: u8) -> bool
         requires { index < NUMBER_BITS }
@@ -77,7 +79,7 @@ impl U128Halves {
         self.get() >> (NUMBER_BITS - 1 - index) & 1 == 1
     }
 
-    /// Compares two numbers by value.
+    /// Compares this number with `other`, by value.
     #[inline]
     pub(crate) fn compare(self, other: U128Halves) -> Ordering
         ensures { result ≡ nat_cmp self other }

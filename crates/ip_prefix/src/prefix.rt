@@ -1,5 +1,6 @@
 //! IPv4 and IPv6 prefixes, and the parser of prefixes as BGP sends them. `parse.rt` and `text.rt`
-//! parse and print them as text, and `turn.rt` compares where they lie. Read [`Prefix`] first.
+//! parse them from text and format them, and `turn.rt` tells where one lies as seen from another.
+//! Read [`Prefix`] first.
 
 ghost use Rattle.std.specs.Prelude.{◌≡◌, ◌-◌, ◌<◌, ◌≤◌, ◌++◌, false, Some, MatchOption, IfSome, IfNone, length, replicate, take, slice_get, refl};
 ghost use Rattle.ip_prefix.specs.declared.addr.Family.{Family};
@@ -17,8 +18,9 @@ use crate::number::{HALF_BITS, NUMBER_BITS, U128Halves};
 use std::cmp::Ordering;
 use std::marker::Model;
 
-/// An IPv4 or IPv6 prefix: a family, and bits with which addresses of the family begin. Prefixes
-/// are ordered by family, then by their least addresses, then by length.
+/// An IPv4 or IPv6 prefix: a family, and the bits with which its addresses begin, as in
+/// `10.0.0.0/8`. Prefixes are ordered by family, then by the least addresses that they contain,
+/// then by length.
 #[derive(Clone, Copy, Debug)]
 pub struct Prefix {
     // The bits of the prefix are the highest of the number, and the bits below are 0.
@@ -53,8 +55,8 @@ impl Model for Prefix {
 }
 
 impl Prefix {
-    /// Returns the prefix of the first `len` bits of `addr`, whose other bits are cleared, or
-    /// `None` if `addr` has fewer than `len` bits.
+    /// Returns the prefix of the first `len` bits of `addr`; the other bits need not be 0. Returns
+    /// `None` if `len` is more than 32 (IPv4) or 128 (IPv6).
     pub fn new(addr: Addr, len: u8) -> Option<Prefix>
         ensures { MatchOption result (bit_count addr.family < len)
             (λ prefix. (len ≤ bit_count addr.family) × (prefix ≡ network_of addr len)) }
@@ -70,7 +72,8 @@ impl Prefix {
         })
     }
 
-    /// Returns the prefix of all bits of `addr`, which contains `addr` alone.
+    /// Returns the prefix of all bits of `addr`, which contains `addr` alone: its length is 32 or
+    /// 128.
     #[inline]
     pub fn host(addr: Addr) -> Prefix
         ensures { result ≡ record { family = addr.family; bits = addr.bits } }
@@ -83,7 +86,7 @@ impl Prefix {
         }
     }
 
-    /// Returns the family of the prefix.
+    /// Returns whether the prefix is of IPv4 or of IPv6.
     #[inline]
     pub fn family(&self) -> Family
         ensures { result ≡ self.now.family }
@@ -91,7 +94,8 @@ impl Prefix {
         self.family
     }
 
-    /// Returns the least address that the prefix contains: its bits after the length are 0.
+    /// Returns the least address that the prefix contains, that before the slash in its text: its
+    /// bits after the length are 0.
     pub fn addr(&self) -> Addr
         ensures value { result ≡ least_address self.now }
         ensures whole { IsAddress result }
@@ -99,8 +103,7 @@ impl Prefix {
         Addr::from_high_bits(self.number.get(), self.family)
     }
 
-    /// Returns the bits of the prefix as a number, of which they are the highest. The bits below
-    /// them are 0.
+    /// Returns the bits of the prefix as the highest of a 128-bit number, whose other bits are 0.
     #[inline]
     pub(crate) fn number(&self) -> u128
         ensures { bits_of NUMBER_BITS result
@@ -109,8 +112,8 @@ impl Prefix {
         self.number.get()
     }
 
-    /// Returns whether the bit at index `index` is 1, where 0 is the most significant. `index` must
-    /// be below the length.
+    /// Returns `true` if a bit of the prefix is 1, `false` if it is 0, where index 0 is the most
+    /// significant. Requires that `index` is below the length of the prefix.
     #[inline]
     pub(crate) fn bit(&self, index: u8) -> bool
         requires { index < length self.now.bits }
@@ -119,8 +122,9 @@ impl Prefix {
         self.number.bit(index)
     }
 
-    /// Returns the highest 64 of 128 bits of the least address as a number. An IPv4 address has the
-    /// high 32 of them, and the low 32 are 0.
+    /// Returns the first 64 bits of the prefix as a number, the first as the highest. If it has
+    /// fewer, the others are 0; if it has more, they are dropped. So the highest 32 are those of an
+    /// IPv4 prefix.
     #[inline]
     pub fn high_64_bits(&self) -> u64
         ensures { bits_of HALF_BITS result ≡ take HALF_BITS
@@ -129,7 +133,8 @@ impl Prefix {
         (self.number.get() >> HALF_BITS) as u64
     }
 
-    /// Returns the least address of the prefix, which must be of IPv4, as a 32-bit number.
+    /// Returns the least address that the prefix contains as a 32-bit number. Requires that the
+    /// prefix is of IPv4.
     #[inline]
     pub(crate) fn v4_number(&self) -> u32
         requires { self.now.family ≡ Family.V4 }
@@ -139,7 +144,8 @@ impl Prefix {
         (self.number.get() >> (NUMBER_BITS - V4_BITS)) as u32
     }
 
-    /// Returns the prefix of the first `len` bits of this prefix. `len` must be at most its length.
+    /// Returns the prefix of the first `len` bits of this one. Requires that `len` is at most its
+    /// length.
     #[inline]
     pub(crate) fn shortened(&self, len: u8) -> Prefix
         requires { len ≤ length self.now.bits }
@@ -152,7 +158,8 @@ impl Prefix {
         }
     }
 
-    /// Returns `true` if `addr` is of the family of the prefix and begins with its bits.
+    /// Returns `true` if the prefix contains `addr`: they are of one family, and `addr` begins with
+    /// its bits. Returns `false` otherwise.
     #[inline]
     pub fn contains(&self, addr: &Addr) -> bool
         ensures { result ≡ contains self.now addr.now }
@@ -161,8 +168,8 @@ impl Prefix {
             && keep_highest_bits(addr.number(), self.len) == self.number.get()
     }
 
-    /// Returns `true` if `other` is of the family of this prefix and begins with its bits. A prefix
-    /// covers itself.
+    /// Returns `true` if this prefix contains all addresses of `other`: they are of one family, and
+    /// `other` begins with its bits. So it covers itself. Returns `false` otherwise.
     #[inline]
     pub fn covers(&self, other: &Prefix) -> bool
         ensures { result ≡ covers self.now other.now }
@@ -174,8 +181,9 @@ impl Prefix {
 
     /// Parses the prefix of `family` at the start of `octets`: its length in bits, of one octet,
     /// and its bits in as few octets as hold them (RFC 4271, section 4.3). Returns the prefix and
-    /// the number of octets that it takes. Returns `None` if the length is more than 32 or 128
-    /// bits, or if `octets` is too short. Bits after the length are ignored.
+    /// the number of octets that it takes, with that of the length. Returns `None` if the length is
+    /// more than 32 (IPv4) or 128 (IPv6), or if `octets` ends before or inside the prefix. Bits
+    /// after the length are ignored.
     #[inline]
     pub fn read(family: Family, octets: &[u8]) -> Option<(Prefix, usize)>
         ensures some { IfSome result (λ found. (found.1 ≤ length octets.now)
@@ -201,7 +209,7 @@ impl Prefix {
         ))
     }
 
-    /// Returns the length of the prefix, in bits.
+    /// Returns the length of the prefix, in bits: at most 32 for IPv4, and 128 for IPv6.
     #[inline]
     pub fn len(&self) -> u8
         ensures value { result ≡ length self.now.bits }

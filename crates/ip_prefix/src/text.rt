@@ -1,4 +1,4 @@
-//! Printing addresses and prefixes as text. The printers of lines and replies call it, mostly
+//! Formatting addresses and prefixes as text. Those who print lines and replies call it, mostly
 //! through [`WriteTextAt`]. Read [`Addr::write_text`] and [`Prefix::write_text`] first.
 
 ghost use Rattle.std.specs.Prelude.{◌≡◌, ◌+◌, ◌*◌, ◌<◌, ◌≤◌, [], ◌∷◌, ◌++◌, OnOk, OnErr, length, take, drop, replicate, decimal};
@@ -16,37 +16,38 @@ use octet_text::{
 };
 use std::alloc::AllocError;
 
-/// The separator of the octets in the text of an IPv4 address.
+/// The ASCII code of a dot, the separator of the octets in the text of an IPv4 address.
 pub(crate) const DOT: u8 = b'.';
 
-/// The separator of the groups in the text of an IPv6 address.
+/// The ASCII code of a colon, the separator of the groups in the text of an IPv6 address.
 pub const COLON: u8 = b':';
 
-/// The separator of the address and the length in the text of a prefix.
+/// The ASCII code of a slash, the separator of the address and the length in the text of a prefix.
 pub(crate) const SLASH: u8 = b'/';
 
-/// The greatest number of hexadecimal digits of a group.
+/// The greatest number of hexadecimal digits of a 16-bit group of an IPv6 address.
 const GROUP_DIGITS: usize = 4;
 
-/// The least number of groups of 0 in a row that `::` stands for (RFC 5952, section 4.2.2).
+/// The least number of consecutive groups of 0 that `::` stands for in an IPv6 address. A single
+/// one is written as `0` (RFC 5952, section 4.2.2).
 const LEAST_RUN: usize = 2;
 
-/// The greatest number of octets of a group and a colon.
+/// The greatest number of octets that a group of an IPv6 address and a colon take as text.
 const GROUP_ROOM: usize = GROUP_DIGITS + 1;
 
-/// The number of octets that [`Addr::write_text`] needs from its offset on: as many as eight
-/// groups, each with a colon.
+/// The number of octets that [`Addr::write_text`] needs in its slice from the offset on: as many as
+/// eight groups of an IPv6 address, each with a colon.
 pub const ADDRESS_ROOM: usize = GROUP_ROOM * GROUP_COUNT;
 
-/// The number of octets that [`Prefix::write_text`] needs from its offset on: an address, a slash
-/// and the length.
+/// The number of octets that [`Prefix::write_text`] needs in its slice from the offset on: those of
+/// an address, a slash and the length.
 pub const PREFIX_ROOM: usize = ADDRESS_ROOM + 1 + ROW;
 
 impl Addr {
-    /// Writes the address as text into `text` at offset `at`, and returns the offset of the octet
-    /// after it. IPv6 addresses have the form of RFC 5952, section 4, and never a dotted end.
-    /// `text` needs [`ADDRESS_ROOM`] octets from `at` on, of which those after the address are
-    /// unspecified.
+    /// Writes the address as text, as in `192.0.2.1` or `2001:db8::1`, into `text` at offset `at`,
+    /// and returns the offset of the octet after it. IPv6 addresses have the format of RFC 5952,
+    /// section 4, and never end in dotted decimals. Requires that `text` has [`ADDRESS_ROOM`]
+    /// octets from `at` on, of which those after the address are then unspecified.
     #[inline(always)]
     #[tactic(auto, unfolding(crate::specs::Text::address_text))]
     pub fn write_text(&self, text: &mut [u8], at: usize) -> usize
@@ -65,8 +66,8 @@ impl Addr {
         }
     }
 
-    /// Appends the address to `text`, in the form of [`Addr::write_text`]. On error, `text` is
-    /// unchanged.
+    /// Appends the address as text, as in `192.0.2.1` or `2001:db8::1` (RFC 5952, section 4), to
+    /// `text`. Returns `AllocError` if memory allocation fails; `text` is unchanged then.
     pub fn put_text(&self, text: &mut Vec<u8>) -> Result<(), AllocError>
         ensures appended { OnOk result (text.new.items ≡ text.old.items ++ address_text self.now) }
         ensures unchanged { OnErr result (text.new.items ≡ text.old.items) }
@@ -78,9 +79,10 @@ impl Addr {
 }
 
 impl Prefix {
-    /// Writes the prefix as text into `text` at offset `at`, and returns the offset of the octet
-    /// after it. The text is the least address, a slash, and the length in decimal. `text` needs
-    /// [`PREFIX_ROOM`] octets from `at` on, of which those after the prefix are unspecified.
+    /// Writes the prefix as text, as in `10.0.0.0/8`, into `text` at offset `at`, and returns the
+    /// offset of the octet after it. The text is the least address, a slash, and the length in
+    /// decimal. Requires that `text` has [`PREFIX_ROOM`] octets from `at` on, of which those after
+    /// the prefix are then unspecified.
     #[inline]
     pub fn write_text(&self, text: &mut [u8], at: usize) -> usize
         requires { at + PREFIX_ROOM ≤ length text.old }
@@ -92,8 +94,8 @@ impl Prefix {
         write_below_thousand(u32::from(self.len()), text, slash + 1)
     }
 
-    /// Appends the prefix to `text`, in the form of [`Prefix::write_text`]. On error, `text` is
-    /// unchanged.
+    /// Appends the prefix as text, as in `10.0.0.0/8` or `2001:db8::/32`, to `text`. Returns
+    /// `AllocError` if memory allocation fails; `text` is unchanged then.
     pub fn put_text(&self, text: &mut Vec<u8>) -> Result<(), AllocError>
         ensures appended { OnOk result (text.new.items ≡ text.old.items ++ network_text self.now) }
         ensures unchanged { OnErr result (text.new.items ≡ text.old.items) }
@@ -130,8 +132,9 @@ impl WriteTextAt for Prefix {
     }
 }
 
-/// Writes `octet` in decimal and then a dot into `text` at offset `at`, and returns the offset of
-/// the octet after the dot.
+/// Writes `octet` in decimal and then a dot, as in `192.`, into `text` at offset `at`, and returns
+/// the offset of the octet after the dot. Requires that `text` has [`ROW`] octets from `at` on, of
+/// which those after the dot are then unspecified.
 #[inline]
 fn write_octet_and_dot(octet: u8, text: &mut [u8], at: usize) -> usize
     requires { at + ROW ≤ length text.old }
@@ -143,9 +146,10 @@ fn write_octet_and_dot(octet: u8, text: &mut [u8], at: usize) -> usize
     dot + 1
 }
 
-/// Writes `address`, which must be of IPv6, as text into `text` at offset `at`, and returns the
+/// Writes `address` as text, as in `2001:db8::1`, into `text` at offset `at`, and returns the
 /// offset of the octet after it. The groups are joined by colons, and `::` replaces the first of
-/// the longest runs of two or more groups of 0 (RFC 5952, section 4.2).
+/// the longest runs of two or more groups of 0 (RFC 5952, section 4.2). Requires that `address` is
+/// of IPv6, and that `text` has [`ADDRESS_ROOM`] octets from `at` on.
 #[inline(never)]
 fn write_v6(address: &Addr, text: &mut [u8], at: usize) -> usize
     requires { (address.now.family ≡ V6) × (at + ADDRESS_ROOM ≤ length text.old) }
@@ -171,8 +175,9 @@ fn write_v6(address: &Addr, text: &mut [u8], at: usize) -> usize
     write_groups(&groups[first + len..], text, gap + 2)
 }
 
-/// Returns the longest run of groups of 0: the index of its first group, and the number of its
-/// groups. Of several such runs, the first counts. If no group is 0, both numbers are 0.
+/// Returns the longest run of consecutive `groups` that are 0: the index of its first group, and
+/// the number of its groups. If several runs have that length, it is the first. If no group is 0,
+/// both numbers are 0.
 #[inline(always)]
 fn longest_zero_run(groups: &[u16; GROUP_COUNT]) -> (usize, usize)
     ensures value { result ≡ Hex.longest_zero_run groups.now }
@@ -191,8 +196,9 @@ fn longest_zero_run(groups: &[u16; GROUP_COUNT]) -> (usize, usize)
     (usize::from(row[0]), usize::from(row[1]))
 }
 
-/// Writes `groups` in lower-case hexadecimal, joined by colons, into `text` at offset `at`, and
-/// returns the offset of the octet after them.
+/// Writes `groups` in lower-case hexadecimal, joined by colons, as in `2001:db8`, into `text` at
+/// offset `at`, and returns the offset of the octet after them, or `at` if there are none. Requires
+/// that `text` has [`GROUP_ROOM`] octets for each group from `at` on.
 fn write_groups(groups: &[u16], text: &mut [u8], at: usize) -> usize
     requires { at + GROUP_ROOM * length groups.now ≤ length text.old }
     ensures written { IsWritten text.old at (Hex.groups_text groups.now) text.new result }
@@ -209,8 +215,9 @@ fn write_groups(groups: &[u16], text: &mut [u8], at: usize) -> usize
     place
 }
 
-/// Writes `group` in lower-case hexadecimal, without leading zeros, into `text` at offset `at`, and
-/// returns the offset of the octet after it.
+/// Writes `group` in lower-case hexadecimal, without leading zeros, as in `db8`, into `text` at
+/// offset `at`, and returns the offset of the octet after it. Requires that `text` has four octets
+/// from `at` on.
 #[inline]
 fn write_group(group: u16, text: &mut [u8], at: usize) -> usize
     requires { at + GROUP_DIGITS ≤ length text.old }
@@ -224,8 +231,9 @@ fn write_group(group: u16, text: &mut [u8], at: usize) -> usize
     write_hex_octet(group % 0x100, text, low)
 }
 
-/// Writes `group`, which must be below 256, in lower-case hexadecimal, without leading zeros, into
-/// `text` at offset `at`, and returns the offset of the octet after it.
+/// Writes `group` in lower-case hexadecimal, without leading zeros, as in `0` or `1f`, into `text`
+/// at offset `at`, and returns the offset of the octet after it. Requires that `group` is below
+/// 256, and that `text` has two octets from `at` on.
 #[inline]
 fn write_group_below_256(group: u16, text: &mut [u8], at: usize) -> usize
     requires { (group < 0x100) × (at + HEX_PAIR ≤ length text.old) }

@@ -1,5 +1,6 @@
-//! Where a prefix lies as seen from another. The radix trees of `rib_store` decide by it on which
-//! side of a node a key belongs. Read [`Turn`] first.
+//! Where a prefix lies as seen from another: outside it, at it, or in its left or right half. The
+//! radix trees of `rib_store` decide by it in which branch of a node a prefix belongs. Read
+//! [`Turn`] first.
 
 ghost use Rattle.std.specs.Prelude.{◌≡◌, ◌≢◌, ℕ, ◌+◌, ◌≤◌, ◌++◌, Bool, true, false, List, length, replicate, take};
 ghost use Rattle.ip_prefix.specs.declared.addr.Family.{Family};
@@ -12,21 +13,26 @@ ghost use Rattle.ip_prefix.specs.Turns.{way, turn_of, common};
 use crate::addr::{Family, V4_BITS, V4_OCTETS};
 use crate::prefix::Prefix;
 
-/// Where a prefix lies as seen from another prefix: not below it, at it, or in one of its halves.
+/// Where a prefix lies as seen from another prefix: outside it, at it, or in one of its two halves.
+/// In a tree of prefixes, it says which way leads from a node to a prefix.
 #[derive(Clone, Copy, Debug, PartialEq, Eq)]
 pub enum Turn {
-    /// The other prefix doesn't cover it.
+    /// The prefix isn't covered by the other: it is of another family, shorter, or has other
+    /// leading bits.
     Outside,
-    /// The prefixes are equal.
+    /// The two prefixes are equal.
     Here,
-    /// The other prefix covers it, and the bit after the bits of the other is 0.
+    /// The prefix is longer and covered by the other, and its first bit after the bits of the other
+    /// is 0.
     Left,
-    /// The other prefix covers it, and the bit after the bits of the other is 1.
+    /// The prefix is longer and covered by the other, and its first bit after the bits of the other
+    /// is 1.
     Right,
 }
 
 impl Prefix {
-    /// Returns where `other` lies as seen from this prefix.
+    /// Returns where `other` lies as seen from this prefix: as seen from `10.0.0.0/8`,
+    /// `10.0.0.0/16` lies `Left`, `10.128.0.0/16` `Right`, and `10.0.0.0/7` `Outside`.
     #[inline]
     pub fn turn(&self, other: &Prefix) -> Turn
         ensures { result ≡ turn_of (way self.now) (way other.now) }
@@ -37,8 +43,9 @@ impl Prefix {
         Turn::Outside
     }
 
-    /// Returns where this prefix lies as seen from the IPv4 prefix of the first `len` bits of
-    /// `octets`, the most significant octet first. `len` must be at most 32.
+    /// Returns where this prefix lies as seen from another, an IPv4 prefix: the first `len` bits of
+    /// the address `octets`, whose most significant octet is first. Octets after these bits are
+    /// ignored. `Outside` if this prefix is of IPv6. Requires that `len` is at most 32.
     #[inline]
     pub fn turn_from_v4(&self, octets: [u8; V4_OCTETS], len: u8) -> Turn
         requires { len ≤ V4_BITS }
@@ -56,9 +63,10 @@ impl Prefix {
         Turn::Outside
     }
 
-    /// Returns where this prefix lies as seen from its first `len` bits: `Here` if it isn't longer,
-    /// or else `Right` if its bit at index `len` is 1, or `Left`. The caller knows that a prefix of
-    /// `len` bits covers this one; without one, the result is unspecified.
+    /// Returns where this prefix lies as seen from its own first `len` bits: `Here` if it has no
+    /// more bits, else `Left` if its bit at index `len` is 0, or `Right` if it is 1; never
+    /// `Outside`. So if a prefix of `len` bits is known to cover this one, it is where this one
+    /// lies as seen from it. If not, the result means nothing.
     #[inline]
     pub fn turn_under(&self, len: u8) -> Turn
         ensures { (other : Network) → length other.bits ≡ len
@@ -74,7 +82,9 @@ impl Prefix {
         }
     }
 
-    /// Returns the longest prefix that covers both prefixes, which must be of one family.
+    /// Returns the longest prefix that covers both this prefix and `other`: their shared leading
+    /// bits, for `10.0.0.0/16` and `10.128.0.0/16` `10.0.0.0/8`. Requires that both are of one
+    /// family.
     #[inline]
     pub fn common(&self, other: &Prefix) -> Prefix
         requires { self.now.family ≡ other.now.family }

@@ -1,8 +1,9 @@
 //! A table of the longest runs of groups of 0, by which `text.rt` shortens IPv6 addresses.
 
-/// The longest run of groups of 0, by which of the eight groups are 0: the index of its first
-/// group, and the number of its groups. Of several such runs, the first counts. Bit `i` of a row's
-/// index, where bit 0 is the lowest, is 1 if group `i` is 0.
+/// The longest run of consecutive 16-bit groups of an IPv6 address that are 0, for each set of
+/// groups that are 0: the index of the run's first group, and the number of its groups. The first
+/// of several longest runs counts. Bit `i` of a row's index, where bit 0 is the lowest, is 1 if
+/// group `i` is 0. Row 0, for an address without such groups, is 0 and 0.
 #[rattlefmt::skip]
 pub(crate) static ZERO_RUNS: [[u8; 2]; 256] = [
     [0, 0], [0, 1], [1, 1], [0, 2], [2, 1], [0, 1], [1, 2], [0, 3],

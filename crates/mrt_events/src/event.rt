@@ -1,6 +1,6 @@
-//! Events and their parts: items, routes and times. `mrt_wire` makes an [`Event`] of each accepted
-//! record, and the printer and the player go through its items. Read [`Event`] first, then
-//! [`Item`].
+//! Events, which are the contents of MRT records, and their parts: items, routes and times.
+//! `mrt_wire` makes an [`Event`] of each record that it accepts; printers and the player of routing
+//! tables go through its items. Read [`Event`] first, then [`Item`].
 
 ghost use Rattle.std.specs.Prelude.{◌≡◌};
 
@@ -11,36 +11,42 @@ use std::alloc::AllocError;
 use std::marker::Model;
 use std::rc::Rc;
 
-/// The timestamp of a record (RFC 6396, sections 2 and 3).
+/// The timestamp of an MRT record (RFC 6396, sections 2 and 3).
 #[derive(Clone, Copy, Debug, PartialEq, Eq)]
 pub struct Time {
-    /// Seconds since 1970.
+    /// Seconds since 1970-01-01 00:00:00 UTC.
     pub seconds: u32,
-    /// Microseconds after `seconds`. `None` for a record without them (RFC 6396, section 3).
+    /// Microseconds after `seconds`, below 1,000,000. `None` if the record's type has none: only
+    /// those of BGP4MP_ET do (RFC 6396, section 3).
     pub micros: Option<u32>,
 }
 
-/// The kind of record that an event was made from.
+/// The type of MRT record that an [`Event`] was made from.
 #[derive(Clone, Copy, Debug, PartialEq, Eq)]
 pub enum Tag {
-    /// An entry of a routing table: a TABLE_DUMP record (RFC 6396, section 4.2).
+    /// An entry of a routing table, of one peer and one prefix: a TABLE_DUMP record (RFC 6396,
+    /// section 4.2).
     TableDump,
-    /// Entries of a routing table for one prefix: a TABLE_DUMP_V2 record (RFC 6396, section 4.3).
+    /// Entries of a routing table, of several peers for one prefix, or the table of the peers that
+    /// such entries refer to, which makes no items: a TABLE_DUMP_V2 record (RFC 6396, section 4.3).
     TableDump2,
-    /// A message or a state change: a BGP4MP record (RFC 6396, section 4.4).
+    /// A BGP message of a peer, or a change of its session's state: a BGP4MP record (RFC 6396,
+    /// section 4.4).
     Bgp4mp,
-    /// A message or a state change, with microseconds: a BGP4MP_ET record (RFC 6396, section 3).
+    /// A BGP message of a peer, or a change of its session's state, with microseconds: a BGP4MP_ET
+    /// record (RFC 6396, section 3).
     Bgp4mpEt,
 }
 
-/// The path attributes and the time of a route. Its peer and its prefix are beside it, as in
-/// [`Item::Announce`].
+/// The path attributes and the time of a route. Its peer and its prefix aren't in it, so that one
+/// value can be shared by many prefixes; they are beside it, as in [`Item::Announce`].
 #[derive(Debug, Drop)]
 pub struct Route {
-    /// The path attributes.
+    /// The path attributes, with the next hop.
     pub attrs: Attrs,
-    /// The time of the route, in seconds since 1970: the timestamp of its record or, for a table
-    /// entry, the time that a [`Stamp`](crate::Stamp) chooses.
+    /// The time of the route, in seconds since 1970: the timestamp of its record or, for an entry
+    /// of a routing table, the one that a [`Stamp`](crate::Stamp) chooses: when the table was
+    /// dumped, or when the route last changed.
     pub time: u32,
 }
 
@@ -55,45 +61,50 @@ impl Clone for Route {
     }
 }
 
-/// The number of the session state Established (RFC 6396, section 4.4.1).
+/// The number of the session state Established, in which peers exchange routes (RFC 6396, section
+/// 4.4.1).
 pub const ESTABLISHED: u16 = 6;
 
-/// A change of a peer's route to a prefix, or of the state of its session.
+/// One change that a record reports: of a peer's route to a prefix, or of the state of its session.
 #[derive(Debug, Drop)]
 pub enum Item {
-    /// An announcement: from now on the peer has this route to the prefix. The entries of routing
-    /// tables are announcements too.
+    /// The peer announces the prefix with this route, which replaces the route that it had. Entries
+    /// of routing tables are announcements too. Items with equal routes may share one `Rc`.
     Announce(Peer, Prefix, Rc<Route>),
-    /// A withdrawal: from now on the peer has no route to the prefix.
+    /// The peer withdraws the prefix: from now on it has no route to it.
     Withdraw(Peer, Prefix),
-    /// A change of the session with the peer from the first state to the second, by their numbers
-    /// (RFC 4271, section 8.2.2; RFC 6396, section 4.4.1).
+    /// The session with the peer went from the first state to the second, by their numbers (1 for
+    /// Idle to 6 for Established: RFC 4271, section 8.2.2; RFC 6396, section 4.4.1).
     State(Peer, u16, u16),
 }
 
-/// A range of items that announce prefixes of one peer with one route. It may be empty.
+/// A range of the items of an [`Event`], all of which announce prefixes of one peer with one route.
+/// So a user may handle peer and route once for all of them. The range may be empty.
 #[derive(Clone, Copy, Debug, PartialEq, Eq)]
 pub struct SharedRange {
-    /// The index of the first item.
+    /// The index of the first item of the range.
     pub start: usize,
-    /// The index after the last item.
+    /// The index after the last item of the range. It equals `start` if the range is empty.
     pub end: usize,
 }
 
-/// Two adjacent ranges of items. The items of each range announce prefixes of one peer with one
-/// route. Either range may be empty.
+/// Two adjacent ranges of the items of an [`Event`]. In each range, all items announce prefixes of
+/// one peer with one route; the second range may have another peer or route than the first. So a
+/// user may handle peer and route once per range. Either may be empty.
 #[derive(Clone, Copy, Debug, PartialEq, Eq)]
 pub struct SharedRanges {
     /// The index of the first item of the first range.
     pub start: usize,
-    /// The index after the last item of the first range, where the second range begins.
+    /// The index after the last item of the first range, at which the second range begins.
     pub middle: usize,
     /// The index after the last item of the second range.
     pub end: usize,
 }
 
-/// The items of an event in order, with two ranges of them that are known to share a route. In
-/// contracts it is the list of the items' values, which have routes and not handles to them.
+/// The items of an event in order, and two ranges of them that are known to share a route: all
+/// items of one range announce prefixes of one peer with one route, which may differ from those of
+/// the other range ([`SharedRanges`]). In contracts, its value is the list of the items, each with
+/// the route itself instead of the `Rc`; the ranges don't show.
 #[derive(Debug, Drop)]
 pub struct Items {
     items: Vec<Item>,
@@ -117,7 +128,8 @@ impl Items {
     ghost use Rattle.mrt_events.specs.Event.{item_value};
     ghost use Rattle.mrt_events.specs.SharedRoute.{AnnounceOneRoute, AreSharedRanges};
 
-    /// Returns the items of a vector, in order. No range of them is known to share a route.
+    /// Converts a vector into items in the order that it has. No range of them is known to share a
+    /// route: [`Items::shared_ranges`] returns empty ones, which is always right.
     pub fn from_vec(items: Vec<Item>) -> Items
         ensures { result ≡ map item_value items.items }
     {
@@ -131,8 +143,10 @@ impl Items {
         }
     }
 
-    /// Returns the items of a vector, in order. The items of each range of `shared` must announce
-    /// prefixes of one peer with one route.
+    /// Converts a vector into items in the order that it has, of which two ranges share a route, so
+    /// that users can handle these faster. Requires that the indices `start`, `middle` and `end` of
+    /// `shared` don't decrease and are at most the number of items, and that in each of the two
+    /// ranges all items are announcements of one peer with equal routes.
     pub fn with_shared_ranges(items: Vec<Item>, shared: SharedRanges) -> Items
         requires { AreSharedRanges shared (map item_value items.items) }
         ensures { result ≡ map item_value items.items }
@@ -140,7 +154,7 @@ impl Items {
         Items { items, shared }
     }
 
-    /// Converts the items into a vector, in order.
+    /// Converts the items into a vector, in order. The shared ranges are lost.
     pub fn into_vec(self) -> Vec<Item>
         ensures { map item_value result.items ≡ self }
     {
@@ -155,9 +169,9 @@ impl Items {
         &self.items
     }
 
-    /// Returns the longer one of [`Items::shared_ranges`], the first if both have one length. Its
-    /// items announce prefixes of one peer with one route. It may be empty although several items
-    /// do.
+    /// Returns the longer of the two ranges of items that are known to share a route, or the first
+    /// if they are of one length. All its items announce prefixes of one peer with one route. It
+    /// may be empty, and need not have all such items. Its indices are at most the number of items.
     pub fn longest_shared_range(&self) -> SharedRange
         ensures ordered { result.start ≤ result.end }
         ensures within { result.end ≤ length self.now }
@@ -170,8 +184,9 @@ impl Items {
         SharedRange { start, end: middle }
     }
 
-    /// Returns the two ranges of items that are known to announce prefixes of one peer with one
-    /// route each. Either may be empty although several items do.
+    /// Returns the two ranges of items that are known to share a route: in each, all items announce
+    /// prefixes of one peer with one route. Either range may be empty, and they need not have all
+    /// such items. Their indices are in order, and at most the number of items.
     pub fn shared_ranges(&self) -> SharedRanges
         ensures { AreSharedRanges result self.now }
     {
@@ -179,15 +194,16 @@ impl Items {
     }
 }
 
-/// The content of an accepted record.
+/// The content of an MRT record: its type, its time, and the changes that it reports.
 #[derive(Debug, Drop)]
 pub struct Event {
     // In this order of the fields no padding is before the items, so that an event is moved in
     // whole words.
-    /// The kind of the record.
+    /// The type of the record.
     pub tag: Tag,
-    /// The time at which the record was written.
+    /// The timestamp of the record: when it was written.
     pub time: Time,
-    /// The items, in order.
+    /// The changes that the record reports, in order. There are none for some records, such as a
+    /// KEEPALIVE or a table of peers.
     pub items: Items,
 }

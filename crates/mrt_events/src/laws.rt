@@ -10,8 +10,10 @@ ghost use Rattle.mrt_events.specs.Event.{peer_cmp};
 
 use crate::peer::Peer;
 
-/// Proves that peers are ordered by address and then by AS number, that the order is total, and
-/// that only equal peers compare equal. `==`, `partial_cmp` and `cmp` of [`Peer`] agree with it.
+/// States three facts about the order of [`Peer`], which is by address and then by AS number:
+/// - it is total;
+/// - only equal peers compare as equal;
+/// - `cmp`, `partial_cmp` and `==` of [`Peer`] agree with it.
 pub fn law_peer_order()
     ensures parts { (a b : Peer) → ⟦<Peer as Ord>⟧.cmp a b ≡ peer_cmp a b }
     ensures partial { (a b : Peer) →

@@ -1,6 +1,6 @@
-//! The events of MRT records (RFC 6396): announcements, withdrawals and state changes of peers.
-//! `mrt_wire` makes them, `bgpdump_lines` prints them, and `rib_player` plays them. Read [`Event`]
-//! first, then [`Item`].
+//! What MRT records (RFC 6396) say: announcements, withdrawals and state changes of peers, as
+//! events. `mrt_wire` makes an event of each record, `bgpdump_lines` prints events, and
+//! `rib_player` applies them to tables of routes. Read [`Event`] first, then [`Item`].
 #![tactic(auto)]
 
 mod event;

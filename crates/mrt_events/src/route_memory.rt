@@ -1,37 +1,39 @@
-//! The number of octets of memory that a route is counted with. `mrt_wire` bounds its pool of
-//! routes by [`max_route_size`], and `known_routes` drops routes by [`route_size`]. That a route
-//! takes no more isn't proved.
+//! An estimate of the octets of memory that a route takes. `mrt_wire` bounds the memory of the
+//! unused routes that it keeps for reuse by [`max_route_size`], and `known_routes` decides by
+//! [`route_size`] which routes to drop. That a route takes no more isn't proved.
 
 use crate::event::Route;
 use bgp_wire::Segment;
 
-/// The number of octets that every route takes at least: its fixed attributes, and the overhead of
-/// its three blocks of memory.
+/// The number of octets that every route is counted with at least: its fixed path attributes, and
+/// the allocator's overhead for its three blocks of memory.
 const ROUTE_OCTETS: u64 = 192;
 
-/// The number of octets that a path segment takes without its AS numbers: its element in the list
-/// of the path, and the overhead of its block of memory.
+/// The number of octets that a segment of an AS path is counted with, without its AS numbers: its
+/// element in the path's list, and the allocator's overhead for its block of memory.
 const SEGMENT_OCTETS: u64 = 64;
 
-/// The number of octets of an AS number in a path, or of a community.
+/// The number of octets that an AS number in a path, or a community, takes.
 const NUMBER_OCTETS: u64 = 4;
 
 /// The number of octets of spare capacity that a route has at most if it was parsed from octets:
-/// for 4 segments (`fit` of `bgp_paths`), for 32 communities (`Communities` of `bgp_wire`), and
-/// what the allocator rounds up. A route with more takes more than is counted.
+/// for 4 path segments (`MOST_SPARE` of `path_reader.rt` in `bgp_paths`), for 32 communities
+/// (`MOST_SPARE` of `attrs.rt` in `bgp_wire`), and what the allocator rounds up. A route with more
+/// takes more than is counted.
 const SPARE_OCTETS: u64 = 288;
 
-/// The number of octets of spare capacity that a segment has at most in a route that was parsed
-/// from octets, for 8 AS numbers (`AsNumbers`). A segment with more takes more than is counted.
+/// The number of octets of spare capacity that a path segment has at most in a route that was
+/// parsed from octets: for 8 AS numbers (`MOST_SPARE` of `segment.rt` in `bgp_paths`). A segment
+/// with more takes more than is counted.
 const SEGMENT_SPARE: u64 = 32;
 
-/// Returns `count` times `octets`, or `u64::MAX` if the product is greater.
+/// Returns the product of `count` and `octets`, or `u64::MAX` if it is greater.
 #[inline]
 fn saturating_size(count: usize, octets: u64) -> u64 {
     (count as u64).saturating_mul(octets)
 }
 
-/// Returns the number of AS numbers of all segments together.
+/// Returns the sum of the numbers of AS numbers that the segments have.
 #[inline]
 fn number_count(segments: &[Segment]) -> usize {
     // The numbers are all in memory, so that the sum never wraps.
@@ -42,8 +44,9 @@ fn number_count(segments: &[Segment]) -> usize {
     count
 }
 
-/// Returns the number of octets of memory that a route takes, computed from the lengths of its
-/// lists, without their spare capacity.
+/// Returns an estimate of the octets of memory that a route takes, computed from the lengths of its
+/// AS path and communities, without the spare capacity of these lists. The estimate is `u64::MAX`
+/// if it would be greater.
 pub fn route_size(route: &Route) -> u64 {
     let attrs = &route.attrs;
     let segments = attrs.path.segments.as_slice();
@@ -55,8 +58,9 @@ pub fn route_size(route: &Route) -> u64 {
         .saturating_add(communities)
 }
 
-/// Returns the largest number of octets of memory that a route takes if it was parsed from octets,
-/// with the spare capacity of its lists.
+/// Returns an upper estimate of the octets of memory that a route takes if it was parsed from
+/// octets: [`route_size`], and the spare capacity that the lists of such a route have at most. The
+/// estimate is `u64::MAX` if it would be greater.
 pub fn max_route_size(route: &Route) -> u64 {
     let segments = route.attrs.path.segments.as_slice().len();
     route_size(route)

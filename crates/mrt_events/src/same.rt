@@ -1,6 +1,6 @@
 //! Tests whether two routes, peers or prefixes are equal, so that one can stand for the other. The
-//! printers of lines, the table of known routes and the player call them. Read [`same_route`]
-//! first.
+//! printers of lines, the table of known routes and the player of routing tables call them. Read
+//! [`same_route`] first.
 
 ghost use Rattle.std.specs.Prelude.{◌≡◌, ◌↔◌, IsTrue};
 
@@ -9,21 +9,23 @@ use crate::peer::Peer;
 use bgp_wire::{Aggregator, Attrs, Segment};
 use ip_prefix::Prefix;
 
-/// Returns `true` if two lists of AS numbers or communities are equal.
+/// Returns `true` if two lists of AS numbers or of communities have equal numbers in the same
+/// order.
 fn same_numbers(one: &[u32], other: &[u32]) -> bool
     ensures { IsTrue result ↔ (one.now ≡ other.now) }
 {
     one == other
 }
 
-/// Returns `true` if two segments of AS paths are equal, in kind and AS numbers.
+/// Returns `true` if two segments of AS paths are of one kind and have equal AS numbers in the same
+/// order.
 fn same_segment(one: &Segment, other: &Segment) -> bool
     ensures { IsTrue result ↔ (one.now ≡ other.now) }
 {
     one.kind == other.kind && same_numbers(one.numbers.as_slice(), other.numbers.as_slice())
 }
 
-/// Returns `true` if two AS paths, given by their segments, are equal.
+/// Returns `true` if two AS paths, given by their segments, have equal segments in the same order.
 fn same_segments(ones: &[Segment], others: &[Segment]) -> bool
     ensures { IsTrue result ↔ (ones.now ≡ others.now) }
 {
@@ -39,7 +41,7 @@ fn same_segments(ones: &[Segment], others: &[Segment]) -> bool
 }
 
 /// Returns `true` if two optional values are equal: both are `None`, or both are `Some` with equal
-/// values. `==` must hold exactly for equal values of `T`.
+/// values. Requires that `==` of `T` is true for identical values, and for no others.
 fn same_option<T: Copy + PartialEq>(one: Option<T>, other: Option<T>) -> bool
     requires { (a b : T) → IsTrue (T.eq a b) ↔ (a ≡ b) }
     ensures { IsTrue result ↔ (one ≡ other) }
@@ -60,7 +62,8 @@ fn same_aggregator(one: Option<Aggregator>, other: Option<Aggregator>) -> bool
     }
 }
 
-/// Returns `true` if two sets of path attributes are equal.
+/// Returns `true` if two sets of path attributes are equal: each attribute is absent from both, or
+/// has equal values in both.
 fn same_attributes(one: &Attrs, other: &Attrs) -> bool
     ensures { IsTrue result ↔ (one.now ≡ other.now) }
 {
@@ -74,7 +77,8 @@ fn same_attributes(one: &Attrs, other: &Attrs) -> bool
         && same_numbers(one.communities.as_slice(), other.communities.as_slice())
 }
 
-/// Returns `true` if two routes are equal, in time and path attributes.
+/// Returns `true` if two routes have equal times and equal path attributes, or `false` if any of
+/// these differ. `Route` has no `==`.
 #[inline]
 pub fn same_route(one: &Route, other: &Route) -> bool
     ensures { IsTrue result ↔ (one.now ≡ other.now) }
@@ -82,7 +86,8 @@ pub fn same_route(one: &Route, other: &Route) -> bool
     one.time == other.time && same_attributes(&one.attrs, &other.attrs)
 }
 
-/// Returns `true` if two peers are equal, in address and AS number.
+/// Returns `true` if two peers have equal addresses and equal AS numbers. The AS numbers are
+/// compared first, unlike in `==`.
 #[inline]
 #[tactic(auto, using(crate::proofs::PeerLaws::tied_addresses))]
 pub fn same_peer(one: &Peer, other: &Peer) -> bool
@@ -91,7 +96,8 @@ pub fn same_peer(one: &Peer, other: &Peer) -> bool
     one.asn == other.asn && one.addr == other.addr
 }
 
-/// Returns `true` if two prefixes are equal, in address and length.
+/// Returns `true` if two prefixes are equal, in family, bits and length, as `==` does. Callers get
+/// the equality of the values in its contract.
 #[inline]
 pub fn same_prefix(one: &Prefix, other: &Prefix) -> bool
     ensures { IsTrue result ↔ (one.now ≡ other.now) }

@@ -1,11 +1,14 @@
-//! The choice of the time that the routes of table entries get. A user of `mrt_wire` makes its
-//! source with one; the program takes it from the option `-t`.
+//! The choice of the time that the routes of routing tables get: when the table was dumped, or when
+//! the route last changed. A user of `mrt_wire` passes one to its source; the program takes it from
+//! its option `-t`.
 
-/// The choice of the time that the routes of table entries get.
+/// Which of two times becomes the time of a route ([`Route::time`](crate::Route)) that was read
+/// from a dump of a routing table (a TABLE_DUMP or TABLE_DUMP_V2 record).
 #[derive(Clone, Copy, Debug, PartialEq, Eq)]
 pub enum Stamp {
-    /// The timestamp of the record.
+    /// The timestamp of the record: about when the table was dumped.
     Dump,
-    /// The Originated Time of the entry (RFC 6396, sections 4.2 and 4.3.4).
+    /// The Originated Time in the entry: when the route last changed (RFC 6396, sections 4.2 and
+    /// 4.3.4).
     Change,
 }

@@ -1,5 +1,5 @@
-//! Filling buffers from an input, within a limit of octets. `frames.rt` reads headers and bodies
-//! with it. Read [`fill_within`] first.
+//! Filling buffers from an input, without reading more than a limit of octets in all. `frames.rt`
+//! reads headers and bodies of records with these functions. Read [`fill_within`] first.
 
 ghost use Rattle.std.specs.Prelude.{◌≡◌, ◌≤◌, ◌<◌, ◌+◌, ◌-◌, ◌*◌, ◌||◌, false, IfOk, length, max, take, drop, vec_len};
 ghost use Rattle.mrt_frames.specs.Taken.{FillsBuffered, FillsWithin, is_err_read, source_answer};
@@ -14,9 +14,10 @@ use std::ops::Range;
 const FIRST_GROWTH: usize = 4096;
 
 /// Fills `buffer` from `input`, and returns the number of octets filled, which is less than the
-/// length of `buffer` only at the end of the input. Adds the octets read to `taken`, on error too.
-/// Fails with `PastLimit` if `taken` reaches `limit` before `buffer` is full, or with `InputFailed`
-/// if a read fails.
+/// length of `buffer` only at the end of the input. `taken` is the number of octets read from the
+/// input so far, to which it adds those that it reads, on error too. Fails with `PastLimit` if
+/// `taken` reaches `limit` before `buffer` is full, or with `InputFailed` if a read fails; `buffer`
+/// is then partly filled. Requires `taken <= limit`.
 #[inline(always)]
 pub(crate) fn fill_within<I: Input>(
     input: &mut I,
@@ -50,9 +51,10 @@ pub(crate) fn fill_within<I: Input>(
     Ok(filled)
 }
 
-/// Returns the index up to which the buffer of a body of `size` octets is filled next, where the
-/// buffer has `held` octets and the first `filled` are filled. It is the end of the buffer, or, if
-/// that is full, the length to which the buffer is to grow; it is at most `size`.
+/// Returns the index up to which the buffer of a body of `size` octets is to be filled next, where
+/// the buffer has `held` octets, of which the first `filled` are filled. It is `held`, or, if all
+/// of these are filled, a greater length, to which the buffer is to grow; it is at most `size`.
+/// Requires that `filled` is below `size`.
 fn next_fill_end(held: usize, filled: usize, size: usize) -> usize
     requires unfinished { filled < size }
     requires small { size ≤ LONGEST_BODY }
@@ -68,9 +70,11 @@ fn next_fill_end(held: usize, filled: usize, size: usize) -> usize
     end.min(size)
 }
 
-/// Fills the octets of `buffer` in the range `part` from `input`, and returns the number of octets
-/// filled. Counts them in `taken`, up to `limit`, and fails as [`fill_within`] does. The octets
-/// before the range are unchanged.
+/// Fills the octets of `buffer` at the indices `part` from `input`, and returns the number of
+/// octets filled, which is less than the length of `part` only at the end of the input. Adds the
+/// octets read to `taken`, on error too. Fails with `PastLimit` if `taken` reaches `limit` before
+/// the part is full, or with `InputFailed` if a read fails. The octets before the part are
+/// unchanged. Requires that `part` is within `buffer`, and `taken <= limit`.
 pub(crate) fn fill_part<I: Input>(
     input: &mut I,
     buffer: &mut Vec<u8>,
@@ -94,10 +98,10 @@ pub(crate) fn fill_part<I: Input>(
 }
 
 /// Reads a body of `size` octets into the start of `buffer`, and returns the number of octets read,
-/// which is less than `size` only at the end of the input. Counts them in `taken`, up to `limit`,
-/// and fails as [`fill_within`] does, or with `Memory` if memory allocation fails. `buffer` grows
-/// to at most twice the octets read plus 4,096, so a length that the input doesn't have allocates
-/// little.
+/// which is less than `size` only at the end of the input. Adds them to `taken`, on error too.
+/// Fails with `InputTooLong` if `taken` reaches `limit` first, `Read` if a read fails, or `Memory`.
+/// `buffer` grows to at most twice the octets read plus 4,096, so that a header that states a
+/// length which the input doesn't have allocates little. Requires `taken <= limit`.
 #[inline(never)]
 pub(crate) fn fill_body<I: Input>(
     input: &mut I,

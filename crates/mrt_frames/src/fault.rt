@@ -1,5 +1,5 @@
-//! The faults of records, and the errors that stop a source. `frames.rt` and `mrt_wire` return
-//! them. Read [`RecordKind`] and [`SourceFault`] first.
+//! The faults of records, and the errors that end the reading of an input. `frames.rt` and
+//! `mrt_wire` return them. Read [`RecordKind`] and [`SourceFault`] first.
 
 ghost use Rattle.std.specs.Prelude.{◌≡◌};
 ghost use Rattle.mrt_frames.specs.Taken.{source_fault};
@@ -10,43 +10,49 @@ use crate::input::InFault;
 use std::alloc::AllocError;
 use thiserror::Error;
 
-/// The kind of a record's fault. If several apply, the first in this order is reported; a body that
-/// is cut (`CutRecord`) is tested after `TooLong`.
+/// What is wrong with an MRT record, or why it isn't supported. If several of these apply, the
+/// first in this order is reported, except that `TooLong` comes before `CutRecord`.
 #[derive(Clone, Copy, Debug, PartialEq, Eq)]
 pub enum RecordKind {
-    /// The input ends inside the record.
+    /// The input ends inside the record: in its header or in its body.
     CutRecord,
-    /// The header states this length of the body, in octets, which is greater than
+    /// The header states a body of this length, in octets, which is greater than
     /// [`LONGEST_BODY`](crate::LONGEST_BODY).
     TooLong(u32),
-    /// Records of this type and subtype aren't supported.
+    /// The record is of this type and subtype, in this order, of which records aren't parsed.
     Unsupported(u16, u16),
-    /// The body doesn't have the format of its type and subtype (RFC 6396, section 4).
+    /// The body doesn't have the format of the record's type and subtype (RFC 6396, section 4), or
+    /// a BGP message or attributes in it are malformed.
     Malformed,
-    /// The record is a RIB record, maybe without entries, and no peer index table was accepted
-    /// before it (RFC 6396, section 4.3).
+    /// The record is a RIB record, with or without entries, and no peer index table was accepted
+    /// before it, so that its entries have no peers (RFC 6396, section 4.3).
     NoIndex,
-    /// The peer index of an entry, the first that isn't in the peer index table.
+    /// An entry of the RIB record names its peer by this index, which the last peer index table
+    /// doesn't have. It is the first such entry of the record.
     PeerIndex(u16),
 }
 
-/// A faulty record: the fault, and where the record is in the input.
+/// A faulty record: what is wrong with it, and where it is in the input.
 #[derive(Clone, Copy, Debug, PartialEq, Eq)]
 pub struct RecordFault {
-    /// The number of the record, counted from 1. Faulty and unsupported records count too.
+    /// The number of the record in the input, where the first is 1. Faulty and unsupported records
+    /// count too.
     pub number: u64,
-    /// The kind of the fault.
+    /// What is wrong with the record.
     pub kind: RecordKind,
     /// The number of octets in the input before the record's header.
     pub offset: u64,
 }
 
-/// An error of reading octets into memory that is already allocated.
+/// Why reading octets into memory that is already allocated failed: the input returned an error, or
+/// more octets than the limit would be read. It becomes a [`SourceFault`], which can also be an
+/// error of memory allocation.
 #[derive(Clone, Copy)]
 pub(crate) enum TakeFault {
-    /// A read of the input failed.
+    /// A read of the input returned an error.
     InputFailed,
-    /// More octets than the limit would have to be read, be it only to see the end of the input.
+    /// The limit of octets to read in all was reached and more were needed, be it only to see
+    /// whether the input ends there.
     PastLimit,
 }
 
@@ -58,19 +64,21 @@ impl From<InFault> for TakeFault {
     }
 }
 
-/// An error that stops a source before the end of its input.
+/// An error that ends the reading of records before the end of the input. It isn't a fault of one
+/// record.
 #[derive(Clone, Copy, Debug, PartialEq, Eq, Error)]
 pub enum SourceFault {
-    /// A read of the input failed.
+    /// A read of the input returned an error.
     #[error("cannot read")]
     Read,
-    /// More octets than the limit would have to be read, be it only to see the end of the input.
+    /// The limit of octets to read in all was reached and more were needed, be it only to see
+    /// whether the input ends there.
     #[error("input too long")]
     InputTooLong,
     /// Memory allocation failed.
     #[error("out of memory")]
     Memory,
-    /// The source had returned an error in an earlier call.
+    /// An earlier call returned an error, after which nothing more is read.
     #[error("the source has stopped")]
     Spent,
 }

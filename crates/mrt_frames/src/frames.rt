@@ -1,5 +1,5 @@
-//! Reading records one after the other: headers, and the bodies of supported types. `mrt_wire`
-//! calls [`FrameReader::take_record`] for each record; read that first.
+//! Reading records one after the other: headers, and the bodies of those types that the caller
+//! supports. `mrt_wire` calls [`FrameReader::take_record`] for each record; read that first.
 
 ghost use Rattle.std.specs.Prelude.{◌≡◌, ◌+◌, ◌≤◌, ◌||◌, ℕ, false, Option, IfOk, IsTrue, take, length, vec_len};
 ghost use Rattle.mrt_frames.specs.Buffered.{HoldsRecord};
@@ -11,8 +11,9 @@ use crate::header::{HEADER_SIZE, Header, LONGEST_BODY, read_header};
 use crate::input::Input;
 use std::alloc::Global;
 
-/// The largest size of the buffer of bodies, in octets, that is kept when a body of no more octets
-/// is read. A buffer of one octet more is freed then, and grows anew.
+/// The largest size, in octets, up to which the buffer of bodies is always kept. A larger one is
+/// freed before a body of no more than this is read, so that one long record doesn't occupy memory
+/// from then on.
 const MOST_KEPT: usize = 1 << 18;
 
 // They are few, since the buffer is filled with zeros for each skipped record.
@@ -20,58 +21,62 @@ const MOST_KEPT: usize = 1 << 18;
 /// of one octet more takes one more read of the input.
 const PIECE: usize = 512;
 
-/// The supported types and subtypes of records, and the format of the bodies of each.
+/// Which types and subtypes of MRT records the user of a [`FrameReader`] supports, and the format
+/// of the bodies of each. The bodies of other records are skipped.
 pub trait RecordTypes {
-    /// The format of a body, by which it is parsed.
+    /// The format of a body, by which the user of the reader knows how to parse it.
     type BodyFormat: Copy;
 
-    /// The format of the bodies of a type and subtype, or `None` if these aren't supported.
+    /// In contracts, the format of the bodies of records of a type and subtype, or `None` if such
+    /// records aren't supported.
     ghost format_at: { Self → ℕ → ℕ → Option Self.BodyFormat };
 
-    /// Returns the format of the bodies of type `kind` and `subtype`, or `None` if these aren't
-    /// supported.
+    /// Returns the format of the bodies of records of type `kind` and `subtype`, or `None` if such
+    /// records aren't supported.
     fn body_format(&self, kind: u16, subtype: u16) -> Option<Self::BodyFormat>
         ensures { result ≡ format_at self.now kind subtype };
 }
 
-/// The header of the next record, or the fault of what is left of the input.
+/// The header of the next record, or what is left of the input if no whole header is.
 #[derive(Clone, Copy)]
 enum NextHeader {
     /// The header of the next record.
     Header(Header),
-    /// The input ends before a whole header: the fault of the octets that are left, or `None` if
-    /// none are.
+    /// The input ends before a whole header: `None` if it ends where a record may end, so that
+    /// nothing is wrong, or the fault `CutRecord` if it ends inside the header.
     Rest(Option<RecordKind>),
 }
 
-/// The next record of an input, or the fault of what is left of it.
+/// The next record of an input, or the end of the input.
 #[derive(Clone, Copy)]
 pub enum NextRecord<F> {
-    /// The header of a record of a supported type, and the format of its body, which
-    /// [`FrameReader::body`] returns.
+    /// The header of a record of a supported type, and the format of its body, as [`RecordTypes`]
+    /// gives it. The body was read: [`FrameReader::body`] returns it.
     Record(Header, F),
-    /// The header of a record of an unsupported type, whose body was skipped.
+    /// The header of a record of an unsupported type or subtype, whose body was skipped.
     Skipped(Header),
-    /// No whole record can be read: the fault of the octets that are left, or `None` if none are.
+    /// There is no further record: `None` if the input ends after a whole record, so that nothing
+    /// is wrong; or the fault of the octets that are left: the input ends inside a record, or a
+    /// header states a body that is too long.
     Rest(Option<RecordKind>),
 }
 
-/// A reader of records, header and body, from an input, within a limit of octets. The caller holds
-/// the input and passes it to each call.
+/// A reader of MRT records, header and body, which reads no more than a limit of octets. It doesn't
+/// own the input: the caller passes the same one to each call.
 #[derive(Drop)]
 pub struct FrameReader {
-    /// A buffer whose start is the last body that was read. The next body reuses it.
+    /// A buffer whose start is the body that was read last. The next body overwrites it.
     body: Vec<u8>,
     /// The greatest number of octets to read in all.
     limit: u64,
-    /// The number of octets read so far.
+    /// The number of octets read so far, which is at most `limit`.
     taken: u64,
     ghost within: { taken ≤ limit },
 }
 
 impl FrameReader {
-    /// Returns a reader at the start of its input, which reads at most `limit` octets, without
-    /// allocating memory.
+    /// Returns a reader at the start of its input, which reads at most `limit` octets in all. It
+    /// allocates no memory yet.
     pub fn new(alloc: Global, limit: u64) -> Self
         ensures limit { result.limit ≡ limit }
         ensures taken { result.taken ≡ 0 }
@@ -83,7 +88,8 @@ impl FrameReader {
         }
     }
 
-    /// Returns the number of octets read from the input so far.
+    /// Returns the number of octets read from the input so far: of headers and bodies, skipped ones
+    /// too, and of what was read before an error. It is at most the limit.
     pub fn taken(&self) -> u64
         ensures taken { result ≡ self.now.taken }
         ensures within { self.now.taken ≤ self.now.limit }
@@ -91,8 +97,10 @@ impl FrameReader {
         self.taken
     }
 
-    /// Returns the first `size` octets of the buffer of bodies. They are the body of the record
-    /// that was read last if `size` is the length that its header states, in octets.
+    /// Returns the first `size` octets of the buffer into which bodies are read. To get the body
+    /// that [`FrameReader::take_record`] read last, pass the `size` of its header: a smaller one
+    /// cuts the body, and a greater one adds octets of earlier records. Requires that the buffer
+    /// has `size` octets.
     pub fn body(&self, size: u32) -> &[u8]
         requires { size ≤ vec_len self.now.body }
         ensures { result.now ≡ take size self.now.body.items }
@@ -101,7 +109,8 @@ impl FrameReader {
     }
 
     /// Reads the next header, or returns [`NextHeader::Rest`] if the input ends before or inside
-    /// it. On error, a part of the header may have been read.
+    /// it. Fails if a read fails or the limit is reached; a part of the header may have been read
+    /// then.
     #[inline(always)]
     fn take_header<I: Input>(&mut self, input: &mut I) -> Result<NextHeader, TakeFault>
         ensures octets { TakesOctets (TakesHeaderOrRest self.new.limit (source_answer result))
@@ -120,8 +129,10 @@ impl FrameReader {
         Ok(NextHeader::Rest((count > 0).then_some(RecordKind::CutRecord)))
     }
 
-    /// Reads a body of `size` octets into the buffer of bodies. Returns `false` if the input ends
-    /// inside the body. On error, a part of the body may have been read.
+    /// Reads a body of `size` octets into the buffer of bodies. Returns `true` if it was read as a
+    /// whole, `false` if the input ends inside it. Fails if a read fails, the limit is reached, or
+    /// memory allocation fails; a part of the body may have been read then. Requires that `size` is
+    /// at most [`LONGEST_BODY`].
     #[inline(always)]
     fn take_body<I: Input>(&mut self, input: &mut I, size: u32) -> Result<bool, SourceFault>
         requires { size ≤ LONGEST_BODY }
@@ -145,8 +156,9 @@ impl FrameReader {
         Ok(count == size)
     }
 
-    /// Skips a body of `size` octets. Returns `false` if the input ends inside the body. On error,
-    /// a part of the body may have been read.
+    /// Reads a body of `size` octets from the input without keeping it. Returns `true` if all of it
+    /// was there, `false` if the input ends inside it. Fails if a read fails or the limit is
+    /// reached; a part of the body may have been read then.
     #[inline(never)]
     fn skip_body<I: Input>(&mut self, input: &mut I, size: u32) -> Result<bool, TakeFault>
         ensures octets { TakesOctets (SkipsBody self.new.limit size (source_answer result))
@@ -170,10 +182,11 @@ impl FrameReader {
         Ok(true)
     }
 
-    /// Reads the next record from `input`, or returns [`NextRecord::Rest`] if there is no whole
-    /// one. Bodies of types that `record_types` doesn't support are skipped. Fails if the input fails,
-    /// the limit is met, or memory allocation fails; a part of the record may have been read then.
-    /// No read fails if the record is buffered as a whole.
+    /// Reads the next record from `input`, or returns [`NextRecord::Rest`] if there is no whole one
+    /// or its body is too long. The body is kept for [`FrameReader::body`], or skipped if
+    /// `record_types` doesn't support the record. Fails if a read fails, the limit is reached, or
+    /// memory allocation fails; a part of the record may have been read then. No read fails if
+    /// `input` has the whole record in its buffer.
     #[inline(always)]
     pub fn take_record<P: RecordTypes, I: Input>(
         &mut self,

@@ -8,11 +8,12 @@ ghost use Rattle.mrt_frames.specs.Record.{FitsHeader, header_octets};
 
 use byteorder::{BigEndian, ByteOrder};
 
-/// The size of a header, in octets.
+/// The size of the header of an MRT record, in octets (RFC 6396, section 2).
 pub const HEADER_SIZE: usize = 12;
 
-/// The greatest length of a body, in octets, that a header may state. After a header that states
-/// one octet more, nothing of the input is read.
+/// The greatest length of a record's body, in octets, that a header may state: 16 MiB. A record
+/// whose header states one octet more is a fault ([`RecordKind::TooLong`](crate::RecordKind)),
+/// after which nothing of the input is read.
 pub const LONGEST_BODY: u32 = 16_777_216;
 
 /// The header of an MRT record (RFC 6396, section 2).
@@ -20,15 +21,16 @@ pub const LONGEST_BODY: u32 = 16_777_216;
 pub struct Header {
     /// The timestamp, in seconds since 1970-01-01 00:00:00 UTC.
     pub seconds: u32,
-    /// The type of the record.
+    /// The type of the record, as 13 for TABLE_DUMP_V2 (RFC 6396, section 4).
     pub kind: u16,
-    /// The subtype of the record.
+    /// The subtype of the record. What it means depends on the type.
     pub subtype: u16,
-    /// The length of the body, in octets.
+    /// The length of the body that follows the header, in octets, without the header.
     pub size: u32,
 }
 
-/// Returns the big-endian 16-bit number at `offset` in `octets`.
+/// Returns the 16-bit number whose two octets, in big-endian order, begin at index `offset` of
+/// `octets`. Requires that `octets` has them.
 fn u16_at(octets: &[u8], offset: usize) -> u16
     requires { offset + 2 ≤ length octets.now }
     ensures { to_be_bytes w16 result ≡ take 2 (drop offset octets.now) }
@@ -36,7 +38,8 @@ fn u16_at(octets: &[u8], offset: usize) -> u16
     BigEndian::read_u16(&octets[offset..])
 }
 
-/// Returns the big-endian 32-bit number at `offset` in `octets`.
+/// Returns the 32-bit number whose four octets, in big-endian order, begin at index `offset` of
+/// `octets`. Requires that `octets` has them.
 fn u32_at(octets: &[u8], offset: usize) -> u32
     requires { offset + 4 ≤ length octets.now }
     ensures { to_be_bytes w32 result ≡ take 4 (drop offset octets.now) }
@@ -44,7 +47,8 @@ fn u32_at(octets: &[u8], offset: usize) -> u32
     BigEndian::read_u32(&octets[offset..])
 }
 
-/// Parses the octets of a header (RFC 6396, section 2). Its numbers are big-endian.
+/// Parses the 12 octets of the header of an MRT record (RFC 6396, section 2): four numbers in
+/// big-endian order. Any octets are a header.
 pub(crate) fn read_header(octets: &[u8; HEADER_SIZE]) -> Header
     ensures fits { FitsHeader result.seconds result.kind result.subtype result.size }
     ensures octets { header_octets result.seconds result.kind result.subtype result.size
@@ -59,7 +63,8 @@ pub(crate) fn read_header(octets: &[u8; HEADER_SIZE]) -> Header
 }
 
 /// Returns `true` if `octets` begins with a whole record: a header, and a body of the length that
-/// the header states.
+/// the header states, whatever that is. Returns `false` if `octets` ends before or inside the
+/// record.
 #[inline]
 pub(crate) fn begins_with_record(octets: &[u8]) -> bool
     ensures { IsTrue result ↔ HoldsRecord octets.now }

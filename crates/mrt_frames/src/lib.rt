@@ -1,6 +1,6 @@
-//! A reader of MRT records (RFC 6396) that returns the header and the body of each. `mrt_wire`
-//! calls [`FrameReader::take_record`], and parses the bodies. Read `frames.rt` first, then
-//! `input.rt`.
+//! A reader of MRT records (RFC 6396) that returns the header and the body of each, and parses the
+//! header alone. `mrt_wire` calls [`FrameReader::take_record`], and parses the bodies. Read
+//! `frames.rt` first, then `input.rt`.
 #![tactic(auto)]
 
 mod buffer;

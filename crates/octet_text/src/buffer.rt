@@ -13,15 +13,17 @@ use std::alloc::{AllocError, Global};
 use std::marker::Model;
 use std::mem;
 
-/// The least number of octets after the text in a buffer that has just grown. An append of more
-/// octets grows the buffer by as many as it needs.
+/// The least number of octets by which a buffer that has just grown is longer than its text. An
+/// append of more octets than these grows the buffer by as many as it needs.
 const LEAST_ROOM: usize = 512;
 
-/// The size of a buffer, in octets, up to which [`Text::clear`] keeps it. A larger buffer is freed,
-/// and the next long text allocates its own.
+/// The size of a buffer, in octets, up to which [`Text::clear`] keeps it for the next text. A
+/// larger buffer is freed, so that one long text doesn't occupy memory from then on.
 const MOST_KEPT: usize = 1 << 18;
 
-/// A growable text of octets, not necessarily UTF-8. Appends fail if memory allocation fails.
+/// A growable string of octets, not necessarily UTF-8. Unlike `Vec<u8>`, it can write numbers right
+/// into its spare octets. Each method that appends returns `AllocError` if memory allocation fails.
+/// In contracts, its value is the list of its octets; the capacity doesn't show.
 #[derive(Drop)]
 pub struct Text {
     // The text is its first `len` octets. Those after it are unspecified; appends overwrite them.
@@ -40,7 +42,7 @@ impl Model for Text {
 }
 
 impl Text {
-    /// Returns an empty text, without allocating memory.
+    /// Returns an empty text, without allocating memory. Appends allocate it with `alloc`.
     pub fn new(alloc: Global) -> Self
         ensures { result ≡ [] }
     {
@@ -50,8 +52,8 @@ impl Text {
         }
     }
 
-    /// Moves the octets out of `octets` into a new text, without copying them, and leaves `octets`
-    /// empty.
+    /// Moves the octets of `octets` into a new text, without copying them, and leaves `octets`
+    /// empty, without capacity. The text goes on using the allocator of `octets`.
     #[inline]
     pub fn taken_from(octets: &mut Vec<u8>) -> Self
         ensures taken { result ≡ octets.old.items }
@@ -84,7 +86,7 @@ impl Text {
         self.as_slice().len()
     }
 
-    /// Returns the octets of the text as a slice.
+    /// Returns the octets of the text as a slice, from first to last.
     #[inline]
     pub fn as_slice(&self) -> &[u8]
         ensures { result.now ≡ self.now }
@@ -92,8 +94,8 @@ impl Text {
         &self.buffer[..self.len]
     }
 
-    /// Shortens the text to its first `len` octets. A text of no more than `len` octets is
-    /// unchanged.
+    /// Shortens the text to its first `len` octets, and keeps its memory. A text of no more than
+    /// `len` octets is unchanged.
     #[inline]
     pub fn truncate(&mut self, len: usize)
         ensures { self.new ≡ take len self.old }
@@ -101,7 +103,8 @@ impl Text {
         self.len = self.len.min(len);
     }
 
-    /// Removes all octets from the text. A buffer of more than 2^18 octets is freed.
+    /// Removes all octets from the text. Its memory is kept for the next octets, unless it is more
+    /// than 2^18 octets, which are freed.
     #[inline]
     pub fn clear(&mut self)
         ensures { self.new ≡ [] }
@@ -112,7 +115,8 @@ impl Text {
         }
     }
 
-    /// Appends an octet. On error, the text is unchanged.
+    /// Appends the one octet `octet`. Returns `AllocError` if memory allocation fails; the text is
+    /// unchanged then.
     #[inline]
     pub fn push(&mut self, octet: u8) -> Result<(), AllocError>
         ensures appended { OnOk result (self.new ≡ self.old ++ octet ∷ []) }
@@ -125,7 +129,8 @@ impl Text {
         Ok(())
     }
 
-    /// Appends `number` in decimal, without leading zeros. On error, the text is unchanged.
+    /// Appends `number` in decimal, without leading zeros, as in `65000`. Returns `AllocError` if
+    /// memory allocation fails; the text is unchanged then.
     #[inline]
     pub fn put_decimal(&mut self, number: u32) -> Result<(), AllocError>
         ensures appended { OnOk result (self.new ≡ self.old ++ decimal number) }
@@ -136,8 +141,8 @@ impl Text {
         Ok(())
     }
 
-    /// Appends the 64-bit `number` in decimal, without leading zeros. On error, the text is
-    /// unchanged.
+    /// Appends the 64-bit `number` in decimal, without leading zeros, as in `4294967296`. Returns
+    /// `AllocError` if memory allocation fails; the text is unchanged then.
     pub fn put_decimal_u64(&mut self, number: u64) -> Result<(), AllocError>
         ensures appended { OnOk result (self.new ≡ self.old ++ decimal number) }
         ensures unchanged { OnErr result (self.new ≡ self.old) }
@@ -148,8 +153,9 @@ impl Text {
         }
     }
 
-    /// Appends `number` in decimal, without leading zeros, and then the octet `end`. On error, the
-    /// text is unchanged.
+    /// Appends `number` in decimal, without leading zeros, and then the octet `end`: for 65000 and
+    /// a bar, `65000|`. Returns `AllocError` if memory allocation fails; the text is unchanged
+    /// then.
     #[inline]
     pub fn put_ended_decimal(&mut self, number: u32, end: u8) -> Result<(), AllocError>
         ensures appended { OnOk result (self.new ≡ self.old ++ (decimal number ++ end ∷ [])) }
@@ -160,8 +166,9 @@ impl Text {
         Ok(())
     }
 
-    /// Appends the octet `lead`, and then `number` in decimal, without leading zeros. On error, the
-    /// text is unchanged.
+    /// Appends the octet `lead`, and then `number` in decimal, without leading zeros: for a bar and
+    /// 65000, `|65000`. Returns `AllocError` if memory allocation fails; the text is unchanged
+    /// then.
     #[inline(always)]
     pub fn put_led_decimal(&mut self, lead: u8, number: u32) -> Result<(), AllocError>
         ensures appended { OnOk result (self.new ≡ self.old ++ lead ∷ decimal number) }
@@ -175,8 +182,9 @@ impl Text {
         Ok(())
     }
 
-    /// Appends each of `numbers` in decimal, without leading zeros, and the octet `end` after each.
-    /// On error, the text is unchanged.
+    /// Appends each of `numbers` in decimal, without leading zeros, and the octet `end` after each,
+    /// the last too: for 1, 20 and a comma, `1,20,`. Appends nothing if `numbers` is empty. Returns
+    /// `AllocError` if memory allocation fails; the text is unchanged then.
     #[inline]
     pub fn put_ended_decimals(&mut self, numbers: &[u32], end: u8) -> Result<(), AllocError>
         ensures appended { OnOk result
@@ -193,8 +201,9 @@ impl Text {
         Ok(())
     }
 
-    /// Appends the word of each of `numbers`, as `W` writes it, and the octet `end` after each. On
-    /// error, the text is unchanged.
+    /// Appends each of `numbers` in the format `W`, and the octet `end` after each, the last too:
+    /// `65000:1,no-export,` for communities and a comma. Appends nothing if `numbers` is empty.
+    /// Returns `AllocError` if memory allocation fails; the text is unchanged then.
     #[inline]
     pub fn put_ended_words<W: WordFormat>(
         &mut self,
@@ -215,7 +224,9 @@ impl Text {
         Ok(())
     }
 
-    /// Appends `value` as text. On error, the text is unchanged.
+    /// Appends `value` as text, in the format that its type has as a [`WriteTextAt`]: an IP prefix
+    /// as `10.0.0.0/8`. Returns `AllocError` if memory allocation fails; the text is unchanged
+    /// then.
     #[inline]
     pub fn put<V: WriteTextAt>(&mut self, value: &V) -> Result<(), AllocError>
         ensures appended { OnOk result (self.new ≡ self.old ++ V.shown value.now) }
@@ -226,7 +237,9 @@ impl Text {
         Ok(())
     }
 
-    /// Appends the octet `lead`, and then `value` as text. On error, the text is unchanged.
+    /// Appends the octet `lead`, and then `value` in the format that its type has as a
+    /// [`WriteTextAt`]: for a bar and an IP prefix, `|10.0.0.0/8`. Returns `AllocError` if memory
+    /// allocation fails; the text is unchanged then.
     #[inline]
     pub fn put_led<V: WriteTextAt>(&mut self, lead: u8, value: &V) -> Result<(), AllocError>
         ensures appended { OnOk result (self.new ≡ self.old ++ lead ∷ V.shown value.now) }
@@ -240,7 +253,8 @@ impl Text {
         Ok(())
     }
 
-    /// Appends `octets`. On error, the text is unchanged.
+    /// Appends a copy of `octets`. Returns `AllocError` if memory allocation fails; the text is
+    /// unchanged then.
     #[inline(always)]
     pub fn extend_from_slice(&mut self, octets: &[u8]) -> Result<(), AllocError>
         ensures appended { OnOk result (self.new ≡ self.old ++ octets.now) }
@@ -253,8 +267,9 @@ impl Text {
         Ok(())
     }
 
-    /// Appends a copy of the octets `start..end` of the text itself. On error, the text is
-    /// unchanged.
+    /// Appends a copy of a part of the text itself: its octets from index `start` to before index
+    /// `end`. Requires that `start` is at most `end`, and `end` at most the length. Returns
+    /// `AllocError` if memory allocation fails; the text is unchanged then.
     #[inline]
     pub fn extend_from_within(&mut self, start: usize, end: usize) -> Result<(), AllocError>
         requires { (start ≤ end) × (end ≤ length self.old) }
@@ -269,8 +284,8 @@ impl Text {
     }
 }
 
-/// Appends the 64-bit `number` in decimal, without leading zeros, to `text`. On error, `text` is
-/// unchanged.
+/// Appends the 64-bit `number` in decimal, without leading zeros, as in `4294967296`, to a vector
+/// of octets. Returns `AllocError` if memory allocation fails; `text` is unchanged then.
 pub fn put_decimal(number: u64, text: &mut Vec<u8>) -> Result<(), AllocError>
     ensures appended { OnOk result (text.new.items ≡ text.old.items ++ decimal number) }
     ensures unchanged { OnErr result (text.new.items ≡ text.old.items) }
@@ -278,8 +293,10 @@ pub fn put_decimal(number: u64, text: &mut Vec<u8>) -> Result<(), AllocError>
     text.extend_from_slice(Buffer::new().format(number).as_bytes())
 }
 
-/// Ensures that `buffer` has at least `room` octets after its first `len`, and grows it if it has
-/// fewer. The first `len` octets are unchanged, on error too; those after them are unspecified.
+/// Ensures that `buffer` has at least `room` octets after its first `len`, so that they can be
+/// overwritten there, and resizes it if it has fewer. Its first `len` octets, which are the text,
+/// are unchanged, on error too; those after them are unspecified. Requires that `buffer` has at
+/// least `len` octets. Fails if memory allocation fails.
 #[inline(always)]
 fn make_room(buffer: &mut Vec<u8>, len: usize, room: usize) -> Result<(), AllocError>
     requires { len ≤ length buffer.old.items }
@@ -293,9 +310,10 @@ fn make_room(buffer: &mut Vec<u8>, len: usize, room: usize) -> Result<(), AllocE
     Ok(())
 }
 
-/// Ensures that `buffer` has at least `count * each` octets after its first `len`, and grows it if
-/// it has fewer. The first `len` octets are unchanged, on error too; those after them are
-/// unspecified.
+/// Ensures that `buffer` has at least `count * each` octets after its first `len`, so that `count`
+/// words of at most `each` octets can be written there, and resizes it if it has fewer. Its first
+/// `len` octets are unchanged, on error too; those after them are unspecified. Requires that
+/// `buffer` has at least `len` octets and that `each` isn't 0. Fails if memory allocation fails.
 #[inline(always)]
 fn make_room_for_each(
     buffer: &mut Vec<u8>,
@@ -315,8 +333,10 @@ fn make_room_for_each(
     Ok(())
 }
 
-/// Resizes `buffer` to `len + room` octets, or to `len + LEAST_ROOM` if that is more. The first
-/// `len` octets are unchanged, on error too.
+/// Resizes `buffer` to `len + room` octets, or to `len + LEAST_ROOM` if that is more. Its first
+/// `len` octets are unchanged, on error too; those after them are unspecified. Requires that
+/// `buffer` has at least `len` octets. Fails if memory allocation fails, and if the size exceeds
+/// `usize::MAX`.
 #[cold]
 #[inline(never)]
 fn grow(buffer: &mut Vec<u8>, len: usize, room: usize) -> Result<(), AllocError>
@@ -330,7 +350,9 @@ fn grow(buffer: &mut Vec<u8>, len: usize, room: usize) -> Result<(), AllocError>
     buffer.resize(size, 0)
 }
 
-/// Copies the octets `start..end` of `octets` to offset `at` of `octets`, which is at least `end`.
+/// Copies the octets from index `start` to before index `end` of `octets` to index `at` of the same
+/// slice, over what is there. Requires that `start <= end <= at`, so that the two parts don't
+/// overlap, and that `octets` doesn't end before the copy does.
 #[inline]
 fn copy_within(octets: &mut [u8], start: usize, end: usize, at: usize)
     requires order { (start ≤ end) × (end ≤ at) }

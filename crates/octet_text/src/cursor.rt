@@ -1,34 +1,37 @@
 //! Functions that write numbers and other values as text into a slice at an offset, and return the
-//! offset of the octet after the text. The slice needs a fixed number of octets from that offset
-//! on; those after the text are then unspecified. [`Text`](crate::Text) and the crates that print
-//! values call them. Read [`write_decimal`] first.
+//! offset of the octet after the text. Each needs a fixed number of octets in the slice from that
+//! offset on, of which those after the text are then unspecified. [`Text`](crate::Text) and the
+//! crates that print values call them. Read [`write_decimal`] first.
 
 ghost use Rattle.std.specs.Prelude.{◌≡◌, ℕ, List, ◌+◌, ◌<◌, ◌≤◌, ◌++◌, ◌∷◌, [], length, take, drop, decimal};
 ghost use Rattle.octet_text.specs.Written.{IsWritten, three_digits, left_aligned_digits, two_hex_digits};
 
 use crate::digits::{DIGIT_ROWS, HEX_PAIRS};
 
-/// The number of octets that [`write_decimal`] needs from its offset on: the ten digits of a `u32`,
-/// and two more, since digits are written four octets at a time.
+/// The number of octets that [`write_decimal`] needs in its slice from the offset on: the ten
+/// digits of a `u32`, and two more, since digits are written four octets at a time.
 pub const DECIMAL_ROOM: usize = 12;
 
-/// The number of octets that [`write_ended_decimal`] needs from its offset on: a decimal and an
-/// octet.
+/// The number of octets that [`write_ended_decimal`] needs in its slice from the offset on: those
+/// of a decimal, and one for the octet after it.
 pub(crate) const ENDED_ROOM: usize = DECIMAL_ROOM + 1;
 
 /// The greatest number of decimal digits of a `u32`.
 const DECIMAL_DIGITS: usize = 10;
 
-/// The number of octets that [`write_below_thousand`] needs from its offset on, and writes at once.
+/// The number of octets that [`write_below_thousand`] writes at once, and needs in its slice from
+/// the offset on. They are a row of the table of digits: up to three digits, and filling.
 pub const ROW: usize = 4;
 
-/// The number of octets that [`write_hex_octet`] writes, and needs from its offset on.
+/// The number of octets that [`write_hex_octet`] writes, and needs in its slice from the offset on:
+/// two hexadecimal digits.
 pub const HEX_PAIR: usize = 2;
 
-/// A space. It separates words, and fills rows of fewer than three digits.
+/// The ASCII code of a space. It separates words of printed text, and fills rows of the table of
+/// digits that have fewer than three of them.
 pub const SPACE: u8 = b' ';
 
-/// The ASCII code of the digit 0.
+/// The ASCII code of the digit 0, which is subtracted from that of another digit to get its value.
 const ZERO: usize = b'0' as usize;
 
 /// One thousand. Numbers below it have at most three digits.
@@ -37,9 +40,9 @@ const THOUSAND: u32 = 1000;
 /// One million. Numbers below it have at most six digits.
 const MILLION: u32 = 1_000_000;
 
-/// Writes `number` in decimal, without leading zeros, into `text` at offset `at`, and returns the
-/// offset of the octet after it. `text` needs [`DECIMAL_ROOM`] octets from `at` on, of which those
-/// after the number are unspecified.
+/// Writes `number` in decimal, without leading zeros, as in `65000`, into `text` at offset `at`,
+/// and returns the offset of the octet after it. Requires that `text` has [`DECIMAL_ROOM`] octets
+/// from `at` on, of which those after the number are then unspecified.
 #[inline]
 pub fn write_decimal(number: u32, text: &mut [u8], at: usize) -> usize
     requires { at + DECIMAL_ROOM ≤ length text.old }
@@ -52,9 +55,10 @@ pub fn write_decimal(number: u32, text: &mut [u8], at: usize) -> usize
     write_large_decimal(number, text, at)
 }
 
-/// Writes `number` in decimal and then the octet `end` into `text` at offset `at`, and returns the
-/// offset of the octet after `end`. `text` needs `DECIMAL_ROOM + 1` octets from `at` on, of which
-/// those after `end` are unspecified.
+/// Writes `number` in decimal, without leading zeros, and then the octet `end`, as in `65000|`,
+/// into `text` at offset `at`, and returns the offset of the octet after `end`. Requires that
+/// `text` has `DECIMAL_ROOM + 1` octets from `at` on, of which those after `end` are then
+/// unspecified.
 #[inline]
 pub fn write_ended_decimal(number: u32, end: u8, text: &mut [u8], at: usize) -> usize
     requires { at + ENDED_ROOM ≤ length text.old }
@@ -66,8 +70,9 @@ pub fn write_ended_decimal(number: u32, end: u8, text: &mut [u8], at: usize) -> 
     behind + 1
 }
 
-/// Writes `number`, which must be at least 1,000,000, in decimal into `text` at offset `at`, and
-/// returns the offset of the octet after it. `text` needs [`DECIMAL_ROOM`] octets from `at` on.
+/// Writes `number` in decimal into `text` at offset `at`, and returns the offset of the octet after
+/// it. Requires that `number` is at least 1,000,000, and that `text` has [`DECIMAL_ROOM`] octets
+/// from `at` on, of which those after the number are then unspecified.
 #[inline(never)]
 fn write_large_decimal(number: u32, text: &mut [u8], at: usize) -> usize
     requires { (MILLION ≤ number) × (at + DECIMAL_ROOM ≤ length text.old) }
@@ -81,9 +86,9 @@ fn write_large_decimal(number: u32, text: &mut [u8], at: usize) -> usize
     write_three_digits(low % THOUSAND, text, thousands)
 }
 
-/// Writes `number`, which must be below 1,000,000, in decimal, without leading zeros, into `text`
-/// at offset `at`, and returns the offset of the octet after it. `text` needs `3 + ROW` octets from
-/// `at` on.
+/// Writes `number` in decimal, without leading zeros, into `text` at offset `at`, and returns the
+/// offset of the octet after it. Requires that `number` is below 1,000,000, and that `text` has at
+/// least `3 + ROW` octets from `at` on, of which those after the number are then unspecified.
 #[inline(always)]
 fn write_below_million(number: u32, text: &mut [u8], at: usize) -> usize
     requires { (number < MILLION) × (at + 3 + ROW ≤ length text.old) }
@@ -97,9 +102,9 @@ fn write_below_million(number: u32, text: &mut [u8], at: usize) -> usize
     write_three_digits(number % THOUSAND, text, thousands)
 }
 
-/// Writes `number`, which must be below 1,000, in decimal, without leading zeros, into `text` at
-/// offset `at`, and returns the offset of the octet after it. `text` needs [`ROW`] octets from `at`
-/// on, of which those after the number are unspecified.
+/// Writes `number` in decimal, without leading zeros, into `text` at offset `at`, and returns the
+/// offset of the octet after it. Requires that `number` is below 1,000, and that `text` has [`ROW`]
+/// octets from `at` on, of which those after the number are then unspecified.
 #[inline(always)]
 pub fn write_below_thousand(number: u32, text: &mut [u8], at: usize) -> usize
     requires { (number < THOUSAND) × (at + ROW ≤ length text.old) }
@@ -111,8 +116,9 @@ pub fn write_below_thousand(number: u32, text: &mut [u8], at: usize) -> usize
     at + usize::from(row[3]) - ZERO
 }
 
-/// Writes `number`, which must be below 1,000, in three digits, with leading zeros, into `text` at
-/// offset `at`, and returns `at + 3`. `text` needs [`ROW`] octets from `at` on.
+/// Writes `number` in three decimal digits, with leading zeros, as in `007`, into `text` at offset
+/// `at`, and returns `at + 3`. Requires that `number` is below 1,000, and that `text` has [`ROW`]
+/// octets from `at` on. The octet after the digits is then unspecified.
 #[inline(always)]
 fn write_three_digits(number: u32, text: &mut [u8], at: usize) -> usize
     requires { (number < THOUSAND) × (at + ROW ≤ length text.old) }
@@ -122,8 +128,9 @@ fn write_three_digits(number: u32, text: &mut [u8], at: usize) -> usize
     at + 3
 }
 
-/// Returns the decimal digits of `number`, which must be below 1,000, padded on the right with
-/// spaces to three octets, and then the ASCII digit of their count.
+/// Returns the decimal digits of `number`, without leading zeros, padded on the right with spaces
+/// to three octets, and then the ASCII digit of their count: `7  1` for 7. Requires that `number`
+/// is below 1,000.
 #[inline(always)]
 fn left_aligned_row(number: u32) -> [u8; ROW]
     requires { number < THOUSAND }
@@ -132,8 +139,8 @@ fn left_aligned_row(number: u32) -> [u8; ROW]
     DIGIT_ROWS[number as usize]
 }
 
-/// Returns `number`, which must be below 1,000, in three digits, with leading zeros, and then a
-/// space.
+/// Returns `number` in three decimal digits, with leading zeros, and then a space: `007 ` for 7.
+/// Requires that `number` is below 1,000.
 #[inline(always)]
 fn zero_padded_row(number: u32) -> [u8; ROW]
     requires { number < THOUSAND }
@@ -142,8 +149,9 @@ fn zero_padded_row(number: u32) -> [u8; ROW]
     DIGIT_ROWS[THOUSAND as usize + number as usize]
 }
 
-/// Writes `number`, which must be below 256, in two lower-case hexadecimal digits into `text` at
-/// offset `at`, and returns `at + 2`.
+/// Writes `number`, the value of one octet, in two lower-case hexadecimal digits, as in `0a`, into
+/// `text` at offset `at`, and returns `at + 2`. Requires that `number` is below 256, and that
+/// `text` has two octets from `at` on.
 #[inline]
 pub fn write_hex_octet(number: u16, text: &mut [u8], at: usize) -> usize
     requires { (number < 0x100) × (at + HEX_PAIR ≤ length text.old) }
@@ -154,7 +162,8 @@ pub fn write_hex_octet(number: u16, text: &mut [u8], at: usize) -> usize
     at + HEX_PAIR
 }
 
-/// Returns `number`, which must be below 256, in two lower-case hexadecimal digits.
+/// Returns the ASCII codes of the two lower-case hexadecimal digits of `number`, as in `0a`.
+/// Requires that `number` is below 256.
 #[inline(always)]
 pub fn hex_pair(number: u16) -> [u8; HEX_PAIR]
     requires { number < 0x100 }
@@ -163,7 +172,8 @@ pub fn hex_pair(number: u16) -> [u8; HEX_PAIR]
     HEX_PAIRS[number as usize]
 }
 
-/// Copies all of `octets` into `text` at offset `at`.
+/// Copies all of `octets` into `text` at offset `at`, over what is there. Requires that `text` has
+/// that many octets from `at` on.
 #[inline(always)]
 pub fn put_octets(octets: &[u8], text: &mut [u8], at: usize)
     requires { at + length octets.now ≤ length text.old }
@@ -172,38 +182,40 @@ pub fn put_octets(octets: &[u8], text: &mut [u8], at: usize)
     text[at..at + octets.len()].copy_from_slice(octets);
 }
 
-/// A value that can be written as text into a slice at an offset.
+/// A value that can be written as text into a slice at an offset. Addresses and IP prefixes are
+/// such values.
 pub trait WriteTextAt {
-    /// The text of a value, as octets.
+    /// In contracts, the text of a value, as octets.
     ghost shown: { Self → List ℕ };
 
-    /// The value of `ROOM` in contracts.
+    /// In contracts, the value of the constant `ROOM`.
     ghost ROOM: { ℕ };
 
-    /// The number of octets that [`WriteTextAt::write_text_at`] needs from its offset on.
+    /// The number of octets that [`WriteTextAt::write_text_at`] needs in its slice from the offset
+    /// on, at least as many as any value's text has.
     const ROOM: usize;
 
-    /// Writes the text of the value into `text` at offset `at`, and returns the offset of the octet
-    /// after it. `text` needs `ROOM` octets from `at` on, of which those after the value's text are
-    /// unspecified.
+    /// Writes the value's text into `text` at offset `at`, and returns the offset of the octet
+    /// after it. Requires that `text` has `ROOM` octets from `at` on, of which those after the
+    /// value's text are then unspecified.
     fn write_text_at(&self, text: &mut [u8], at: usize) -> usize
         requires { at + ROOM ≤ length text.old }
         ensures { IsWritten text.old at (shown self.now) text.new result };
 }
 
-/// The number of octets that [`WordFormat::write_ended`] needs from its offset on: as many as two
-/// decimals, each followed by an octet.
+/// The number of octets that [`WordFormat::write_ended`] needs in its slice from the offset on: as
+/// many as two decimals, each followed by an octet.
 pub const WORD_ROOM: usize = 2 * ENDED_ROOM;
 
-/// A way to write a `u32` as a word, as a type parameter of
-/// [`Text::put_ended_words`](crate::Text::put_ended_words).
+/// A format of 32-bit numbers as words of text, such as that of BGP communities. A type that stands
+/// for a format is the type parameter of [`Text::put_ended_words`](crate::Text::put_ended_words).
 pub trait WordFormat {
-    /// The word of a number, as octets.
+    /// In contracts, the word of a number, as octets.
     ghost word: { ℕ → List ℕ };
 
     /// Writes the word of `number` and then the octet `end` into `text` at offset `at`, and returns
-    /// the offset of the octet after `end`. `text` needs [`WORD_ROOM`] octets from `at` on, of
-    /// which those after `end` are unspecified.
+    /// the offset of the octet after `end`. Requires that `text` has [`WORD_ROOM`] octets from `at`
+    /// on, of which those after `end` are then unspecified.
     fn write_ended(number: u32, end: u8, text: &mut [u8], at: usize) -> usize
         requires { at + WORD_ROOM ≤ length text.old }
         ensures written { IsWritten text.old at (word number ++ end ∷ []) text.new result }

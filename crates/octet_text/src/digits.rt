@@ -2,8 +2,8 @@
 //! instead of dividing.
 
 /// The decimal digits of the numbers below 1,000, in ASCII. Row `n` is `n` without leading zeros,
-/// padded on the right with spaces to three octets, and then the digit of the count of its digits.
-/// Row `1000 + n` is `n` in three digits, and then a space.
+/// padded on the right with spaces to three octets, and then the digit of the count of its digits:
+/// `7  1`. Row `1000 + n` is `n` in three digits, and then a space: `007 `.
 #[rattlefmt::skip]
 pub(crate) static DIGIT_ROWS: [[u8; 4]; 2000] = [
     *b"0  1", *b"1  1", *b"2  1", *b"3  1", *b"4  1", *b"5  1", *b"6  1", *b"7  1", *b"8  1", *b"9  1",
@@ -208,7 +208,8 @@ pub(crate) static DIGIT_ROWS: [[u8; 4]; 2000] = [
     *b"990 ", *b"991 ", *b"992 ", *b"993 ", *b"994 ", *b"995 ", *b"996 ", *b"997 ", *b"998 ", *b"999 ",
 ];
 
-/// The two lower-case hexadecimal digits of each number below 256, in ASCII.
+/// The two lower-case hexadecimal digits of each number below 256, in ASCII. The number is the
+/// index.
 #[rattlefmt::skip]
 pub(crate) static HEX_PAIRS: [[u8; 2]; 256] = [
     *b"00", *b"01", *b"02", *b"03", *b"04", *b"05", *b"06", *b"07",
