@@ -35,16 +35,16 @@ use std::collections::BTreeMap;
 use std::mem::size_of;
 use std::rc::Rc;
 
-/// The number of claims of each pair of a peer and a prefix, without the first one. A claim is a
-/// reason to keep memory for the pair's route in the table, which makes the pair a key: its route
+/// For each pair of a peer and a prefix, the number of its claims beyond the first. A claim is a
+/// reason to keep the pair as a key of the table, with memory for its route: a route that it has
 /// before all steps (played events) that can be undone, or such a step that gives it a route when
-/// it has none. The first claim is seen from the pair's being a key; only pairs that were withdrawn
-/// and announced again in the kept steps have others.
+/// it has none. The first claim isn't counted here, since the pair's being a key stands for it;
+/// only pairs that were withdrawn and announced again in the kept steps have more.
 #[derive(Drop)]
 pub(crate) struct Claims {
     // The counts of a peer are boxed, so that free slots of the map take little memory.
     alloc: Global,
-    /// The counts of each peer for which one isn't 0.
+    /// The counts of a peer's prefixes, for each peer that has a count above 0.
     pub(crate) peers: BTreeMap<Peer, Box<PeerClaims>>,
 }
 
@@ -81,8 +81,8 @@ impl Claims {
     }
 
     /// Subtracts one from the count of claims of `pair` (reasons to keep it as a key of the table)
-    /// beyond the first. Returns `true` if it did, or `false` if the count is 0; the caller then
-    /// takes the first claim, by removing the key. Allocates no memory.
+    /// beyond the first. Returns `true` if it did, or `false`, without a change, if the count is 0:
+    /// the first claim is then the only one, and the caller removes the key. Allocates no memory.
     fn take(&mut self, pair: &Pair) -> bool
         ensures some { result ≡ nat_lt 0 (claims_beyond self.old pair.now) }
         ensures counted { (q : Pair) → claims_beyond self.new q
@@ -103,8 +103,8 @@ impl Claims {
 /// prefix. Makes the pair a key of the table (with memory for a route), and swaps the table's
 /// route, if any, with the one that the entry gives. If the pair was a key without a route and gets
 /// one, also adds a claim to `claims`: a reason to keep the key. The pair is required to have a
-/// route before or after. On an error, which means that memory allocation failed, table and claims
-/// are unchanged, and the entry is unspecified.
+/// route before or after, and a count of claims below `u64::MAX`. On an error, which means that
+/// memory allocation failed, table and claims are unchanged, and the entry is unspecified.
 pub(crate) fn apply_entry<S: PrefixStore<Rc<Route>>>(
     table: &mut Table<S>,
     claims: &mut Claims,

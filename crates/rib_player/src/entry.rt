@@ -56,7 +56,7 @@ pub(crate) enum JournalEnd {
     /// The oldest step is removed, while it is applied: its effect stays, but it can't be undone
     /// any more.
     First,
-    /// The newest step is removed, while it is undone: another event is played instead of it.
+    /// The newest step is removed after it was undone, since another event is played instead of it.
     Last,
 }
 

@@ -41,11 +41,11 @@ pub fn law_pair_order()
 {}
 
 /// States, for each pair of a peer and a prefix:
-/// - The table of a list of events has there the route that the definition `route` gives for the
-///   pair and the list.
-/// - The table after one more event has the route before, unless the event sets or clears the
-///   pair's.
-/// - The event names the pair if it sets or clears it and there is a route before or after.
+/// - The table of a list of events has there the route that the last event that sets or clears the
+///   pair leaves, or none if there is no such event.
+/// - The table after one more event has what that event sets or clears there, or else the route
+///   before.
+/// - An event names the pair if it sets or clears it and there is a route before or after.
 pub fn law_routes_at_pairs()
     ensures table { (history : List Event) (pair : Pair) →
         finite.get (table history) pair ≡ route pair history }

@@ -17,17 +17,17 @@ use prefix_store::{PREFETCH_BATCH_LEN, PrefetchBatch, PrefixStore};
 use std::collections::VecDeque;
 use std::rc::Rc;
 
-/// The number of entries of one step (the routes that one played event changed) whose nodes are
-/// prefetched at once.
+/// The number of entries of one step (the routes that one played event changed) for which nodes of
+/// the store's tree are prefetched at once.
 const ENTRIES_AT_ONCE: usize = PREFETCH_BATCH_LEN as usize;
 
-/// The number of steps (played events) of a group, whose nodes are prefetched at once. A group
-/// begins at an index that is a multiple of it. Only steps of fewer than [`ENTRIES_AT_ONCE`]
-/// entries are prefetched so.
+/// The number of steps (played events) of a group, for which nodes of stores' trees are prefetched
+/// at once. A group begins at an index that is a multiple of it. Only steps of fewer than
+/// [`ENTRIES_AT_ONCE`] entries are prefetched so.
 pub(crate) const STEPS_TOGETHER: usize = 8;
 
 /// The smallest number of keys (prefixes with memory for a route) of a store whose nodes are
-/// prefetched.
+/// prefetched. The nodes of fewer keys are in the processor's cache anyway.
 const LEAST_KEYS: u64 = 4096;
 
 /// Prefetches the nodes that look-ups of the prefixes in `batch` go through, empties `batch`, and

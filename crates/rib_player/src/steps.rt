@@ -115,8 +115,8 @@ fn contains_pair(entries: &[Entry], entry: &Entry) -> bool
     false
 }
 
-/// Returns `true` if no two of `entries` have both the peer and the prefix in common, as when there
-/// are none. Takes time quadratic in their number.
+/// Returns `true` if no two of `entries` have both the peer and the prefix in common, also if there
+/// are none; else `false`. Takes time quadratic in their number.
 fn have_distinct_pairs(entries: &[Entry]) -> bool
     ensures { IsTrue result → AreDistinct (sides_of entries.now) }
 {

@@ -143,8 +143,8 @@ impl<S> Stores<S> {
     }
 
     /// Returns `true` if the peers of all entries have stores and no two entries are of one peer,
-    /// as when there are none; else `false`. `marks` is memory to use for the numbers seen; what it
-    /// held is lost. An error means that memory allocation failed.
+    /// also if there are no entries; else `false`. `marks` is memory to use for the numbers seen;
+    /// what it held is lost. An error means that memory allocation failed.
     pub(crate) fn have_distinct_stores(
         &self,
         entries: &[Entry],

@@ -237,8 +237,9 @@ impl<S: PrefixStore<Rc<Route>>> Table<S> {
 
     /// Replaces the elements of `found` by the peer's routes to the least prefixes that are greater
     /// than `prefix`, or to the least of all if it is `None`, each with its prefix, in ascending
-    /// order. Fills `found` up to its capacity, which stays; leaves it empty if there is no such
-    /// route. For a walk with fewer calls than by [`Table::after`]. Allocates no memory.
+    /// order. Fills `found` up to its capacity, which stays and should be above 0; leaves it empty
+    /// if there is no such route. A walk over all routes needs fewer calls than by
+    /// [`Table::after`]. Allocates no memory.
     pub fn next_routes<'a>(
         &'a self,
         peer: &Peer,

@@ -30,10 +30,10 @@ impl Entry {
     }
 
     /// Swaps the route that the entry keeps with the table's route of the entry's peer and prefix;
-    /// either may be absent, so that the route is moved. This undoes the entry's step if it is
-    /// applied, and redoes it if it is undone; doing it twice changes nothing. Peer and prefix are
-    /// required to be a key of the table (to have memory for a route), so that no memory is
-    /// allocated.
+    /// either may be absent, so that the other is moved. This undoes what the entry's step (a
+    /// played event) did there if it is applied, and redoes it if it is undone; doing it twice
+    /// changes nothing. Peer and prefix are required to be a key of the table (to have memory for a
+    /// route), so that no memory is allocated.
     #[inline(always)]
     pub(crate) fn exchange<S: PrefixStore<Rc<Route>>>(&mut self, table: &mut Table<S>)
         requires { set.contains table.old.keys self.old.pair ≡ true }
