@@ -61,7 +61,8 @@ pub(crate) enum JournalEnd {
 }
 
 /// How an [`Entry`] is stored: a variant for each family of its prefix, with a route and without
-/// one. Each has two flags, the prefix, and a shared pointer to the peer.
+/// one. Each has two flags (whether there is a route before the step and after it), the prefix, and
+/// a shared pointer to the peer.
 #[derive(Drop)]
 enum EntryRepr {
     // An IPv4 prefix is stored beside the two flags, so that an entry takes three words; an IPv6
@@ -245,7 +246,7 @@ impl Entry {
 
 impl EntryRepr {
     /// Takes the contents of an entry apart: returns them without a route, and the route, or `None`
-    /// if they have none. `self` is required not to be `Taken`.
+    /// if they have none, in which case they are unchanged. `self` is required not to be `Taken`.
     #[inline]
     fn split_off_route(self) -> (EntryRepr, Option<Rc<Route>>)
         requires { HasContents self }

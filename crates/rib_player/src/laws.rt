@@ -87,7 +87,8 @@ pub fn law_walk_over_peers()
 
 /// States which pairs of a peer and a prefix are keys of a player's table, which keep memory for a
 /// route: those that have a route at the cursor, and those that a kept step (a played event that
-/// undo or redo can go over), before or after the cursor, sets or clears.
+/// undo or redo can go over) names, before or after the cursor. A step names a pair if its event
+/// sets or clears it and there is a route before or after.
 pub fn law_needed_keys()
     ensures { (t : Timeline) (pair : Pair) → set.contains (needed_keys t) pair
         ≡ (is_some (finite.get (current t) pair)
@@ -151,9 +152,10 @@ pub fn law_history_after_one_call()
         StandsFor (after_call t call) (history_after t.cursor history call) }
 {}
 
-/// States that after any list of calls, failed ones among them, a player stands for the history
-/// (the events that were played and not dropped) that is computed from the calls alone, if it is a
-/// new player; or from the calls and the history before, if it stood for one.
+/// States which history (list of the events that were played and not dropped) a player stands for
+/// after any list of calls, failed ones among them: for a new player, the one that
+/// `history_after_calls` computes from the calls alone; for a player that stood for a history
+/// before, the one that it computes from that history and the calls.
 pub fn law_history_after_all_calls()
     ensures new { (calls : List Call) →
         StandsFor (after_calls fresh calls) (history_after_calls fresh [] calls) }
@@ -171,8 +173,8 @@ pub fn law_one_step_back()
         t.floor < t.cursor → after_redo (after_undo t) ≡ t }
 {}
 
-/// States what forgetting steps (played events), so that at most a given number can be undone,
-/// does:
+/// States what forgetting steps (played events) does, after which at most a given number can still
+/// be undone:
 /// - The tables at the cursor and at each position that is left stay.
 /// - Nothing changes if no step is to be forgotten.
 /// - Forgetting twice is forgetting once with the smaller of the two numbers.

@@ -38,9 +38,9 @@ fn prefetch_batch<S: PrefixStore<Rc<Route>>>(batch: &mut PrefetchBatch<'_, S>) -
     S::prefetch(&added)
 }
 
-/// Adds the prefixes of `entries`, which are to be looked up in `store`, to `batch`. Whenever the
-/// batch is full, prefetches their nodes and empties it; prefixes of the last batch may stay in it.
-/// Returns the number of nodes visited.
+/// Adds the prefixes of `entries` (the routes that a step changed, all of one peer) to `batch`, to
+/// be looked up in `store`. Whenever the batch is full, prefetches their nodes and empties it;
+/// prefixes of the last batch may stay in it. Returns the number of nodes visited.
 fn add_entries<'a, S: PrefixStore<Rc<Route>>>(
     batch: &mut PrefetchBatch<'a, S>,
     store: &'a S,
@@ -55,10 +55,10 @@ fn add_entries<'a, S: PrefixStore<Rc<Route>>>(
     visited
 }
 
-/// Returns the store of the peer of `entries`, or `None` if prefetching doesn't pay: if there are
-/// no entries, the first and the last are of different peers, the peer has no store, or its store
-/// has fewer than [`LEAST_KEYS`] keys (prefixes with memory for a route). Entries between the first
-/// and the last aren't looked at.
+/// Returns the store of the peer of `entries` (the routes that a step changed), or `None` if
+/// prefetching doesn't pay: if there are no entries, the first and the last are of different peers,
+/// the peer has no store, or its store has fewer than [`LEAST_KEYS`] keys (prefixes with memory for
+/// a route). Entries between the first and the last aren't looked at.
 fn common_store<'a, S: PrefixStore<Rc<Route>>>(
     table: &'a Table<S>,
     entries: &[Entry],

@@ -26,9 +26,9 @@ use std::rc::Rc;
 /// The largest number of routes of a lost session that are read from the store in one call.
 const MANY: usize = 64;
 
-/// Appends to `entries`, for each prefix of `found`, an entry that clears the route of `peer` to
-/// it. The routes of `found` aren't used. An error means that memory allocation failed; some of the
-/// entries may have been appended then.
+/// Appends to `entries`, for each prefix of `found`, an entry (what a step does to the route of a
+/// peer and a prefix) that clears the route of `peer` to it. The routes of `found` aren't used. An
+/// error means that memory allocation failed; some of the entries may have been appended then.
 fn push_cleared_entries(
     alloc: Global,
     peer: &Rc<NumberedPeer>,
@@ -99,10 +99,12 @@ fn with_lost_entries<S: PrefixStore<Rc<Route>>>(
     Ok(entries)
 }
 
-/// The largest number of entries that are compared each with each for equal pairs. More are sorted.
+/// The largest number of entries (routes that an event sets or clears) that are compared each with
+/// each for equal pairs of a peer and a prefix. More are sorted.
 const FEW: usize = 8;
 
-/// Returns `true` if one of `entries` has the peer and the prefix of `entry`.
+/// Returns `true` if one of `entries` has both the peer and the prefix of `entry`, else `false`, as
+/// for no entries. Routes aren't compared.
 fn contains_pair(entries: &[Entry], entry: &Entry) -> bool
     ensures { result ≡ false → AllByRecursion
         (λ side. eq_by_cmp pair_cmp side.0 entry.now.pair ≡ false) (sides_of entries.now) }
@@ -147,9 +149,10 @@ fn are_one_peer_descending(entries: &[Entry]) -> bool
     true
 }
 
-/// Returns, of the entries with an equal peer and an equal prefix, only the first, and drops the
-/// others. The order of the result is unspecified. `marks` is memory to use for the peers seen;
-/// what it held is lost. An error means that memory allocation failed.
+/// Returns, of the entries (routes that an event sets or clears) with an equal peer and an equal
+/// prefix, only the first, and drops the others. The order of the result is unspecified. `marks` is
+/// memory to use for the peers seen; what it held is lost. An error means that memory allocation
+/// failed.
 fn one_entry_per_pair<S: PrefixStore<Rc<Route>>>(
     entries: Vec<Entry>,
     table: &Table<S>,

@@ -105,7 +105,7 @@ impl<S> Stores<S> {
     }
 
     /// Returns the number of `peer`, which is the index of its store, or `None` if it has no store.
-    /// Looks in the hash table `places` first, then in the ordered map.
+    /// Looks in `places`, a hash table of numbers, first, then in the ordered map.
     #[inline(never)]
     fn find_number(&self, peer: &Peer) -> Option<usize>
         ensures { result ≡ lookup (eq_by_cmp peer_cmp peer.now) self.now.order.entries }
@@ -142,9 +142,10 @@ impl<S> Stores<S> {
         self.names.get(self.find_number_by_hint(number, peer)?)
     }
 
-    /// Returns `true` if the peers of all entries have stores and no two entries are of one peer,
-    /// also if there are no entries; else `false`. `marks` is memory to use for the numbers seen;
-    /// what it held is lost. An error means that memory allocation failed.
+    /// Returns `true` if the peers of all entries (the routes that an event sets or clears) have
+    /// stores and no two entries are of one peer, also if there are no entries; else `false`.
+    /// `marks` is memory to use for the numbers seen; what it held is lost. An error means that
+    /// memory allocation failed.
     pub(crate) fn have_distinct_stores(
         &self,
         entries: &[Entry],
@@ -213,9 +214,9 @@ impl<S> Stores<S> {
         self.held.get_mut(found)
     }
 
-    /// Records in `routed` whether the store with index `number` has a route, as `has` says. A
-    /// caller that changes whether it has one has to call this. `number` is required to be the
-    /// index of a store. Allocates no memory.
+    /// Records in the set of the stores that have a route whether the one with index `number` has
+    /// one, as `has` says. A caller that changes whether it has one has to call this. `number` is
+    /// required to be the index of a store. Allocates no memory.
     #[inline]
     pub(crate) fn set_routed(&mut self, number: usize, has: bool)
         requires { number < length self.old.held.items }
@@ -227,10 +228,10 @@ impl<S> Stores<S> {
         self.routed.set_member(number, has);
     }
 
-    /// Records in `routed` whether the store with index `number` has a route, after at most one
-    /// route was set or cleared; `count` is the number of its routes now. Does nothing if `count`
-    /// is two or more, since the store is required to be recorded as having one already then.
-    /// `number` is required to be the index of a store. Allocates no memory.
+    /// Records in the set of the stores that have a route whether the one with index `number` has
+    /// one, after at most one route was set or cleared; `count` is the number of its routes now.
+    /// Does nothing if `count` is two or more, since the store is required to be recorded as having
+    /// one already then. `number` is required to be the index of a store. Allocates no memory.
     #[inline]
     pub(crate) fn update_routed(&mut self, number: usize, count: u64)
         requires within { number < length self.old.held.items }
