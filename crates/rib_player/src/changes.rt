@@ -1,5 +1,7 @@
-//! The changes that the items of an event make to pairs of a peer and a prefix. `steps.rt` calls
-//! [`changes_of`], and makes the entries of a step from the result. Read [`Changes`] first.
+//! The changes that the items of an event (announcements, withdrawals and changes of a session's
+//! state) make to pairs of a peer and a prefix. `steps.rt` calls [`changes_of`], and makes from the
+//! result the entries of a step: the routes that a played event sets or clears, by pair. Read
+//! [`Changes`] first.
 
 ghost use Rattle.std.specs.Prelude.{◌≡◌, [], ◌∷◌, ◌≢◌, IfOk, IfSome, IfNone, OnOk, map, slice_get};
 ghost use Rattle.std.specs.List.{AllByRecursion, list_any};
@@ -23,22 +25,27 @@ use std::alloc::{AllocError, Global};
 use std::collections::BTreeSet;
 use std::rc::Rc;
 
-/// What the last items of an event do: the announcements and withdrawals that no later loss of
-/// their peer's session undoes, and the lost sessions.
+/// What the items of an event (announcements, withdrawals, changes of a session's state) do to a
+/// table: all routes of the lost peers are cleared, then each pair of a peer and a prefix in
+/// `entries` gets its route, or loses it. An announcement or withdrawal is left out if a later item
+/// of the event loses its peer's session, which clears the peer's routes anyway.
 #[derive(Drop)]
 pub(crate) struct Changes {
     // The last item of a pair decides, so items are noted from the last to the first, and those
     // before the loss of their peer's session aren't noted.
     pub(crate) alloc: Global,
-    /// An entry for each noted announcement and withdrawal, with the route that it gives the pair,
-    /// the last item first. Of the entries of a pair, the first counts.
+    /// One [`Entry`] (a peer, a prefix, and the route that they get, or none) for each announcement
+    /// and withdrawal that isn't left out, that of the event's last item first. If several are of
+    /// one peer and prefix, the first counts.
     pub(crate) entries: Vec<Entry>,
-    /// The peers whose session is lost. Their items in `entries` are after the loss.
+    /// The peers whose session is lost: an item changes its state from Established to another one.
+    /// The announcements and withdrawals of such a peer in `entries` are after the loss.
     pub(crate) lost: BTreeSet<Peer>,
 }
 
 impl Changes {
-    /// Returns `true` if the session of `peer` is lost by a noted item.
+    /// Returns `true` if one of the items noted so far loses the session with `peer`: it changes
+    /// the session's state from Established to another one.
     #[inline]
     fn is_peer_lost(&self, peer: &Peer) -> bool
         ensures { result ≡ list_any (eq_by_cmp peer_cmp peer.now) self.now.lost.keys }
@@ -46,9 +53,11 @@ impl Changes {
         !self.lost.is_empty() && self.lost.contains(peer)
     }
 
-    /// Notes an item that gives the pair of `peer` and `prefix` this route, or withdraws it for
-    /// `None`. Does nothing if a later item loses the peer's session. On an error, which means that
-    /// memory allocation failed, nothing is noted.
+    /// Notes one item of an event: `peer` announces `route` for `prefix` or, for `None`, withdraws
+    /// it. Items are noted from the last to the first, so that this does nothing if the session
+    /// with `peer` is among the lost ones, which a later item loses. `table` isn't changed; it
+    /// gives the index of the peer's store. On an error, which means that memory allocation failed,
+    /// nothing is noted.
     fn note_route<S: PrefixStore<Rc<Route>>>(
         &mut self,
         table: &Table<S>,
@@ -69,8 +78,11 @@ impl Changes {
         Ok(())
     }
 
-    /// Notes all of `items`, as [`Changes::note_items`] does without a shared route, but makes no
-    /// call if they are empty.
+    /// Notes what `items` (announcements, withdrawals, changes of a session's state) do, from the
+    /// last to the first; they are required to be before all items of the event noted so far. Each
+    /// route is replaced by the equal one of `known`, the routes that the player shares, unless it
+    /// is long and has many owners. If `items` is empty, returns without a call. An error means
+    /// that memory allocation failed; some of the last items may have been noted.
     #[inline(always)]
     fn note_items_if_any<S: PrefixStore<Rc<Route>>>(
         &mut self,
@@ -88,9 +100,12 @@ impl Changes {
         self.note_items(table, items, known, None)
     }
 
-    /// Notes all of `items`, the last first. They must be before the items noted so far. If
-    /// `shared` is given, it must equal the route of each announcement, and is taken for it; else
-    /// each route is replaced by an equal one of `known`, unless it is long and has many owners.
+    /// Notes what `items` (announcements, withdrawals, changes of a session's state) do, from the
+    /// last to the first; they are required to be before all items of the event noted so far. If
+    /// `shared` is given, it is taken as the route of each announcement, which is required to be
+    /// equal. If not, each route is replaced by the equal one of `known`, the routes that the
+    /// player shares, unless it is long and has many owners. An error means that memory allocation
+    /// failed; some of the last items may have been noted.
     fn note_items<S: PrefixStore<Rc<Route>>>(
         &mut self,
         table: &Table<S>,
@@ -125,8 +140,11 @@ impl Changes {
         Ok(())
     }
 
-    /// Notes all of `items`, the last first. They must be before the items noted so far, and
-    /// announce prefixes of one peer with one route, which is looked up in `known` once.
+    /// Notes `items`, which are required to be announcements of one peer with one route (or none at
+    /// all), from the last to the first, before all items of the event noted so far. The route is
+    /// looked up once in `known`, the routes that the player shares, and the equal one found or
+    /// added there is used for all prefixes. An error means that memory allocation failed; some of
+    /// the last items may have been noted.
     #[inline(always)]
     fn note_items_of_one_route<S: PrefixStore<Rc<Route>>>(
         &mut self,
@@ -146,8 +164,12 @@ impl Changes {
     }
 }
 
-/// Returns the changes that `event` makes. Its routes are replaced by equal ones of `known`, which
-/// gets those that it hasn't. An error means that memory allocation failed.
+/// Returns what the items of `event` do: which peers and prefixes get or lose a route, and which
+/// peers lose their session. The announced routes are replaced by equal ones of `known`, the routes
+/// that the player shares, which gets those that it doesn't have; a long route with many owners may
+/// stay as it is. `table` is the one before the event: it isn't changed, and gives the index of
+/// each peer's store. An error means that memory allocation failed; `known` may have got some
+/// routes.
 pub(crate) fn changes_of<S: PrefixStore<Rc<Route>>>(
     alloc: Global,
     event: &Event,
@@ -173,8 +195,10 @@ pub(crate) fn changes_of<S: PrefixStore<Rc<Route>>>(
     Ok(changes)
 }
 
-/// Returns a pointer to `peer` with the number of its store, to be shared by entries: the one of
-/// the entry `last` if that is of this peer, else the one of the table, else a new one.
+/// Returns a pointer to `peer` and the number of its store (the store's index in the table, a hint
+/// for a quick look-up), which the entries of a step share: the pointer of `last`, the entry made
+/// just before, if it is of this peer; else the one of `table`, if the peer has a store; else a new
+/// one with [`NO_NUMBER`]. An error means that memory allocation failed.
 pub(crate) fn share_numbered_peer<S: PrefixStore<Rc<Route>>>(
     alloc: Global,
     table: &Table<S>,

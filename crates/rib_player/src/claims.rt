@@ -1,8 +1,9 @@
-//! The claims of pairs of a peer and a prefix, which tell how long a pair stays a key of the table:
-//! as long as it has a claim. A pair has one claim if it has a route at the floor, before all kept
-//! steps, and one for each kept step before which it has no route and after which it has one. The
-//! first claim is the key itself; the others are counted here. `journal.rt` calls [`apply_entry`]
-//! and [`release_claims`].
+//! Claims: reasons to keep a pair of a peer and a prefix as a key of the player's table, which
+//! means to keep memory for its route. A pair has one claim if it has a route at the floor (before
+//! all steps that can be undone), and one for each kept step (played event that undo and redo go
+//! over) before which it has no route and after which it has one. The pair stays a key as long as
+//! it has a claim. The first claim is the key itself; the others are counted here. `journal.rt`
+//! calls [`apply_entry`] and [`release_claims`].
 
 ghost use Rattle.std.specs.Prelude.{◌≡◌, ◌+◌, ◌<◌, ◌≤◌, ◌||◌, ◌&&◌, true, false, is_some, length, nat_lt, [], ◌∷◌, None, OnOk, OnErr};
 ghost use Rattle.std.specs.FinMap as finite;
@@ -34,18 +35,22 @@ use std::collections::BTreeMap;
 use std::mem::size_of;
 use std::rc::Rc;
 
-/// The number of claims of each pair beyond the first, which is its key in the table. Only pairs
-/// that were withdrawn and announced again in the kept steps have any.
+/// For each pair of a peer and a prefix, the number of its claims beyond the first. A claim is a
+/// reason to keep the pair as a key of the table, with memory for its route: a route that it has
+/// before all steps (played events) that can be undone, or such a step that gives it a route when
+/// it has none. The first claim isn't counted here, since the pair's being a key stands for it;
+/// only pairs that were withdrawn and announced again in the kept steps have more.
 #[derive(Drop)]
 pub(crate) struct Claims {
     // The counts of a peer are boxed, so that free slots of the map take little memory.
     alloc: Global,
-    /// The counts of each peer that has any.
+    /// The counts of a peer's prefixes, for each peer that has a count above 0.
     pub(crate) peers: BTreeMap<Peer, Box<PeerClaims>>,
 }
 
 impl Claims {
-    /// Returns counts that are all 0, without allocating memory.
+    /// Returns counts of claims (reasons to keep a pair as a key of the table) that are all 0,
+    /// without allocating.
     pub(crate) fn new(alloc: Global) -> Claims
         ensures { (q : Pair) → claims_beyond result q ≡ 0 }
     {
@@ -55,8 +60,9 @@ impl Claims {
         }
     }
 
-    /// Adds a claim of `pair` to those counted here. On an error, which means that memory
-    /// allocation failed, the counts are unchanged.
+    /// Adds one to the count of claims of `pair` (reasons to keep it as a key of the table) beyond
+    /// the first. The count is required to be below `u64::MAX`. On an error, which means that
+    /// memory allocation failed, the counts are unchanged.
     fn add(&mut self, pair: &Pair) -> Result<(), AllocError>
         requires { claims_beyond self.old pair.now < GREATEST_COUNT }
         ensures counted { OnOk result ((q : Pair) → claims_beyond self.new q
@@ -74,8 +80,9 @@ impl Claims {
         Ok(())
     }
 
-    /// Removes a claim of `pair`, if one is counted here, and returns `true` if it did. Allocates
-    /// no memory.
+    /// Subtracts one from the count of claims of `pair` (reasons to keep it as a key of the table)
+    /// beyond the first. Returns `true` if it did, or `false`, without a change, if the count is 0:
+    /// the first claim is then the only one, and the caller removes the key. Allocates no memory.
     fn take(&mut self, pair: &Pair) -> bool
         ensures some { result ≡ nat_lt 0 (claims_beyond self.old pair.now) }
         ensures counted { (q : Pair) → claims_beyond self.new q
@@ -92,10 +99,12 @@ impl Claims {
     }
 }
 
-/// Applies the entry of a new step to the table, and adds a claim if the step gives its pair a
-/// route and the pair had none: the pair becomes a key or, if it is one already, gets a claim
-/// beyond the key. On an error, which means that memory allocation failed, table and claims are
-/// unchanged, and the entry is unspecified.
+/// Applies an entry of a new step, which is what a played event does to one pair of a peer and a
+/// prefix. Makes the pair a key of the table (with memory for a route), and swaps the table's
+/// route, if any, with the one that the entry gives. If the pair was a key without a route and gets
+/// one, also adds a claim to `claims`: a reason to keep the key. The pair is required to have a
+/// route before or after, and a count of claims below `u64::MAX`. On an error, which means that
+/// memory allocation failed, table and claims are unchanged, and the entry is unspecified.
 pub(crate) fn apply_entry<S: PrefixStore<Rc<Route>>>(
     table: &mut Table<S>,
     claims: &mut Claims,
@@ -127,9 +136,11 @@ pub(crate) fn apply_entry<S: PrefixStore<Rc<Route>>>(
     Ok(())
 }
 
-/// Releases the claims that go when a step with these entries is removed at `end`
-/// ([`Entry::releases_claim`]): for each such pair, one claim beyond the key or, if it has none,
-/// the key itself, which must have no route then. Allocates no memory.
+/// Releases the claims (reasons to keep a pair as a key of the table) that end when the step with
+/// these entries is removed at `end` of the journal: those of the pairs for which
+/// [`Entry::releases_claim`] returns `true`. Each loses one of its claims in `claims` or, if it has
+/// none there, its key in `table`. Requires that no two entries are of one pair, that these pairs
+/// are keys, and that one without a claim in `claims` has no route. Allocates no memory.
 pub(crate) fn release_claims<S: PrefixStore<Rc<Route>>>(
     table: &mut Table<S>,
     claims: &mut Claims,
@@ -158,17 +169,20 @@ pub(crate) fn release_claims<S: PrefixStore<Rc<Route>>>(
     }
 }
 
-/// The number of IPv4 addresses: each address, as a number, is below it. With a smaller one,
-/// prefixes of different lengths would get the same number.
+/// The number of IPv4 addresses, by which [`v4_prefix_number`] multiplies the length of a prefix:
+/// each address, as a number, is below it. With a smaller one, prefixes of different lengths would
+/// get the same number.
 const ADDRESSES: u64 = 1 << 32;
 
-/// The number of bits below the IPv4 address in the high half of a prefix, of 64 bits.
+/// The number of bits to the right of an IPv4 address in the 64 bits that [`Prefix::high_64_bits`]
+/// returns, which begin with the address.
 const BELOW: u32 = 32;
 
-/// The number of claims of each prefix of one peer beyond the key.
+/// For each prefix of one peer, the number of claims beyond the first. A claim is a reason to keep
+/// the peer and the prefix as a key of the table, with memory for a route ([`Claims`]).
 #[derive(Drop)]
 pub(crate) struct PeerClaims {
-    /// The counts of IPv4 prefixes, each as a number ([`v4_prefix_number`]).
+    /// The counts of IPv4 prefixes, each prefix as a number ([`v4_prefix_number`]).
     v4: KeyCounts<u64>,
     /// The counts of IPv6 prefixes.
     v6: KeyCounts<Prefix>,
@@ -180,7 +194,8 @@ const COUNTS_OCTETS: usize = 72;
 
 const _: () = prove!(size_of::<PeerClaims>() <= COUNTS_OCTETS);
 
-/// Returns an IPv4 prefix as a number: 2^32 times its length, plus its address as a number.
+/// Returns a number that no other IPv4 prefix has: 2^32 times the length of `prefix`, plus its
+/// address as a number. For 10.0.0.0/8 that is `0x8_0a00_0000`. `prefix` is required to be IPv4.
 #[inline]
 fn v4_prefix_number(prefix: &Prefix) -> u64
     requires { prefix.now.family ≡ V4 }
@@ -191,7 +206,7 @@ fn v4_prefix_number(prefix: &Prefix) -> u64
 }
 
 impl PeerClaims {
-    /// Returns counts that are all 0.
+    /// Returns counts of the claims of a peer's prefixes that are all 0, without allocating.
     fn new() -> PeerClaims
         ensures { (n : Network) → count_of result n ≡ 0 }
     {
@@ -201,15 +216,16 @@ impl PeerClaims {
         }
     }
 
-    /// Returns `true` if no prefix has a claim counted here.
+    /// Returns `true` if the count of each prefix is 0, so that nothing is lost if these counts are
+    /// dropped.
     fn is_empty(&self) -> bool
         ensures { result ≡ true → (n : Network) → count_of self.now n ≡ 0 }
     {
         self.v4.is_empty() && self.v6.is_empty()
     }
 
-    /// Adds a claim of `prefix`. On an error, which means that memory allocation failed, the counts
-    /// are unchanged.
+    /// Adds one to the count of `prefix`, which is required to be below `u64::MAX`. On an error,
+    /// which means that memory allocation failed, the counts are unchanged.
     fn increment(&mut self, alloc: Global, prefix: &Prefix) -> Result<(), AllocError>
         requires { count_of self.old prefix.now < GREATEST_COUNT }
         ensures counted { OnOk result ((n : Network) → count_of self.new n
@@ -223,7 +239,8 @@ impl PeerClaims {
         }
     }
 
-    /// Removes a claim of `prefix`, if one is counted here, and returns `true` if it did.
+    /// Subtracts one from the count of `prefix`. Returns `true` if it did, or `false`, without a
+    /// change, if the count is 0. Allocates no memory.
     fn try_decrement(&mut self, prefix: &Prefix) -> bool
         ensures some { result ≡ nat_lt 0 (count_of self.old prefix.now) }
         ensures counted { (n : Network) → count_of self.new n

@@ -1,6 +1,8 @@
-//! The entries of steps, in three words each. An entry has a pair of a peer and a prefix, the route
-//! that the pair has on the other side of the step, and whether the pair has a route before the
-//! step and after it. `entry/swaps.rt` swaps the routes of entries and table. Read [`Entry`] first.
+//! The entries of steps, in three words of memory each. A step is a played event, which undo and
+//! redo go over. Its entry has a pair of a peer and a prefix, the route that the pair has on the
+//! other side of the step (before it while it is applied, else after it), and whether the pair has
+//! a route before the step and after it. `entry/swaps.rt` swaps the routes of entries and table.
+//! Read [`Entry`] first.
 
 ghost use Rattle.std.specs.Prelude.{◌≡◌, None, IfOk, option_copied};
 ghost use Rattle.rib_player.specs.History.{pair_of};
@@ -19,41 +21,48 @@ use std::marker::Model;
 use std::mem::size_of;
 use std::rc::Rc;
 
-/// What one step does to one pair of a peer and a prefix: the pair, and its route on the other side
-/// of the step, if any. While the step is applied, that is the route before it; while it isn't, the
-/// route after it. The table has the route on this side.
+/// What a step (a played event, which undo and redo go over) keeps of one pair of a peer and a
+/// prefix: the pair, and its route on the other side of the step, if any. While the step is
+/// applied, that is the route before it, which undo puts back; while it isn't, the route after it.
+/// The table has the route on this side.
 #[derive(Drop)]
 pub(crate) struct Entry {
     kept: EntryRepr,
 }
 
-/// Whether the pair of an entry has a route before the step, and after it. Set when the step is
-/// first applied; false before.
+/// Whether the peer and prefix of an [`Entry`] have a route before the step (played event) that the
+/// entry belongs to, and after it. Both are false until the step is first applied; undo and redo
+/// keep them.
 #[derive(Clone, Copy)]
 struct RoutedSides {
-    /// Whether the pair has a route before the step.
+    /// Whether there is a route before the step.
     before: bool,
-    /// Whether the pair has a route after the step.
+    /// Whether there is a route after the step.
     after: bool,
 }
 
-/// A step of the journal, which one event made.
+/// A played event, with what is needed to undo and redo it.
 #[derive(Drop)]
 pub(crate) struct Step {
-    /// One entry for each pair that the step names, in unspecified order.
+    /// One [`Entry`] for each pair of a peer and a prefix that the event sets or clears and that
+    /// has a route before or after it, in unspecified order. No two are of one pair.
     pub(crate) entries: Vec<Entry>,
 }
 
-/// The end of the journal at which a step is removed.
+/// The end of the journal (the list of the steps that can be undone or redone) at which a step is
+/// removed.
 #[derive(Clone, Copy)]
 pub(crate) enum JournalEnd {
-    /// The oldest step is removed: it is forgotten, while it is applied.
+    /// The oldest step is removed, while it is applied: its effect stays, but it can't be undone
+    /// any more.
     First,
-    /// The newest step is removed: it is dropped, while it isn't applied.
+    /// The newest step is removed after it was undone, since another event is played instead of it.
     Last,
 }
 
-/// The memory layout of an entry, by the family of its prefix and by whether it has a route.
+/// How an [`Entry`] is stored: a variant for each family of its prefix, with a route and without
+/// one. Each has two flags (whether there is a route before the step and after it), the prefix, and
+/// a shared pointer to the peer.
 #[derive(Drop)]
 enum EntryRepr {
     // An IPv4 prefix is stored beside the two flags, so that an entry takes three words; an IPv6
@@ -62,11 +71,12 @@ enum EntryRepr {
     V4Present(RoutedSides, V4Prefix, Rc<NumberedPeer>, Rc<Route>),
     V6Absent(RoutedSides, Box<V6Pair>),
     V6Present(RoutedSides, Box<V6Pair>, Rc<Route>),
-    /// No contents. Only in use while an entry is changed.
+    /// No contents. Stands in an entry only while a function moves its route in or out.
     Taken,
 }
 
-/// A pair of a peer and an IPv6 prefix.
+/// The peer and the IPv6 prefix of an [`Entry`], boxed since an IPv6 prefix is too large for an
+/// entry.
 #[derive(Drop)]
 struct V6Pair {
     prefix: Prefix,
@@ -91,9 +101,10 @@ impl Model for Entry {
 }
 
 impl Entry {
-    /// Returns an entry of a step that isn't applied yet, for the pair of `peer` and `prefix`.
-    /// `other` is the route that the step gives the pair, or `None` if it clears the pair. An error
-    /// means that memory allocation failed, as it may for IPv6.
+    /// Returns an entry for `peer` and `prefix`, of a step (played event) that isn't applied yet.
+    /// `other` is the route that they get by the step, or `None` if it clears their route. `peer`
+    /// also has the index of the peer's store, as a hint. An error means that memory allocation
+    /// failed, which can happen only for an IPv6 prefix.
     pub(crate) fn unapplied(
         alloc: Global,
         peer: Rc<NumberedPeer>,
@@ -122,7 +133,8 @@ impl Entry {
         })
     }
 
-    /// Returns the peer and the prefix of the entry's pair.
+    /// Returns the entry's peer, as the pointer that entries share, with the index of its store as
+    /// a hint; and the entry's prefix.
     #[inline]
     fn peer_and_prefix(&self) -> (&Rc<NumberedPeer>, Prefix)
         ensures peer { result.0.now.value ≡ self.now.pair.peer }
@@ -137,7 +149,7 @@ impl Entry {
         }
     }
 
-    /// Returns the pair of the entry.
+    /// Returns the peer and the prefix whose route the entry sets or clears.
     #[inline]
     pub(crate) fn pair(&self) -> Pair
         ensures { result ≡ self.now.pair }
@@ -149,8 +161,9 @@ impl Entry {
         }
     }
 
-    /// Returns the peer of the pair with the number of its store, as the pointer that entries
-    /// share.
+    /// Returns the entry's peer as the pointer that the entries of a step share. With it is the
+    /// index of the peer's store in the table at the time when the entry was made, a hint for a
+    /// quick look-up.
     #[inline]
     pub(crate) fn shared_peer(&self) -> &Rc<NumberedPeer>
         ensures { result.now.value ≡ self.now.pair.peer }
@@ -158,7 +171,7 @@ impl Entry {
         self.peer_and_prefix().0
     }
 
-    /// Returns the peer of the pair.
+    /// Returns the peer whose route the entry sets or clears.
     #[inline]
     pub(crate) fn peer(&self) -> &Peer
         ensures { result.now ≡ self.now.pair.peer }
@@ -166,7 +179,7 @@ impl Entry {
         self.shared_peer().peer()
     }
 
-    /// Returns the prefix of the pair.
+    /// Returns the prefix, IPv4 or IPv6, to which the entry sets or clears a route.
     #[inline]
     pub(crate) fn prefix(&self) -> Prefix
         ensures { result ≡ self.now.pair.prefix }
@@ -174,8 +187,9 @@ impl Entry {
         self.peer_and_prefix().1
     }
 
-    /// Returns the route that the pair has on the other side of the step, or `None` if it has none
-    /// there: before the step while it is applied, after it while it isn't.
+    /// Returns the route that the entry keeps, or `None` if it keeps none: while the entry's step
+    /// (played event) is applied, the route before it, which undo puts back into the table; while
+    /// it isn't, the route after it.
     #[inline]
     pub(crate) fn route(&self) -> Option<&Rc<Route>>
         ensures { option_copied result ≡ self.now.other }
@@ -187,9 +201,11 @@ impl Entry {
         }
     }
 
-    /// Returns `true` if removing the step at `end` releases a claim of the pair (`claims.rt`): at
-    /// the first end if the step clears the pair, so that it has a route before the step and none
-    /// after it; at the last end if it has none before the step and one after it.
+    /// Returns `true` if the entry's peer and prefix lose a claim (a reason to keep them as a key
+    /// of the table, see `claims.rt`) when the entry's step is removed at `end` of the journal. For
+    /// [`JournalEnd::First`], that is if there is a route before the step and none after it; for
+    /// [`JournalEnd::Last`], if there is none before it and one after it. Returns `false` if the
+    /// step was never applied.
     #[inline]
     pub(crate) fn releases_claim(&self, end: JournalEnd) -> bool
         ensures { result ≡ releases_claim end (mark_of self.now) }
@@ -207,7 +223,8 @@ impl Entry {
         }
     }
 
-    /// Sets whether the pair has a route before the step, and after it.
+    /// Sets whether the entry's peer and prefix have a route before the step and after it. The
+    /// route that the entry keeps stays.
     #[inline]
     fn set_routed_sides(&mut self, new: RoutedSides)
         ensures { self.new ≡ record {
@@ -228,8 +245,8 @@ impl Entry {
 }
 
 impl EntryRepr {
-    /// Splits contents into those without a route, and the route, if there is one. `self` must not
-    /// be `Taken`.
+    /// Takes the contents of an entry apart: returns them without a route, and the route, or `None`
+    /// if they have none, in which case they are unchanged. `self` is required not to be `Taken`.
     #[inline]
     fn split_off_route(self) -> (EntryRepr, Option<Rc<Route>>)
         requires { HasContents self }
@@ -249,8 +266,8 @@ impl EntryRepr {
         }
     }
 
-    /// Returns the contents with `other` as their route. `self` must have no route, and not be
-    /// `Taken`.
+    /// Returns the contents of an entry with `other` as their route, or unchanged for `None`.
+    /// `self` is required to have no route, and not to be `Taken`.
     #[inline]
     fn with_route(self, other: Option<Rc<Route>>) -> EntryRepr
         requires whole { HasContents self }

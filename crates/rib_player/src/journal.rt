@@ -1,6 +1,6 @@
-//! The journal of a player: its steps, which are applied, undone, redone and dropped by the
-//! functions here. `player.rt` calls them. Read [`Journal`] first, then `entry.rt` for the entries
-//! of a step, and [`apply_entries`].
+//! The journal of a player: its steps (played events, which undo and redo go over), and functions
+//! that apply, undo, redo and drop them. `player.rt` calls these. Read [`Journal`] first, then
+//! `entry.rt` for what a step keeps, and [`apply_entries`].
 
 ghost use Rattle.std.specs.Prelude.{◌≡◌, ◌+◌, ◌<◌, ◌≤◌, ◌||◌, true, false, is_some, length, take, IfSome, OnOk, OnErr};
 ghost use Rattle.std.specs.List.{AllByRecursion, sum_by};
@@ -27,21 +27,25 @@ use std::alloc::{AllocError, Global};
 use std::collections::VecDeque;
 use std::rc::Rc;
 
-/// The steps that can be undone or redone, and the position of the cursor among them.
+/// The steps (played events) that can be undone or redone, and the cursor: how many of them are
+/// applied.
 #[derive(Drop)]
 pub(crate) struct Journal {
     /// The steps that aren't forgotten, the oldest first. Those before the cursor are applied to
-    /// the table.
+    /// the table; those after it were undone.
     pub(crate) steps: VecDeque<Step>,
     /// The number of steps of `steps` that are before the cursor.
     pub(crate) cursor: usize,
-    /// The number of steps that were forgotten.
+    /// The number of steps that were forgotten: their effect stays in the table, but they can't be
+    /// undone any more.
     pub(crate) floor: u64,
 }
 
-/// Swaps the route of each entry with the table's route of its pair, which undoes a step that is
-/// applied, and redoes one that isn't. All pairs must be keys, each of one entry. Allocates no
-/// memory.
+/// Swaps the route of each entry with the table's route of the entry's peer and prefix; either may
+/// be absent. If `entries` are all of a step (a played event), this undoes the step if it is
+/// applied, and redoes it if it isn't. The pair of peer and prefix of each entry is required to be
+/// a key of `table` (to have memory for a route), and no two entries may be of one pair. Allocates
+/// no memory.
 pub(crate) fn swap_routes<S: PrefixStore<Rc<Route>>>(table: &mut Table<S>, entries: &mut [Entry])
     requires { AreDistinctKeys table.old.keys (sides_of entries.old) }
     ensures keys { table.new.keys ≡ table.old.keys }
@@ -57,9 +61,12 @@ pub(crate) fn swap_routes<S: PrefixStore<Rc<Route>>>(table: &mut Table<S>, entri
     table.add_prefetched_nodes(visited);
 }
 
-/// Undoes the step `steps[index]` if it is applied, or else redoes it. Before, prefetches the nodes
-/// for a group of [`STEPS_TOGETHER`] steps if `index` is the first of its group that the caller
-/// comes to: `first` is the index in the group of that one, 0 for a caller that goes forward.
+/// Undoes the step (played event) `steps[index]` if it is applied, or else redoes it, by swapping
+/// its routes with the table's. Each group of [`STEPS_TOGETHER`] steps has its memory prefetched at
+/// once, when the first step of it that the caller comes to is reached: `first` is that step's
+/// index in its group, 0 for a caller that goes forward, `STEPS_TOGETHER - 1` for one that goes
+/// back. `prefetched` has the groups that were prefetched last. `index` is required to be in range,
+/// and the pairs of peer and prefix of the step to be distinct keys of `table`.
 pub(crate) fn apply_or_undo_step<S: PrefixStore<Rc<Route>>>(
     table: &mut Table<S>,
     steps: &mut VecDeque<Step>,
@@ -77,9 +84,11 @@ pub(crate) fn apply_or_undo_step<S: PrefixStore<Rc<Route>>>(
     swap_routes(table, step.entries.as_mut_slice());
 }
 
-/// Applies a new step that only clears all routes of `peer`: moves them from the table to
-/// `entries`, which must have one entry for each, in the order of prefixes. The keys stay. On an
-/// error, which means that memory allocation failed, the table is unchanged.
+/// Applies a new step (played event) that does nothing but clear all routes of `peer`: moves them
+/// from the table to `entries`, which are required to be one for each of these routes, in the order
+/// of prefixes. The keys stay: the pairs of peer and prefix keep memory for a route, so that undo
+/// needs none. On an error, which means that memory allocation failed, table and entries are
+/// unchanged.
 pub(crate) fn apply_session_loss<S: PrefixStore<Rc<Route>>>(
     alloc: Global,
     table: &mut Table<S>,
@@ -104,10 +113,12 @@ pub(crate) fn apply_session_loss<S: PrefixStore<Rc<Route>>>(
     Ok(())
 }
 
-/// Applies a new step to the table, and adds a claim for each pair that gets a route and had none.
-/// `entries` are those of the step, each of another pair, and hold the routes after the step; then
-/// they hold those before it. `lost` is a peer if all that the step does is to clear that peer's
-/// routes. On an error, table and claims are unchanged, and the entries are unspecified.
+/// Applies a new step (played event) to the table. Each entry is of another pair of a peer and a
+/// prefix, which becomes a key of the table; it gives the table its route, or none, and gets the
+/// one before the step. A pair that gets a route and had none also gets a claim (a reason to keep
+/// the key, see `claims.rt`). `lost` is a peer if all that the step does is to clear that peer's
+/// routes, else `None`. On an error, which means that memory allocation failed, table and claims
+/// are unchanged, and the entries are unspecified.
 pub(crate) fn apply_entries<S: PrefixStore<Rc<Route>>>(
     alloc: Global,
     table: &mut Table<S>,
@@ -152,8 +163,9 @@ pub(crate) fn apply_entries<S: PrefixStore<Rc<Route>>>(
     Ok(())
 }
 
-/// Drops `step` entry by entry, and notes in `known`, before each, that its route is about to lose
-/// an owner.
+/// Drops `step` entry by entry. Before each entry with a route, tells `known`, the routes that the
+/// player shares, that the route is about to lose an owner, so that one without other owners is
+/// removed from there.
 pub(crate) fn drop_step(known: &mut RouteInterner, step: Step) {
     // Each entry is dropped before the next is noted, since `known` looks at the number of owners,
     // and entries may share a route.
@@ -164,8 +176,9 @@ pub(crate) fn drop_step(known: &mut RouteInterner, step: Step) {
     }
 }
 
-/// Reserves capacity for one more step. Before, shrinks the list if it has far more capacity than
-/// steps (`spare_capacity.rt`). On an error, the steps are unchanged.
+/// Reserves capacity for one more step (played event). Before that, shrinks the capacity to the
+/// number of steps, at least [`LEAST_ROOM`], if it is more than [`MOST_TIMES`] times as large. On
+/// an error, which means that memory allocation failed, the steps are unchanged.
 pub(crate) fn reserve_step(steps: &mut VecDeque<Step>) -> Result<(), AllocError>
     ensures room { OnOk result (deque_len steps.new < deque_capacity steps.new) }
     ensures steps { steps.new.items ≡ steps.old.items }
@@ -177,9 +190,11 @@ pub(crate) fn reserve_step(steps: &mut VecDeque<Step>) -> Result<(), AllocError>
     steps.reserve(1)
 }
 
-/// Drops the steps after the cursor, the last first, and releases their claims. `cursor` is the
-/// number of steps before it, which stay. The steps that are dropped must not be applied. Allocates
-/// no memory.
+/// Drops the undone steps (played events that redo would apply again), the last first, as a new
+/// event is played instead. `cursor` is the number of steps that stay, those that are applied.
+/// `claims` and the keys of `table` lose the claims of the dropped steps (reasons to keep a pair of
+/// a peer and a prefix as a key, see `claims.rt`), and `known` the routes that nobody else holds.
+/// The table's routes stay. Allocates no memory.
 pub(crate) fn drop_steps_ahead<S: PrefixStore<Rc<Route>>>(
     steps: &mut VecDeque<Step>,
     cursor: usize,

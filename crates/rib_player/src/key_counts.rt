@@ -1,5 +1,6 @@
-//! A multiset of keys in little memory: in place for one key, in a list for a few, and in a map for
-//! more. `claims.rt` counts the claims of a peer's prefixes in it. Read [`KeyCounts`] first.
+//! A multiset of keys (values of an ordered type) in little memory: in place for one key, in a list
+//! for a few, and in a map for more. `claims.rt` has one for each peer and family, with the peer's
+//! prefixes as keys. Read [`KeyCounts`] first.
 
 ghost use Rattle.std.specs.Prelude.{◌≡◌, [], ◌∷◌, ◌+◌, ◌<◌, ◌&&◌, true, nat_lt, length, take, drop, Some, None, IfOk, IfSome, IfNone, OnOk, OnErr};
 ghost use Rattle.std.specs.Map.{lookup};
@@ -18,23 +19,25 @@ use std::collections::BTreeMap;
 /// keys.
 const FEW: usize = 8;
 
-/// A count for each key. This value has 32 octets for keys that are numbers, and 40 for prefixes,
-/// and one key takes no more. A list takes another 16 octets, or 32, for each of the most keys that
-/// it had; a map of several nodes takes at most 39, or 74, for each key.
+/// A multiset: the number of times that each key, a value of `K`, was added and not removed. This
+/// value has 32 octets for keys that are numbers, and 40 for prefixes, and one key takes no more. A
+/// list takes another 16 octets, or 32, for each of the most keys that it had; a map of several
+/// nodes takes at most 39, or 74, for each key.
 #[derive(Drop)]
 pub(crate) enum KeyCounts<K: Ord> {
-    /// No key.
+    /// No key is counted.
     None,
     /// One key and its count.
     One(K, u64),
-    /// A few keys and their counts, each once, in unspecified order.
+    /// A few keys, each once, with their counts, in unspecified order.
     Few(Vec<(K, u64)>),
-    /// The keys and their counts, once there were more than a list holds. Stays a map until it is
-    /// empty.
+    /// The keys and their counts, once there were more than a list holds ([`FEW`]). Stays a map
+    /// until no key is left.
     Many(BTreeMap<K, u64>),
 }
 
-/// Returns the index of the first entry of `counts` with this key, or `None` if there is none.
+/// Returns the index in `counts` of the first element whose key equals `key`, or `None` if there is
+/// none.
 fn position_of_key<K: Ord + Copy>(counts: &[(K, u64)], key: &K) -> Option<usize>
     ensures some { IfSome result (λ place. IsFirst K.cmp key.now counts.now place) }
     ensures none { IfNone result (lookup (tree.is_at (K.cmp key.now)) counts.now ≡ None) }
@@ -47,8 +50,9 @@ fn position_of_key<K: Ord + Copy>(counts: &[(K, u64)], key: &K) -> Option<usize>
     None
 }
 
-/// Adds one to the count of `key` in the list, where a missing key counts 0. On an error, which
-/// means that memory allocation failed, the list is unchanged.
+/// Adds one to the count of `key` in the list of keys and counts, or appends `key` with the count 1
+/// if it isn't there. Its count is required to be below `u64::MAX`. On an error, which means that
+/// memory allocation failed, the list is unchanged.
 fn increment_in_list<K: Ord + Copy>(counts: &mut Vec<(K, u64)>, key: K) -> Result<(), AllocError>
     requires { count_in K.cmp counts.old.items key < GREATEST_COUNT }
     ensures counted { OnOk result ((k : K) → count_in K.cmp counts.new.items k
@@ -64,8 +68,9 @@ fn increment_in_list<K: Ord + Copy>(counts: &mut Vec<(K, u64)>, key: K) -> Resul
     Ok(())
 }
 
-/// Subtracts one from the count of `key` in the list, unless it is 0, and returns `true` if it did.
-/// A key whose count becomes 0 is removed; the list keeps its capacity.
+/// Subtracts one from the count of `key` in the list of keys and counts. Returns `true` if it did,
+/// or `false` if `key` isn't there or its count is 0. A key whose count becomes 0 is removed; the
+/// list keeps its capacity.
 fn decrement_in_list<K: Ord + Copy + Drop>(counts: &mut Vec<(K, u64)>, key: &K) -> bool
     ensures some { result ≡ nat_lt 0 (count_in K.cmp counts.old.items key.now) }
     ensures counted { (k : K) → count_in K.cmp counts.new.items k
@@ -83,7 +88,8 @@ fn decrement_in_list<K: Ord + Copy + Drop>(counts: &mut Vec<(K, u64)>, key: &K) 
     count > 0
 }
 
-/// Returns a map with the keys and counts of the list. Of equal keys, the first counts.
+/// Returns a map with the keys and counts of the list. Of several elements with equal keys, the
+/// first is taken. An error means that memory allocation failed.
 fn map_of_list<K: Ord + Copy + Drop>(
     alloc: Global,
     counts: &[(K, u64)],
@@ -101,8 +107,9 @@ fn map_of_list<K: Ord + Copy + Drop>(
     Ok(made)
 }
 
-/// Adds one to the count of `key` in the map, where a missing key counts 0. On an error, which
-/// means that memory allocation failed, the counts are unchanged.
+/// Adds one to the count of `key` in the map, or inserts `key` with the count 1 if it isn't there.
+/// Its count is required to be below `u64::MAX`. On an error, which means that memory allocation
+/// failed, the map is unchanged.
 fn increment_in_map<K: Ord + Copy + Drop>(
     counts: &mut BTreeMap<K, u64>,
     key: K,
@@ -118,8 +125,8 @@ fn increment_in_map<K: Ord + Copy + Drop>(
     Ok(())
 }
 
-/// Subtracts one from the count of `key` in the map, unless it is 0, and returns `true` if it did.
-/// A key whose count becomes 0 is removed.
+/// Subtracts one from the count of `key` in the map. Returns `true` if it did, or `false` if `key`
+/// isn't there or its count is 0. A key whose count becomes 0 is removed.
 fn decrement_in_map<K: Ord + Copy + Drop>(counts: &mut BTreeMap<K, u64>, key: &K) -> bool
     ensures some { result ≡ nat_lt 0 (count_in K.cmp counts.old.entries key.now) }
     ensures counted { (k : K) → count_in K.cmp counts.new.entries k
@@ -137,7 +144,9 @@ fn decrement_in_map<K: Ord + Copy + Drop>(counts: &mut BTreeMap<K, u64>, key: &K
     some
 }
 
-/// Returns a map with the keys and counts of the list, and one more for `key`.
+/// Returns a map with the keys and counts of the list, and with one more for `key`, which may be in
+/// the list or not. Its count is required to be below `u64::MAX`. An error means that memory
+/// allocation failed.
 fn map_of_list_and_one<K: Ord + Copy + Drop>(
     alloc: Global,
     counts: &[(K, u64)],
@@ -152,9 +161,10 @@ fn map_of_list_and_one<K: Ord + Copy + Drop>(
     Ok(made)
 }
 
-/// Adds one to the count of `key` in the list, and returns `None`; or, if the list is full, leaves
-/// it unchanged and returns a map with the new counts. On an error, which means that memory
-/// allocation failed, the list is unchanged.
+/// Adds one to the count of `key` in the list, and returns `None`. If the list is full (has [`FEW`]
+/// keys), leaves it unchanged instead, and returns a map with its counts and one more for `key`,
+/// which the caller keeps in place of the list. The count is required to be below `u64::MAX`. On an
+/// error, which means that memory allocation failed, the list is unchanged.
 fn increment_or_move<K: Ord + Copy + Drop>(
     alloc: Global,
     counts: &mut Vec<(K, u64)>,
@@ -175,8 +185,9 @@ fn increment_or_move<K: Ord + Copy + Drop>(
     Ok(Some(map_of_list_and_one(alloc, counts, key)?))
 }
 
-/// Returns the counts of `only`, which is counted `count` times, with one more for `key`, which may
-/// be equal to it.
+/// Returns a multiset in which `only` is counted `count` times, and `key` once more; the two may be
+/// equal, which gives one key with `count + 1`. That is required not to overflow. An error means
+/// that memory allocation failed, which can happen only if the keys are different.
 fn increment_single<K: Ord + Copy + Drop>(
     alloc: Global,
     only: K,
@@ -196,8 +207,8 @@ fn increment_single<K: Ord + Copy + Drop>(
     Ok(KeyCounts::Few(both))
 }
 
-/// Returns the counts of `only`, which is counted `count` times, with one less for `key`, and
-/// `true` if one was subtracted: `key` equals `only`, and `count` isn't 0.
+/// Returns a multiset in which `only` is counted `count` times, less one if `key` equals `only` and
+/// `count` isn't 0. The second value is `true` if one was subtracted, `false` if not.
 fn decrement_single<K: Ord + Copy + Drop>(only: K, count: u64, key: &K) -> (KeyCounts<K>, bool)
     ensures some { result.1 ≡ nat_lt 0 (count_in K.cmp ((only, count) ∷ []) key.now) }
     ensures counted { (k : K) → count_at K.cmp result.0 k
@@ -213,15 +224,16 @@ fn decrement_single<K: Ord + Copy + Drop>(only: K, count: u64, key: &K) -> (KeyC
 }
 
 impl<K: Ord + Copy + Drop> KeyCounts<K> {
-    /// Returns `true` if no key is counted.
+    /// Returns `true` if no key is counted: every count is 0.
     pub(crate) fn is_empty(&self) -> bool
         ensures { result ≡ true → (k : K) → count_at K.cmp self.now k ≡ 0 }
     {
         matches!(self, KeyCounts::None)
     }
 
-    /// Adds one to the count of `key`, which must be below `u64::MAX`. On an error, which means
-    /// that memory allocation failed, the counts are unchanged.
+    /// Adds one to the count of `key`, which is 0 for a key that isn't there, and required to be
+    /// below `u64::MAX`. On an error, which means that memory allocation failed, the counts are
+    /// unchanged.
     pub(crate) fn increment(&mut self, alloc: Global, key: K) -> Result<(), AllocError>
         requires { count_at K.cmp self.old key < GREATEST_COUNT }
         ensures counted { OnOk result ((k : K) → count_at K.cmp self.new k
@@ -242,8 +254,8 @@ impl<K: Ord + Copy + Drop> KeyCounts<K> {
         Ok(())
     }
 
-    /// Subtracts one from the count of `key`, unless it is 0, and returns `true` if it did.
-    /// Allocates no memory.
+    /// Subtracts one from the count of `key`. Returns `true` if it did, or `false`, without a
+    /// change, if the count is 0. Allocates no memory.
     pub(crate) fn try_decrement(&mut self, key: &K) -> bool
         ensures some { result ≡ nat_lt 0 (count_at K.cmp self.old key.now) }
         ensures counted { (k : K) → count_at K.cmp self.new k

@@ -1,7 +1,9 @@
 //! Theorems about the definitions that the contracts of [`Player`](crate::Player) and
 //! [`Table`](crate::Table) cite. The functions here have no code and nothing calls them: each is a
-//! statement, its `ensures` clauses, that is proved when the crate is checked. Read
-//! [`law_tables_by_position`] first; `docs/proved.md` names them all.
+//! statement, its `ensures` clauses, that is proved when the crate is checked. A step is a played
+//! event, a position is a number of steps, the cursor is the position of the table now, and the
+//! floor is the lowest position that undo can reach. Read [`law_tables_by_position`] first;
+//! `docs/proved.md` names them all.
 #![tactic(auto, using(crate::proofs::LawRules::law_lemmas))]
 
 ghost use Rattle.std.specs.Prelude.{◌≡◌, ℕ, ◌≤◌, ◌<◌, ◌+◌, ◌-◌, ◌++◌, ◌∷◌, ◌||◌, [], List, is_some, length, take, slice_get, nat_lt, min, Option, Some, None};
@@ -25,21 +27,25 @@ ghost use Rattle.rib_player.specs.Timeline.{Timeline, end_of, table_at, current,
 ghost use Rattle.rib_player.specs.Calls.{Call, StandsFor, named_pairs_at, play_undo_calls, play_undo_redo_calls, after_call, after_calls, history_after, history_after_calls};
 ghost use Rattle.rib_player.specs.Claims.{one_if, claims, first_clears, last_brings, event_brings, without_last};
 
-/// States the number of the session state Established, which the definitions name: 6 (RFC 6396,
-/// section 4.4.1).
+/// States that `ESTABLISHED` is 6, the number of the BGP session state Established (RFC 6396,
+/// section 4.4.1). A session is lost when its state changes from this one to another.
 pub fn law_state_numbers()
     ensures established { ESTABLISHED ≡ 6 }
 {}
 
-/// States that the order of pairs of peer and prefix is total, and that only equal pairs compare
-/// equal.
+/// States that the order of pairs of a peer and a prefix is total, and that only equal pairs
+/// compare equal, so that tables and sets can be ordered by pair.
 pub fn law_pair_order()
     ensures total { IsTotalOrder pair_cmp }
     ensures ties { IsAntisymmetric pair_cmp }
 {}
 
-/// States which route the table of a history of events has at each pair, which one the table after
-/// an event has, and which pairs an event names.
+/// States, for each pair of a peer and a prefix:
+/// - The table of a list of events has there the route that the last event that sets or clears the
+///   pair leaves, or none if there is no such event.
+/// - The table after one more event has what that event sets or clears there, or else the route
+///   before.
+/// - An event names the pair if it sets or clears it and there is a route before or after.
 pub fn law_routes_at_pairs()
     ensures table { (history : List Event) (pair : Pair) →
         finite.get (table history) pair ≡ route pair history }
@@ -51,8 +57,11 @@ pub fn law_routes_at_pairs()
         ≡ is_named (finite.get routes pair) (effect pair event) }
 {}
 
-/// States that the routes of a peer are those at its pairs, and that the list of the peers that
-/// have a route has each of them once, in order.
+/// States how one peer's routes follow from the routes at all pairs of a peer and a prefix:
+/// - The peer's route to a prefix is the one at the pair of the two.
+/// - The list of peers that have a route has a peer if, and only if, the peer has at least one
+///   route.
+/// - That list is in strictly ascending order, so it has each of them once.
 pub fn law_routes_of_peers()
     ensures routes { (routes : Routes) (peer : Peer) (prefix : Network) →
         finite.get (peer_routes routes peer) prefix ≡ finite.get routes (pair_of peer prefix) }
@@ -62,9 +71,9 @@ pub fn law_routes_of_peers()
     ensures order { (routes : Routes) → IsStrictlySortedBy peer_cmp (routed_peers routes) }
 {}
 
-/// States that a walk by [`Table::peer_after`](crate::Table::peer_after), from the least peer that
-/// has a route to the next greater one and so on, meets each peer that has a route, in order, and
-/// then ends.
+/// States that a walk by [`Table::peer_after`](crate::Table::peer_after), which begins with `None`
+/// and goes on with each peer that it returns until it returns `None`, meets all peers that have a
+/// route, each once, in ascending order.
 pub fn law_walk_over_peers()
     ensures all { (routes : Routes) →
         routed_above routes None ≡ routed_peers routes }
@@ -76,18 +85,23 @@ pub fn law_walk_over_peers()
         → routed_above routes low ≡ [] }
 {}
 
-/// States which pairs are keys of a player's table: those that have a route at the cursor, and
-/// those that a kept step names, before or after the cursor.
+/// States which pairs of a peer and a prefix are keys of a player's table, which keep memory for a
+/// route: those that have a route at the cursor, and those that a kept step (a played event that
+/// undo or redo can go over) names, before or after the cursor. A step names a pair if its event
+/// sets or clears it and there is a route before or after.
 pub fn law_needed_keys()
     ensures { (t : Timeline) (pair : Pair) → set.contains (needed_keys t) pair
         ≡ (is_some (finite.get (current t) pair)
         || list_any (λ step. set.contains step pair) t.steps) }
 {}
 
-/// States that the keys of a player's table are the pairs with a claim (`claims.rt`), and how
-/// claims change: forgetting the first step takes one from each pair that the step clears, dropping
-/// the last step takes one from each pair that it brings (that has no route before it and one after
-/// it), and playing an event adds one to each pair that the event brings.
+/// States that a pair of a peer and a prefix is a key of a player's table (keeps memory for a
+/// route) if, and only if, it has a claim: a route at the floor, or a kept step that gives it a
+/// route when it has none. And how the number of its claims changes:
+/// - Forgetting the first step takes one if the pair has a route before that step and none after
+///   it.
+/// - Dropping the last step takes one if the pair has none before that step and one after it.
+/// - Playing an event at the end adds one if the pair has none before the event and one after it.
 pub fn law_claimed_pairs()
     ensures needed_keys { (t : Timeline) (history : List Event) (pair : Pair) → StandsFor t history →
         set.contains (needed_keys t) pair ≡ nat_lt 0 (claims t pair) }
@@ -102,16 +116,21 @@ pub fn law_claimed_pairs()
         claims (after_play t e) pair ≡ claims t pair + one_if (event_brings t e pair) }
 {}
 
-/// States that the table of a history with one more event is the history's table after that event.
+/// States that the table of a list of events followed by one more event is the table of the list,
+/// changed by that event. So a table can be computed event by event.
 pub fn law_one_event_more()
     ensures { (history : List Event) (event : Event) →
         table (history ++ event ∷ []) ≡ table_after (table history) event }
 {}
 
-/// States what holds of a player that stands for a history of events: at each kept position, its
-/// table is that of the events before the position; each kept step names the pairs of its event;
-/// the last position is the history's length; and at the cursor, each pair has the route that the
-/// events before it leave there.
+/// States what holds of a player that stands for a history (the list of the events that were played
+/// and not dropped), where a position is a number of these events:
+/// - Its table at each position from the floor on is that of the first events, as many as the
+///   position.
+/// - The kept step after such a position names the pairs (of a peer and a prefix) of the next
+///   event.
+/// - Its last position is the length of the history.
+/// - At the cursor, the route at each pair is what the events before the cursor leave there.
 pub fn law_tables_by_position()
     ensures tables { (t : Timeline) (history : List Event) → StandsFor t history →
         (i : ℕ) → t.floor ≤ i → i ≤ length history → table_at t i ≡ table (take i history) }
@@ -124,14 +143,19 @@ pub fn law_tables_by_position()
         (pair : Pair) → finite.get (current t) pair ≡ route pair (take t.cursor history) }
 {}
 
-/// States which history a player stands for after a call, given the one before it.
+/// States that a player that stands for a history (the list of the events that were played and not
+/// dropped) stands after any call for the one that `history_after` gives: after a play, the events
+/// before the cursor and the new one; after other calls, which include failed ones, the history
+/// before.
 pub fn law_history_after_one_call()
     ensures { (t : Timeline) (history : List Event) (call : Call) → StandsFor t history →
         StandsFor (after_call t call) (history_after t.cursor history call) }
 {}
 
-/// States which history a player stands for after a list of calls, failed ones among them: a new
-/// player, and one that stood for a history before.
+/// States which history (list of the events that were played and not dropped) a player stands for
+/// after any list of calls, failed ones among them: for a new player, the one that
+/// `history_after_calls` computes from the calls alone; for a player that stood for a history
+/// before, the one that it computes from that history and the calls.
 pub fn law_history_after_all_calls()
     ensures new { (calls : List Call) →
         StandsFor (after_calls fresh calls) (history_after_calls fresh [] calls) }
@@ -139,8 +163,9 @@ pub fn law_history_after_all_calls()
         StandsFor (after_calls t calls) (history_after_calls t history calls) }
 {}
 
-/// States that undoing a step just played restores the table before it, and that redoing a step
-/// just undone restores the player.
+/// States, of a player that stands for a history of events, that playing an event and undoing it
+/// gives the table before the play; and, if there is a step to undo, that undoing and redoing it
+/// gives the whole player as before: table, steps and cursor.
 pub fn law_one_step_back()
     ensures undo { (t : Timeline) (history : List Event) (event : Event) → StandsFor t history →
         current (after_undo (after_play t event)) ≡ current t }
@@ -148,9 +173,11 @@ pub fn law_one_step_back()
         t.floor < t.cursor → after_redo (after_undo t) ≡ t }
 {}
 
-/// States that forgetting keeps the table at the cursor and at each position that is left, that it
-/// changes nothing if no step is to be forgotten, and that forgetting twice is forgetting once with
-/// the smaller number of steps to keep.
+/// States what forgetting steps (played events) does, after which at most a given number can still
+/// be undone:
+/// - The tables at the cursor and at each position that is left stay.
+/// - Nothing changes if no step is to be forgotten.
+/// - Forgetting twice is forgetting once with the smaller of the two numbers.
 pub fn law_forgotten_steps()
     ensures tables { (t : Timeline) (keep : ℕ) → (i : ℕ) → (after_forget t keep).floor ≤ i →
         table_at (after_forget t keep) i ≡ table_at t i }
@@ -161,8 +188,9 @@ pub fn law_forgotten_steps()
         after_forget (after_forget t keep) less ≡ after_forget t (min keep less) }
 {}
 
-/// States that playing a list of events and undoing all of them restores the table, and that
-/// redoing them then gives the table of the history with these events.
+/// States, of a player that stands for a history of events, that playing a list of events and
+/// undoing all of them gives the table before; and that redoing them after that gives the table of
+/// the events before the cursor followed by the list.
 pub fn law_steps_back_and_forth()
     ensures back { (t : Timeline) (history events : List Event) → StandsFor t history →
         current (after_calls t (play_undo_calls events)) ≡ current t }

@@ -1,7 +1,8 @@
-//! Plays the events of an MRT file on a table of routes for each peer, and undoes and redoes them.
-//! `bgpdump_tool` runs the commands of a script on a [`Player`], which has the steps and the
-//! cursor; its [`Table`] answers look-ups. Read `player.rt` first, then `journal.rt`, `steps.rt`
-//! and `claims.rt`.
+//! Plays the events of an MRT file (RFC 6396) on a routing table for each peer, and undoes and
+//! redoes them. An event is what one record says: routes that are announced or withdrawn, and
+//! sessions that are lost. `bgpdump_tool` runs the commands of a script on a [`Player`], which
+//! keeps the steps (the played events) and a cursor among them; its [`Table`] answers look-ups of
+//! routes. Read `player.rt` first, then `journal.rt`, `steps.rt` and `claims.rt`.
 #![tactic(auto)]
 
 mod changes;

@@ -1,5 +1,6 @@
-//! A peer with the number of its store. The entries of a step share one such value for each peer,
-//! and `stores.rt` finds the peer's store by the number, without a search.
+//! A peer with the number of its store, which is the index of the peer's routes in the player's
+//! table. The entries of a step (the routes that a played event changed) share one such value for
+//! each peer, and `stores.rt` finds the peer's store by the number, without a search.
 
 ghost use Rattle.std.specs.Prelude.{◌≡◌};
 
@@ -10,9 +11,10 @@ use std::marker::Model;
 /// none. It is never the number of a store, all of which are below it.
 pub(crate) const NO_NUMBER: usize = usize::MAX;
 
-/// A peer, and the number of its store at the time when this value was made. The number is a hint:
-/// the store may have been removed or renumbered since, so a caller checks which peer has the
-/// number now. Contracts see only the peer.
+/// A peer, and the number of its store (the store's index in the player's table) at the time when
+/// this value was made. The number is a hint: the store may have been removed or renumbered since,
+/// so a caller checks which peer has the number now. In contracts, its value is the peer; the
+/// number doesn't show.
 #[derive(Drop)]
 pub(crate) struct NumberedPeer {
     peer: Peer,
@@ -28,14 +30,15 @@ impl Model for NumberedPeer {
 }
 
 impl NumberedPeer {
-    /// Returns `peer` with `number`, the number of its store, or [`NO_NUMBER`] if it has none.
+    /// Returns a value of `peer` and `number`, which is the index of its store in the player's
+    /// table, or [`NO_NUMBER`] if it has none.
     pub(crate) fn new(peer: Peer, number: usize) -> NumberedPeer
         ensures { result ≡ peer }
     {
         NumberedPeer { peer, number }
     }
 
-    /// Returns the peer.
+    /// Returns the peer, which never changes.
     #[inline]
     pub(crate) fn peer(&self) -> &Peer
         ensures { result.now ≡ self.now }
@@ -43,8 +46,9 @@ impl NumberedPeer {
         &self.peer
     }
 
-    /// Returns the number that the peer's store had when this value was made. By now it may be
-    /// another peer's, or nobody's.
+    /// Returns the number of the peer's store at the time when this value was made, or
+    /// [`NO_NUMBER`] if it had none. By now it may be the number of another peer's store, or of
+    /// none.
     #[inline]
     pub(crate) fn number(&self) -> usize {
         self.number

@@ -1,6 +1,6 @@
-//! The player: a table of routes for each peer, on which events are played as steps, and from which
-//! the steps are undone and redone. `bgpdump_tool` runs the commands of a script on it. Read
-//! [`Player`] and [`Player::play`] first, then `journal.rt`.
+//! The player: a routing table for each peer, on which events of an MRT file are played, each as
+//! one step, and by which the steps are undone and redone. `bgpdump_tool` runs the commands of a
+//! script on it. Read [`Player`] and [`Player::play`] first, then `journal.rt`.
 
 ghost use Rattle.std.specs.Prelude.{◌≡◌, ◌<◌, ◌↔◌, IfOk, OnOk, OnErr, IsOk, sum_by};
 ghost use Rattle.std.specs.FinSet as set;
@@ -26,20 +26,22 @@ use std::marker::Model;
 use std::rc::Rc;
 use thiserror::Error;
 
-/// The error of [`Player::play`].
+/// Why [`Player::play`] failed.
 #[derive(Clone, Copy, Debug, PartialEq, Eq, Error)]
 pub enum PlayFault {
-    /// Memory allocation failed. The player is unchanged, including the steps after the cursor.
+    /// Memory allocation failed. The player is unchanged, including the undone steps, which can
+    /// still be redone.
     #[error("out of memory")]
     Memory,
 }
 
-/// The error of [`Player::undo`] and [`Player::redo`]: no step can be undone, or redone.
+/// The error of [`Player::undo`] and [`Player::redo`]: there is no step (played event) to undo, or
+/// none to redo.
 #[derive(Clone, Copy, Debug, PartialEq, Eq)]
 pub struct Nothing;
 
-/// A routing table for each peer, the steps that led to it, and a cursor among the steps. Each
-/// event that is played is one step. The table is the one after all steps before the cursor;
+/// A routing table for each peer, the steps that led to it, and a cursor among the steps. A step is
+/// an event that was played. The table is the one after all steps before the cursor;
 /// [`undo`](Player::undo) and [`redo`](Player::redo) move the cursor by one step. The oldest steps
 /// can be forgotten: their effect stays, but they can't be undone any more, and their memory is
 /// freed.
@@ -50,14 +52,15 @@ pub struct Player<S: PrefixStore<Rc<Route>>> {
     table: Table<S>,
     /// The steps that aren't forgotten, and the cursor.
     journal: Journal,
-    /// The claims of pairs beyond the first, which is the pair's key in the table (`claims.rt`).
+    /// How often each pair of a peer and a prefix is claimed beyond the first time. A claim is a
+    /// reason to keep the pair as a key of the table, with memory for a route (`claims.rt`).
     claims: Claims,
-    /// The routes that were played, so that equal routes share memory.
+    /// The routes that were played, by which equal routes share memory.
     known: RouteInterner,
-    /// The numbers of the peers seen in the event that is being played. Kept so that its memory is
-    /// used again.
+    /// The indices of the stores whose peers were seen in the event that is being played. Kept
+    /// between plays so that its memory is used again.
     marks: SeenNumbers,
-    /// The groups of steps whose nodes were prefetched last.
+    /// The groups of steps whose memory was prefetched last, by undo or redo.
     prefetched: Prefetched,
 }
 
@@ -84,7 +87,7 @@ impl<S: PrefixStore<Rc<Route>>> Model for Player<S> {
 }
 
 impl<S: PrefixStore<Rc<Route>>> Player<S> {
-    /// Returns a player with an empty table and no steps, without allocating memory.
+    /// Returns a player with no routes and no steps, without allocating.
     pub fn new(alloc: Global) -> Self
         ensures { result ≡ fresh }
     {
@@ -106,7 +109,8 @@ impl<S: PrefixStore<Rc<Route>>> Player<S> {
         }
     }
 
-    /// Returns the position of the cursor: the number of steps before it, including forgotten ones.
+    /// Returns the position of the cursor: the number of steps (played events) before it, which are
+    /// applied to the table now. Forgotten steps are counted too.
     pub fn at(&self) -> u64
         ensures cursor { result ≡ self.now.cursor }
         ensures well_formed { IsWellFormed self.now }
@@ -114,24 +118,26 @@ impl<S: PrefixStore<Rc<Route>>> Player<S> {
         self.journal.floor + self.journal.cursor as u64
     }
 
-    /// Returns the number of steps that were forgotten, which is the lowest position that
-    /// [`undo`](Player::undo) can bring the cursor to.
+    /// Returns the number of steps (played events) that were forgotten and can't be undone any
+    /// more. It is the lowest position that [`undo`](Player::undo) can bring the cursor to.
     pub fn floor(&self) -> u64
         ensures { result ≡ self.now.floor }
     {
         self.journal.floor
     }
 
-    /// Returns the number of steps after the cursor, which can be redone.
+    /// Returns the number of steps after the cursor: events that were played and undone, and that
+    /// [`redo`](Player::redo) would apply again.
     pub fn ahead(&self) -> u64
         ensures { result ≡ ahead_of self.now }
     {
         (self.journal.steps.len() - self.journal.cursor) as u64
     }
 
-    /// Returns the total number of pairs of peer and prefix that the kept steps name, or `u64::MAX`
-    /// if it is larger. A step names each pair that it sets or clears and that has a route before
-    /// or after it; a pair counts once for each such step. Takes time linear in the number of
+    /// Returns the total number of pairs of a peer and a prefix that the steps (played events) that
+    /// aren't forgotten name, or `u64::MAX` if it is larger. A step names each pair that its event
+    /// sets or clears and that has a route before or after it; a pair counts once for each such
+    /// step. The memory that the steps take grows with it. Takes time linear in the number of
     /// steps.
     pub fn named(&self) -> u64
         ensures { result ≡ saturated_count (sum_by set.len self.now.steps) }
@@ -144,7 +150,8 @@ impl<S: PrefixStore<Rc<Route>>> Player<S> {
         total
     }
 
-    /// Returns the table after the steps before the cursor.
+    /// Returns the routing tables of all peers after the steps (played events) before the cursor,
+    /// for look-ups.
     pub fn table(&self) -> &Table<S>
         ensures keys { result.now.keys ≡ needed_keys self.now }
         ensures routes { result.now.routes ≡ current self.now }
@@ -152,9 +159,10 @@ impl<S: PrefixStore<Rc<Route>>> Player<S> {
         &self.table
     }
 
-    /// Drops the steps after the cursor, plays `event` as the next step, and returns the number of
-    /// steps dropped. The position must be below `u64::MAX`. On an error, the player is unchanged,
-    /// including the steps after the cursor.
+    /// Applies `event` to the table as the next step, and moves the cursor after it. The steps
+    /// after the cursor (undone events) are dropped, so that they can't be redone; returns how many
+    /// these were. The position ([`Player::at`]) is required to be below `u64::MAX`. On an error,
+    /// the player is unchanged, including the steps after the cursor.
     pub fn play(&mut self, event: &Event) -> Result<u64, PlayFault>
         requires { self.old.cursor < GREATEST_COUNT }
         ensures after_play { OnOk result (self.new ≡ after_play self.old event.now) }
@@ -170,9 +178,9 @@ impl<S: PrefixStore<Rc<Route>>> Player<S> {
         played
     }
 
-    /// Undoes the step before the cursor, and moves the cursor before it, without allocating
-    /// memory. An error means that the cursor is at the [`floor`](Player::floor); nothing changes
-    /// then.
+    /// Undoes the step (played event) before the cursor, and moves the cursor before it, without
+    /// allocating. An error means that there is no step to undo, since the cursor is at the
+    /// [`floor`](Player::floor); nothing changes then.
     pub fn undo(&mut self) -> Result<(), Nothing>
         ensures after_undo { self.new ≡ after_undo self.old }
         ensures can { IsOk result ↔ (self.old.floor < self.old.cursor) }
@@ -191,8 +199,9 @@ impl<S: PrefixStore<Rc<Route>>> Player<S> {
         Ok(())
     }
 
-    /// Redoes the step after the cursor, and moves the cursor after it, without allocating memory.
-    /// An error means that there is no such step; nothing changes then.
+    /// Applies the step after the cursor, an event that was undone, again, and moves the cursor
+    /// after it, without allocating. An error means that there is no such step; nothing changes
+    /// then.
     pub fn redo(&mut self) -> Result<(), Nothing>
         ensures after_redo { self.new ≡ after_redo self.old }
         ensures can { IsOk result ↔ (self.old.cursor < end_of self.old) }
@@ -213,9 +222,10 @@ impl<S: PrefixStore<Rc<Route>>> Player<S> {
 }
 
 impl<S: PrefixStore<Rc<Route>>> Player<S> {
-    /// Plays `event` as the next step, and returns the number of steps dropped. [`Player::play`]
-    /// calls it after freeing spare memory. On an error, the player is unchanged, and the caller
-    /// has to call [`RouteInterner::release_added`].
+    /// Does what [`Player::play`] does, but for freeing spare memory before: plays `event` as the
+    /// next step, drops the undone steps, and returns how many these were. On an error, the player
+    /// is unchanged, except that routes of the event may stay among those that it shares; the
+    /// caller has to call [`RouteInterner::release_added`] then.
     fn play_step(&mut self, event: &Event) -> Result<u64, PlayFault>
         requires { self.old.cursor < GREATEST_COUNT }
         ensures after_play { OnOk result (self.new ≡ after_play self.old event.now) }
@@ -251,8 +261,9 @@ impl<S: PrefixStore<Rc<Route>>> Player<S> {
         Ok(dropped as u64)
     }
 
-    /// Forgets the oldest step that isn't forgotten yet, which must be before the cursor. The
-    /// routes and the position stay.
+    /// Forgets the oldest step (played event) that isn't forgotten yet, so that it can't be undone
+    /// any more. There is required to be one, before the cursor. The routes and the cursor's
+    /// position stay.
     fn forget_oldest(&mut self)
         requires { self.old.floor < self.old.cursor }
         ensures { self.new ≡ without_first 1 self.old }
@@ -270,17 +281,20 @@ impl<S: PrefixStore<Rc<Route>>> Player<S> {
         }
     }
 
-    /// Drops the routes that are kept only to be shared with equal ones, if they take much memory.
-    /// Call it after the event of a [`play`](Player::play) was dropped; without it these routes
-    /// stay until the next play or [`forget`](Player::forget).
+    /// Drops the routes that nothing but the player's table of shared routes holds, if those
+    /// released since the last time take more octets than a quarter of what all others take, plus a
+    /// mebibyte. Changes no answer of the player. Call it after dropping the event that was given
+    /// to [`play`](Player::play); without it, such routes stay until the next play or
+    /// [`forget`](Player::forget).
     pub fn drop_unused_routes(&mut self)
         ensures { self.new ≡ self.old }
     {
         self.known.sweep_if_due();
     }
 
-    /// Forgets the oldest steps, so that at most `keep` are left before the cursor, and returns how
-    /// many it forgot. The steps after the cursor, the position and the routes stay. Allocates no
+    /// Forgets the oldest steps (played events), so that at most `keep` of those before the cursor
+    /// can still be undone, and returns how many it forgot: 0 if there are no more than `keep`. The
+    /// steps after the cursor, the position of the cursor, and the routes stay. Allocates no
     /// memory.
     pub fn forget(&mut self, keep: u64) -> u64
         ensures after_forget { self.new ≡ after_forget self.old keep }

@@ -1,10 +1,12 @@
-//! Prefetches of the nodes that the entries of steps need, before their routes are swapped with the
-//! table's, so that the processor waits for the nodes of several pairs at once. They change
-//! nothing. `journal.rt` calls [`prefetch_entries`] and [`prefetch_steps`].
+//! Prefetches of the memory that the routes of steps (played events) need in the table, before
+//! undo, redo or play swap them with the table's, so that the processor waits for the nodes (of a
+//! store's tree of prefixes) of several pairs of a peer and a prefix at once. They change nothing.
+//! `journal.rt` calls [`prefetch_entries`] and [`prefetch_steps`].
 //!
-//! Nodes are prefetched only for entries of one peer, as those of a message, whose store has many
-//! keys. A RIB record names one prefix of many peers, and needs nodes that the record before mostly
-//! needed too; the nodes of few keys are in the cache anyway.
+//! Nodes are prefetched only for entries of one peer, as those of a BGP message, whose store has
+//! many keys (prefixes with memory for a route). A RIB record names one prefix of many peers, and
+//! needs nodes that the record before mostly needed too; the nodes of few keys are in the cache
+//! anyway.
 
 ghost use Rattle.std.specs.Prelude.{◌<◌, ◌≤◌, length};
 
@@ -15,25 +17,30 @@ use prefix_store::{PREFETCH_BATCH_LEN, PrefetchBatch, PrefixStore};
 use std::collections::VecDeque;
 use std::rc::Rc;
 
-/// The number of entries of one step whose nodes are prefetched at once.
+/// The number of entries of one step (the routes that one played event changed) for which nodes of
+/// the store's tree are prefetched at once.
 const ENTRIES_AT_ONCE: usize = PREFETCH_BATCH_LEN as usize;
 
-/// The number of steps of a group, whose nodes are prefetched at once. A group begins at a multiple
-/// of it. Only steps of fewer than [`ENTRIES_AT_ONCE`] entries are prefetched so.
+/// The number of steps (played events) of a group, for which nodes of stores' trees are prefetched
+/// at once. A group begins at an index that is a multiple of it. Only steps of fewer than
+/// [`ENTRIES_AT_ONCE`] entries are prefetched so.
 pub(crate) const STEPS_TOGETHER: usize = 8;
 
-/// The smallest number of keys of a store whose nodes are prefetched.
+/// The smallest number of keys (prefixes with memory for a route) of a store whose nodes are
+/// prefetched. The nodes of fewer keys are in the processor's cache anyway.
 const LEAST_KEYS: u64 = 4096;
 
-/// Prefetches the nodes for the prefixes in `batch`, empties `batch`, and returns the number of
-/// nodes visited.
+/// Prefetches the nodes that look-ups of the prefixes in `batch` go through, empties `batch`, and
+/// returns the number of nodes visited, 0 for an empty batch. The caller has to use the number,
+/// since a compiler may remove the prefetches otherwise.
 fn prefetch_batch<S: PrefixStore<Rc<Route>>>(batch: &mut PrefetchBatch<'_, S>) -> u64 {
     let added = batch.take_all();
     S::prefetch(&added)
 }
 
-/// Adds the prefixes of `entries`, all of which are looked up in `store`, to `batch`. Prefetches
-/// the nodes and empties `batch` whenever it is full, and returns the number of nodes visited.
+/// Adds the prefixes of `entries` (the routes that a step changed, all of one peer) to `batch`, to
+/// be looked up in `store`. Whenever the batch is full, prefetches their nodes and empties it;
+/// prefixes of the last batch may stay in it. Returns the number of nodes visited.
 fn add_entries<'a, S: PrefixStore<Rc<Route>>>(
     batch: &mut PrefetchBatch<'a, S>,
     store: &'a S,
@@ -48,8 +55,10 @@ fn add_entries<'a, S: PrefixStore<Rc<Route>>>(
     visited
 }
 
-/// Returns the store of the entries' peer, or `None` if the first and the last entry are of
-/// different peers, or if the store has fewer than [`LEAST_KEYS`] keys.
+/// Returns the store of the peer of `entries` (the routes that a step changed), or `None` if
+/// prefetching doesn't pay: if there are no entries, the first and the last are of different peers,
+/// the peer has no store, or its store has fewer than [`LEAST_KEYS`] keys (prefixes with memory for
+/// a route). Entries between the first and the last aren't looked at.
 fn common_store<'a, S: PrefixStore<Rc<Route>>>(
     table: &'a Table<S>,
     entries: &[Entry],
@@ -66,9 +75,11 @@ fn common_store<'a, S: PrefixStore<Rc<Route>>>(
     Some(store)
 }
 
-/// Prefetches the nodes for the next [`ENTRIES_AT_ONCE`] entries of a step, from `index` on, and
-/// returns the number of nodes visited. Does nothing unless `index` is a multiple of
-/// [`ENTRIES_AT_ONCE`] and the step has at least so many entries, of one peer with many keys.
+/// Prefetches the nodes for up to [`ENTRIES_AT_ONCE`] entries of a step (a played event), from the
+/// index `index` on, and returns the number of nodes visited. `entries` are all of the step. Does
+/// nothing and returns 0 unless `index` is a multiple of [`ENTRIES_AT_ONCE`] and the step has at
+/// least so many entries, of one peer with many keys (prefixes with memory for a route). `index` is
+/// required to be at most the number of entries.
 #[inline]
 pub(crate) fn prefetch_entries<S: PrefixStore<Rc<Route>>>(
     table: &Table<S>,
@@ -89,22 +100,25 @@ pub(crate) fn prefetch_entries<S: PrefixStore<Rc<Route>>>(
     visited.wrapping_add(prefetch_batch(&mut batch))
 }
 
-/// The two groups of steps whose nodes were prefetched last, each as the index of its first step,
-/// or `usize::MAX` for none.
+/// The two groups of [`STEPS_TOGETHER`] steps (played events) whose nodes were prefetched last, so
+/// that they aren't prefetched again. A group is given by the index of its first step in the
+/// journal, or `usize::MAX` for none.
 #[derive(Clone, Copy)]
 pub(crate) struct Prefetched {
     // Two are kept, so that going back and forth over a position doesn't prefetch their nodes each
     // time.
     /// The group that was prefetched last.
     pub(crate) last: usize,
-    /// The group that was prefetched before that.
+    /// The group that was prefetched before `last`.
     pub(crate) before: usize,
 }
 
-/// Prefetches the nodes for the group of [`STEPS_TOGETHER`] steps that has the step `next`, and
-/// returns the number of nodes visited. Does nothing unless `first` is the index of this step in
-/// its group, the step has entries, and the group isn't in `prefetched`, to which it is added. Steps
-/// of many entries are left to [`prefetch_entries`].
+/// Prefetches the nodes for the group of [`STEPS_TOGETHER`] steps (played events) that has the step
+/// with index `next`, and returns the number of nodes visited. Does nothing and returns 0 unless
+/// `first` is the index of this step in its group (0 to go forward, the last to go back), the step
+/// has entries, and the group isn't in `prefetched`, to which it is added. Steps of at least
+/// [`ENTRIES_AT_ONCE`] entries are left to [`prefetch_entries`]. `next` is required to be the index
+/// of a step.
 pub(crate) fn prefetch_steps<S: PrefixStore<Rc<Route>>>(
     table: &Table<S>,
     steps: &VecDeque<Step>,

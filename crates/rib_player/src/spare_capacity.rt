@@ -1,6 +1,6 @@
-//! Shrinks lists whose capacity is far more than their length. Each call of `Player::play` shrinks
-//! the lists of steps, of stores and of seen numbers with the bounds below, so that memory follows
-//! a table that gets smaller.
+//! Shrinks lists whose capacity is far more than their length. Each call of
+//! [`Player::play`](crate::Player::play) shrinks the list of steps, and those of stores and of seen
+//! numbers, with the bounds below, so that memory follows a table that gets smaller.
 
 ghost use Rattle.std.specs.Prelude.{◌≡◌};
 
@@ -12,9 +12,9 @@ pub(crate) const MOST_TIMES: usize = 4;
 /// of up to so many elements may have capacity for [`MOST_TIMES`] times as many.
 pub(crate) const LEAST_ROOM: usize = 1024;
 
-/// Shrinks the capacity of `list` to its length, or to [`LEAST_ROOM`] if that is greater, if it has
-/// far more ([`MOST_TIMES`]). The elements stay. Does nothing if memory allocation for the smaller
-/// block fails.
+/// Shrinks the capacity of `list` to its length, at least [`LEAST_ROOM`] elements, if the capacity
+/// divided by [`MOST_TIMES`] is more than that. The elements stay. Does nothing if it isn't, or if
+/// memory allocation for the smaller block fails.
 pub(crate) fn shrink_if_sparse<T>(list: &mut Vec<T>)
     ensures { list.new.items ≡ list.old.items }
 {

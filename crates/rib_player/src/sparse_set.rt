@@ -1,6 +1,6 @@
 //! A sparse set: the numbers below a bound in a list in which the members come first, so that they
-//! are listed without a look at the others. `stores.rt` keeps in it which stores have a route. Read
-//! [`SparseSet`] first.
+//! are listed without a look at the others. `stores.rt` has one of the indices of the stores that
+//! have a route. Read [`SparseSet`] first.
 
 ghost use Rattle.std.specs.Prelude.{◌≡◌, ◌<◌, ◌≤◌, ◌++◌, ◌∷◌, ℕ, [], false, not, Some, length, OnOk, slice_get, vec_len, vec_capacity};
 ghost use Rattle.rib_player.specs.Indices.{AreInverse, IsSetAt, IsSwapRemoved, ListsAll, swapped_index};
@@ -9,14 +9,14 @@ ghost use Rattle.std.proofs.Props.{props};
 use crate::spare_capacity::shrink_if_sparse;
 use std::alloc::{AllocError, Global};
 
-/// A set of some of the numbers below a bound, which grows by [`add`](SparseSet::add) and shrinks
-/// by [`remove`](SparseSet::remove). Making a number a member or not takes constant time, and no
-/// memory.
+/// A set of some of the numbers below a bound, which grows by one with [`add`](SparseSet::add) and
+/// shrinks by one with [`remove`](SparseSet::remove). Making a number a member, or no member, takes
+/// constant time and no memory; listing the members takes no time for the others.
 #[derive(Drop)]
 pub(crate) struct SparseSet {
     /// All numbers below the bound, the members first.
     numbers: Vec<usize>,
-    /// The index of each number in `numbers`.
+    /// For each number below the bound, its index in `numbers`.
     places: Vec<usize>,
     /// The number of members.
     count: usize,
@@ -24,8 +24,9 @@ pub(crate) struct SparseSet {
     ghost within: { count ≤ vec_len numbers },
 }
 
-/// Swaps the numbers at the indices `one` and `other` of `numbers`, and their indices in `places`,
-/// which is the inverse of `numbers`.
+/// Swaps the elements of `numbers` at the indices `one` and `other`, and adjusts `places`, which is
+/// required to be the inverse of `numbers` (`places[numbers[i]] == i`) and stays so. Both indices
+/// are required to be in range; they may be equal.
 fn swap_numbers(numbers: &mut Vec<usize>, places: &mut Vec<usize>, one: usize, other: usize)
     requires inverse { AreInverse numbers.old.items places.old.items }
     requires one { one < vec_len numbers.old }
@@ -47,7 +48,7 @@ fn swap_numbers(numbers: &mut Vec<usize>, places: &mut Vec<usize>, one: usize, o
 impl SparseSet {
     ghost use Rattle.rib_player.specs.SparseSet.{HasRoom, choices};
 
-    /// Returns a set with the bound 0, without allocating memory.
+    /// Returns a set with the bound 0, which has no members, without allocating.
     pub(crate) fn new(alloc: Global) -> SparseSet
         ensures { choices result ≡ [] }
     {
@@ -58,8 +59,8 @@ impl SparseSet {
         }
     }
 
-    /// Reserves capacity for one more number. On an error, which means that memory allocation
-    /// failed, the set is unchanged.
+    /// Reserves capacity for raising the bound by one ([`SparseSet::add`]). On an error, which
+    /// means that memory allocation failed, bound and members are unchanged.
     pub(crate) fn reserve(&mut self) -> Result<(), AllocError>
         ensures room { OnOk result (HasRoom self.new) }
         ensures kept { choices self.new ≡ choices self.old }
@@ -68,8 +69,8 @@ impl SparseSet {
         self.places.reserve(1)
     }
 
-    /// Raises the bound by one; the new number isn't a member. There must be capacity for it
-    /// ([`SparseSet::reserve`]).
+    /// Raises the bound by one; the new number, the bound before, isn't a member. Capacity for it
+    /// is required, as [`SparseSet::reserve`] gives it, so that this can't fail.
     pub(crate) fn add(&mut self)
         requires { HasRoom self.old }
         ensures { choices self.new ≡ choices self.old ++ false ∷ [] }
@@ -79,8 +80,9 @@ impl SparseSet {
         self.places.push_reserved(number);
     }
 
-    /// Makes `number`, which must be below the bound, a member if `is` is true, or else no member.
-    /// Allocates no memory.
+    /// Makes `number` a member of the set if `is` is `true`, or no member if it is `false`; does
+    /// nothing if it is so already. `number` is required to be below the bound. Allocates no
+    /// memory.
     #[inline]
     pub(crate) fn set_member(&mut self, number: usize, is: bool)
         requires { number < length (choices self.old) }
@@ -91,7 +93,8 @@ impl SparseSet {
         }
     }
 
-    /// Makes `number` a member if `is` is true, or else no member. It must be the opposite before.
+    /// Makes `number` a member of the set if `is` is `true`, or no member if it is `false`. This is
+    /// required to be a change: `number` is below the bound, and a member only if `is` is `false`.
     fn set_membership(&mut self, number: usize, is: bool)
         requires { slice_get (choices self.old) number ≡ Some (not is) }
         ensures { IsSetAt (choices self.old) (choices self.new) number is }
@@ -106,8 +109,9 @@ impl SparseSet {
         }
     }
 
-    /// Lowers the bound by one: `number` is taken out, and the last number becomes `number`, member
-    /// or not as it was; compare [`Vec::swap_remove`]. Allocates no memory.
+    /// Removes `number` from those below the bound, and lowers the bound by one. The last number,
+    /// if it is another one, is renamed to `number`, and stays a member or not, as an element that
+    /// [`Vec::swap_remove`] moves. `number` is required to be below the bound. Allocates no memory.
     pub(crate) fn remove(&mut self, number: usize)
         requires { number < length (choices self.old) }
         ensures { IsSwapRemoved (choices self.old) (choices self.new) number }
@@ -121,14 +125,15 @@ impl SparseSet {
         self.places.pop();
     }
 
-    /// Returns the members, in unspecified order.
+    /// Returns the members, each once, in unspecified order.
     pub(crate) fn numbers(&self) -> &[usize]
         ensures { ListsAll (choices self.now) result.now }
     {
         &self.numbers[..self.count]
     }
 
-    /// Shrinks the lists if they have far more capacity than numbers (`spare_capacity.rt`).
+    /// Shrinks the lists of the set if their capacity is far more than the bound
+    /// (`spare_capacity.rt`). Bound and members stay.
     pub(crate) fn shrink_if_sparse(&mut self)
         ensures { choices self.new ≡ choices self.old }
     {

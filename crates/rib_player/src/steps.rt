@@ -1,6 +1,6 @@
-//! The entries of the step that an event makes: one for each pair that the event sets or clears and
-//! that has a route before or after it. `player.rt` calls [`entries_for_event`]; read that first,
-//! then `changes.rt`.
+//! The entries of the step that an event makes when it is played: one for each pair of a peer and a
+//! prefix that the event sets or clears and that has a route before or after it. `player.rt` calls
+//! [`entries_for_event`]; read that first, then `changes.rt`.
 
 ghost use Rattle.std.specs.Prelude.{◌≡◌, ◌++◌, IsTrue, IfOk, OnOk, IfSome, None, false, map};
 ghost use Rattle.std.specs.List.{AllByRecursion};
@@ -26,9 +26,9 @@ use std::rc::Rc;
 /// The largest number of routes of a lost session that are read from the store in one call.
 const MANY: usize = 64;
 
-/// Appends, for each prefix of `found`, an entry of the pair of `peer` and this prefix, which has
-/// no route after the step. The routes of `found` aren't used. An error means that memory
-/// allocation failed; `entries` is unspecified then.
+/// Appends to `entries`, for each prefix of `found`, an entry (what a step does to the route of a
+/// peer and a prefix) that clears the route of `peer` to it. The routes of `found` aren't used. An
+/// error means that memory allocation failed; some of the entries may have been appended then.
 fn push_cleared_entries(
     alloc: Global,
     peer: &Rc<NumberedPeer>,
@@ -44,9 +44,9 @@ fn push_cleared_entries(
     Ok(())
 }
 
-/// Returns the entries of a step that clears all routes of `peer`: one for each prefix to which it
-/// has a route, in their order. The table isn't changed. An error means that memory allocation
-/// failed.
+/// Returns the entries that clear all routes of `peer`: one for each prefix to which it has a route
+/// in `table`, in the order of prefixes, or none if it has no route. They aren't applied: the table
+/// isn't changed. An error means that memory allocation failed.
 fn session_loss_entries<S: PrefixStore<Rc<Route>>>(
     alloc: Global,
     peer: &Peer,
@@ -73,8 +73,10 @@ fn session_loss_entries<S: PrefixStore<Rc<Route>>>(
     }
 }
 
-/// Returns the entries of `changes`, followed by those that clear the routes of each lost peer. Of
-/// the entries of a pair, the first counts. An error means that memory allocation failed.
+/// Returns the entries of `changes` (an event's announcements and withdrawals), followed by those
+/// that clear the routes of each peer whose session it loses. A pair of a peer and a prefix may
+/// have several entries, of which the first counts. The table isn't changed. An error means that
+/// memory allocation failed.
 fn with_lost_entries<S: PrefixStore<Rc<Route>>>(
     changes: Changes,
     table: &Table<S>,
@@ -97,10 +99,12 @@ fn with_lost_entries<S: PrefixStore<Rc<Route>>>(
     Ok(entries)
 }
 
-/// The largest number of entries that are compared each with each for equal pairs. More are sorted.
+/// The largest number of entries (routes that an event sets or clears) that are compared each with
+/// each for equal pairs of a peer and a prefix. More are sorted.
 const FEW: usize = 8;
 
-/// Returns `true` if one of `entries` is of the pair of `entry`.
+/// Returns `true` if one of `entries` has both the peer and the prefix of `entry`, else `false`, as
+/// for no entries. Routes aren't compared.
 fn contains_pair(entries: &[Entry], entry: &Entry) -> bool
     ensures { result ≡ false → AllByRecursion
         (λ side. eq_by_cmp pair_cmp side.0 entry.now.pair ≡ false) (sides_of entries.now) }
@@ -113,7 +117,8 @@ fn contains_pair(entries: &[Entry], entry: &Entry) -> bool
     false
 }
 
-/// Returns `true` if no two entries are of one pair. Takes time quadratic in their number.
+/// Returns `true` if no two of `entries` have both the peer and the prefix in common, also if there
+/// are none; else `false`. Takes time quadratic in their number.
 fn have_distinct_pairs(entries: &[Entry]) -> bool
     ensures { IsTrue result → AreDistinct (sides_of entries.now) }
 {
@@ -125,8 +130,8 @@ fn have_distinct_pairs(entries: &[Entry]) -> bool
     true
 }
 
-/// Returns `true` if all entries are of one peer, and each is of a lesser prefix than the one
-/// before it.
+/// Returns `true` if all entries are of one peer, and the prefix of each is less than that of the
+/// one before it, so that no two are of one prefix. Returns `true` for no entries or one.
 fn are_one_peer_descending(entries: &[Entry]) -> bool
     ensures { IsTrue result → AreDistinct (sides_of entries.now) }
 {
@@ -144,8 +149,10 @@ fn are_one_peer_descending(entries: &[Entry]) -> bool
     true
 }
 
-/// Returns the first entry of each pair, in unspecified order, and drops the others. `marks` is
-/// memory for the numbers of peers seen. An error means that memory allocation failed.
+/// Returns, of the entries (routes that an event sets or clears) with an equal peer and an equal
+/// prefix, only the first, and drops the others. The order of the result is unspecified. `marks` is
+/// memory to use for the peers seen; what it held is lost. An error means that memory allocation
+/// failed.
 fn one_entry_per_pair<S: PrefixStore<Rc<Route>>>(
     entries: Vec<Entry>,
     table: &Table<S>,
@@ -172,11 +179,12 @@ fn one_entry_per_pair<S: PrefixStore<Rc<Route>>>(
     Ok(ordered)
 }
 
-/// Returns the entries of the step that `event` makes on `table`, which aren't applied yet: one for
-/// each pair that the event sets or clears and that has a route before or after it. Returns a peer
-/// with them if all that the step does is to clear that peer's routes. Equal routes are shared by
-/// `known`; `marks` is memory for the numbers of peers seen. An error means that memory allocation
-/// failed.
+/// Returns the entries of the step that playing `event` on `table` makes: one for each pair of a
+/// peer and a prefix that the event sets or clears and that has a route before or after it, with
+/// the route that it gets. They aren't applied, and the table isn't changed. The second value is a
+/// peer if all that the step does is to clear that peer's routes, else `None`. Routes are replaced
+/// by equal ones of `known`, the routes that the player shares; `marks` is memory to use for the
+/// peers seen. An error means that memory allocation failed.
 pub(crate) fn entries_for_event<S: PrefixStore<Rc<Route>>>(
     alloc: Global,
     event: &Event,

@@ -1,6 +1,7 @@
-//! The stores of the peers that have a key. Each such peer has a number, by which its store is
-//! found; the number may change when another peer's store is removed. `table.rt` keeps its routes
-//! here. Read [`Stores`] first.
+//! The stores of the peers that have a key, which is a prefix with memory for a route; a store has
+//! the routes of one peer. Each such peer has a number, by which its store is found; the number may
+//! change when another peer's store is removed. `table.rt` keeps its routes here. Read [`Stores`]
+//! first.
 
 ghost use Rattle.std.specs.Prelude.{◌≡◌, ◌≤◌, [], Some, None, true, false, IsTrue, IsSome, IfSome, IfOk, slice_get, length, ◌<◌, nat_lt, OnOk, OnErr, vec_len};
 ghost use Rattle.std.specs.Option.{option_copied, option_copied_mut, option_map};
@@ -37,7 +38,9 @@ const PLACES: usize = 4096;
 /// 4,096 slots.
 const LOWEST_BITS: u32 = 52;
 
-/// A map from peers to stores, in which a peer is looked up by a number, by a hash, or in order.
+/// A map from peers to stores `S`, each with the routes of one peer. Each peer with a store has a
+/// number, the index of its store, and is found by this number if a caller knows it, else by a hash
+/// of the peer, or in the order of peers.
 #[derive(Drop)]
 pub(crate) struct Stores<S> {
     alloc: Global,
@@ -45,14 +48,15 @@ pub(crate) struct Stores<S> {
     pub(crate) order: BTreeMap<Peer, usize>,
     /// The stores. The index of a store is the number of its peer.
     pub(crate) held: Vec<S>,
-    /// The peers, as the entries of steps share them. The index of a peer is its number.
+    /// The peers with their numbers, as pointers that the entries of steps (the routes that played
+    /// events changed) share. The index of a peer is its number.
     pub(crate) names: Vec<Rc<NumberedPeer>>,
-    /// The numbers of the stores that have a route. The caller keeps it right by
-    /// [`Stores::set_routed`].
+    /// The numbers of the stores that have a route. A caller that changes a store's routes has to
+    /// call [`Stores::set_routed`] or [`Stores::update_routed`] then.
     pub(crate) routed: SparseSet,
-    /// The number that was set last for a peer of each slot, or 0. It may be another peer's, so a
-    /// reader checks which peer has it; a peer that isn't found here is in `order`. Empty until the
-    /// first store is added.
+    /// A small hash table: for each slot ([`slot_of`]), the number that was set last for a peer of
+    /// this slot, or 0. It may be another peer's, so a reader checks which peer has it; a peer that
+    /// isn't found here is in `order`. Empty until the first store is added.
     places: Vec<u32>,
     // The proof after `by` shows that the claim has at most one proof, as a ghost field must.
     ghost numbered: { AreNumbered held.items (peers_in names.items) order.entries } by { Prim.hlevel props },
@@ -60,7 +64,8 @@ pub(crate) struct Stores<S> {
     ghost each: { length (choices routed) ≡ length held.items },
 }
 
-/// Returns the index in `Stores::places` of the slot for `peer`: the highest 12 bits of its hash.
+/// Returns the index in `Stores::places`, a small hash table of numbers of peers, for `peer`: the
+/// highest 12 bits of its hash. Different peers may have the same index.
 #[inline]
 fn slot_of(peer: &Peer) -> usize {
     (peer_hash(peer) >> LOWEST_BITS) as usize
@@ -71,7 +76,7 @@ impl<S> Stores<S> {
     ghost use Rattle.rib_player.specs.Noted.{routed_in};
     ghost use Rattle.rib_player.specs.Lent.{lends_store};
 
-    /// Returns a map without stores, without allocating memory.
+    /// Returns a map without stores, without allocating.
     pub(crate) fn new(alloc: Global) -> Self
         ensures stores { stores_in result ≡ [] }
         ensures routed { routed_in result ≡ [] }
@@ -86,7 +91,8 @@ impl<S> Stores<S> {
         }
     }
 
-    /// Returns `true` if `peer` has a store and `number` is its number.
+    /// Returns `true` if `peer` has a store and `number` is its number (the index of its store),
+    /// `false` if it has none or another number. Any `number` may be given.
     #[inline(always)]
     fn has_number(&self, number: usize, peer: &Peer) -> bool
         ensures { IsTrue result →
@@ -98,8 +104,8 @@ impl<S> Stores<S> {
         }
     }
 
-    /// Returns the number of `peer`, or `None` if it has no store. Looks in the peer's slot first,
-    /// then in the ordered map.
+    /// Returns the number of `peer`, which is the index of its store, or `None` if it has no store.
+    /// Looks in `places`, a hash table of numbers, first, then in the ordered map.
     #[inline(never)]
     fn find_number(&self, peer: &Peer) -> Option<usize>
         ensures { result ≡ lookup (eq_by_cmp peer_cmp peer.now) self.now.order.entries }
@@ -113,7 +119,9 @@ impl<S> Stores<S> {
         self.order.get(peer).copied()
     }
 
-    /// Returns the number of `peer`, or `None` if it has no store. Tries the hint `number` first.
+    /// Returns the number of `peer`, which is the index of its store, or `None` if it has no store.
+    /// `number` is a hint, tried first; a wrong one, such as
+    /// [`NO_NUMBER`](crate::numbered_peer::NO_NUMBER), takes only time.
     #[inline(always)]
     fn find_number_by_hint(&self, number: usize, peer: &Peer) -> Option<usize>
         ensures { result ≡ lookup (eq_by_cmp peer_cmp peer.now) self.now.order.entries }
@@ -124,8 +132,9 @@ impl<S> Stores<S> {
         self.find_number(peer)
     }
 
-    /// Returns the peer with its number, as the pointer that entries share, or `None` if it has no
-    /// store. Tries the hint `number` first.
+    /// Returns the peer with its number (the index of its store), as the pointer that the entries
+    /// of steps share, or `None` if it has no store. `number` is a hint of its number, tried first;
+    /// a wrong one takes only time.
     #[inline]
     pub(crate) fn find_numbered_peer(&self, number: usize, peer: &Peer) -> Option<&Rc<NumberedPeer>>
         ensures { IfSome result (λ shared. shared.now.value ≡ peer.now) }
@@ -133,9 +142,10 @@ impl<S> Stores<S> {
         self.names.get(self.find_number_by_hint(number, peer)?)
     }
 
-    /// Returns `true` if all entries are of peers that have stores, and no two are of one peer.
-    /// `marks` is memory for the numbers seen; what it held is replaced. An error means that memory
-    /// allocation failed.
+    /// Returns `true` if the peers of all entries (the routes that an event sets or clears) have
+    /// stores and no two entries are of one peer, also if there are no entries; else `false`.
+    /// `marks` is memory to use for the numbers seen; what it held is lost. An error means that
+    /// memory allocation failed.
     pub(crate) fn have_distinct_stores(
         &self,
         entries: &[Entry],
@@ -157,7 +167,8 @@ impl<S> Stores<S> {
         Ok(true)
     }
 
-    /// Returns the store with this number, or `None` if there is none.
+    /// Returns the store with this index, which is the number of its peer, or `None` if there is
+    /// none.
     #[inline]
     pub(crate) fn at(&self, number: usize) -> Option<&S>
         ensures { option_copied result ≡ slice_get self.now.held.items number }
@@ -165,7 +176,8 @@ impl<S> Stores<S> {
         self.held.get(number)
     }
 
-    /// Returns the peer with this number and its store, or `None` if there is none.
+    /// Returns the peer with this number and its store, whose index the number is, or `None` if
+    /// there is none.
     pub(crate) fn peer_and_store_at(&self, number: usize) -> Option<(&Peer, &S)>
         ensures store { IfSome result (λ found.
             store_at (stores_in self.now) found.0.now ≡ Some found.1.now) }
@@ -178,7 +190,8 @@ impl<S> Stores<S> {
         Some((name.peer(), store))
     }
 
-    /// Returns the store of `peer`, or `None` if it has none. Tries the hint `number` first.
+    /// Returns the store with the routes of `peer`, or `None` if it has none. `number` is a hint of
+    /// the store's index, tried first; a wrong one takes only time.
     #[inline]
     pub(crate) fn get(&self, number: usize, peer: &Peer) -> Option<&S>
         ensures { option_copied result ≡ store_at (stores_in self.now) peer.now }
@@ -186,8 +199,9 @@ impl<S> Stores<S> {
         self.at(self.find_number_by_hint(number, peer)?)
     }
 
-    /// Returns a mutable reference to the store of `peer`, or `None` if it has none. Tries the hint
-    /// `number` first, and sets it to the peer's number.
+    /// Returns a mutable reference to the store with the routes of `peer`, or `None` if it has
+    /// none. `number` is a hint of the store's index, tried first; it is set to the index if there
+    /// is a store, and unchanged otherwise.
     #[inline]
     pub(crate) fn get_mut(&mut self, number: &mut usize, peer: &Peer) -> Option<&mut S>
         ensures* writes_back { sem 𝓛 (lends_store S.row self.entry peer.now result) }
@@ -200,8 +214,9 @@ impl<S> Stores<S> {
         self.held.get_mut(found)
     }
 
-    /// Records whether the store with this number has a route. The number must be that of a store.
-    /// Allocates no memory.
+    /// Records in the set of the stores that have a route whether the one with index `number` has
+    /// one, as `has` says. A caller that changes whether it has one has to call this. `number` is
+    /// required to be the index of a store. Allocates no memory.
     #[inline]
     pub(crate) fn set_routed(&mut self, number: usize, has: bool)
         requires { number < length self.old.held.items }
@@ -213,9 +228,10 @@ impl<S> Stores<S> {
         self.routed.set_member(number, has);
     }
 
-    /// Records whether the store with this number has a route, given the number `count` of its
-    /// routes now. If `count` is two or more, it must be on record already that the store has one.
-    /// Allocates no memory.
+    /// Records in the set of the stores that have a route whether the one with index `number` has
+    /// one, after at most one route was set or cleared; `count` is the number of its routes now.
+    /// Does nothing if `count` is two or more, since the store is required to be recorded as having
+    /// one already then. `number` is required to be the index of a store. Allocates no memory.
     #[inline]
     pub(crate) fn update_routed(&mut self, number: usize, count: u64)
         requires within { number < length self.old.held.items }
@@ -231,8 +247,8 @@ impl<S> Stores<S> {
         self.set_routed(number, count > 0);
     }
 
-    /// Shrinks the lists of stores, of peers and of numbers if they have far more capacity than
-    /// elements (`spare_capacity.rt`).
+    /// Shrinks the lists of stores, of peers and of numbers if their capacity is far more than
+    /// their length (`spare_capacity.rt`). Stores and numbers stay.
     pub(crate) fn shrink_if_sparse(&mut self)
         ensures stores { stores_in self.new ≡ stores_in self.old }
         ensures routed { routed_in self.new ≡ routed_in self.old }
@@ -247,9 +263,9 @@ impl<S: Drop> Stores<S> {
     ghost use Rattle.rib_player.specs.StoresByPeer.{stores_in};
     ghost use Rattle.rib_player.specs.Noted.{routed_in};
 
-    /// Adds `store` for `peer`, which must have none, under the next number, and records that it
-    /// has no route. On an error, which means that memory allocation failed, nothing is added, and
-    /// `store` is dropped.
+    /// Adds `store`, which has no route yet, for `peer`, which is required to have no store. It
+    /// gets the next number, the number of stores before. On an error, which means that memory
+    /// allocation failed, nothing is added, and `store` is dropped.
     pub(crate) fn insert(&mut self, peer: Peer, store: S) -> Result<(), AllocError>
         requires { store_at (stores_in self.old) peer ≡ None }
         ensures added { OnOk result
@@ -275,8 +291,8 @@ impl<S: Drop> Stores<S> {
         Ok(())
     }
 
-    /// Removes and drops the store of `peer`, if it has one. The last store gets the number of the
-    /// removed one, as in [`Vec::swap_remove`]. Allocates no memory.
+    /// Removes and drops the store of `peer`; does nothing if it has none. The last store gets the
+    /// number (index) of the removed one, as in [`Vec::swap_remove`]. Allocates no memory.
     pub(crate) fn remove(&mut self, peer: &Peer)
         ensures stores { IsUpdatedAt (stores_in self.old) (stores_in self.new) peer.now None }
         ensures routed { IsUpdatedAt (routed_in self.old) (routed_in self.new) peer.now None }
@@ -295,7 +311,8 @@ impl<S: Drop> Stores<S> {
     }
 }
 
-/// Sets the number of `peer` in `order`, where it must be, to `number`.
+/// Sets the number that `order` has for `peer` to `number`. `peer` is required to be in `order`,
+/// the map from peers to the indices of their stores.
 fn renumber(order: &mut BTreeMap<Peer, usize>, peer: &Peer, number: usize)
     requires { IsSome (lookup (eq_by_cmp peer_cmp peer.now) order.old.entries) }
     ensures { IsUpdatedAt order.old.entries order.new.entries peer.now (Some number) }
@@ -305,8 +322,9 @@ fn renumber(order: &mut BTreeMap<Peer, usize>, peer: &Peer, number: usize)
     }
 }
 
-/// Sets the slot for `peer` in `places` to `number`, or to `u32::MAX` if `number` is greater. Does
-/// nothing if `places` is empty.
+/// Sets the element of `places` for `peer` (at [`slot_of`]) to `number`, or to `u32::MAX` if
+/// `number` is greater, and replaces what another peer had there. Does nothing if `places` is
+/// empty.
 fn set_slot(places: &mut Vec<u32>, peer: &Peer, number: usize)
     requires { vec_len places.old ≤ PLACES }
     ensures { vec_len places.new ≤ PLACES }

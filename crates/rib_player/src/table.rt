@@ -28,17 +28,19 @@ use std::marker::Model;
 use std::ops::Bound;
 use std::rc::Rc;
 
-/// The smallest number of peers with a key for which [`Table::few_peers`] returns a list. With
-/// one peer less it returns `None`.
+/// The smallest number of peers with a key (a prefix with memory for a route) for which
+/// [`Table::few_peers`] returns a list. With one peer less it returns `None`.
 const LEAST_PEERS: usize = 64;
 
-/// The smallest ratio of the peers with a key to those with a route for which
-/// [`Table::few_peers`] returns a list. If one more peer has a route, it returns `None`.
+/// The smallest ratio of the peers with a key (a prefix with memory for a route) to those with a
+/// route for which [`Table::few_peers`] returns a list. If one more peer has a route, it returns
+/// `None`.
 const FEW_OF: usize = 4;
 
-/// A routing table for each peer: at most one route for each pair of a peer and a prefix. Some
-/// pairs are keys, which have memory for a route; a pair with a route is one. Each peer that has a
-/// key has a store of its own.
+/// A routing table for each peer: at most one route for each pair of a peer and a prefix. A pair is
+/// a key if the table has memory for its route: each pair with a route is one, and so are pairs
+/// without a route that undo or redo may give one. The prefixes and routes of each peer that has a
+/// key are in a store of its own, of type `S`.
 #[derive(Drop)]
 pub struct Table<S: PrefixStore<Rc<Route>>> {
     alloc: Global,
@@ -68,7 +70,7 @@ impl<S: PrefixStore<Rc<Route>>> Model for Table<S> {
 }
 
 impl<S: PrefixStore<Rc<Route>>> Table<S> {
-    /// Returns a table without keys and routes, without allocating memory.
+    /// Returns a table without keys and routes, without allocating.
     pub(crate) fn new(alloc: Global) -> Self
         ensures { result ≡ record { keys = set.empty; routes = finite.empty } }
     {
@@ -79,23 +81,26 @@ impl<S: PrefixStore<Rc<Route>>> Table<S> {
         }
     }
 
-    /// Adds `visited` to the number of nodes visited by prefetches.
+    /// Adds `visited`, a number of nodes that a prefetch visited, to a count that nobody reads, so
+    /// that a compiler can't remove the prefetch. Keys and routes stay.
     pub(crate) fn add_prefetched_nodes(&mut self, visited: u64)
         ensures { self.new ≡ self.old }
     {
         self.visited = self.visited.wrapping_add(visited);
     }
 
-    /// Shrinks the lists of stores if they have far more capacity than stores
-    /// (`spare_capacity.rt`).
+    /// Shrinks the lists of stores and peers if their capacity is far more than their length
+    /// (`spare_capacity.rt`). Keys and routes stay.
     pub(crate) fn shrink_if_sparse(&mut self)
         ensures { self.new ≡ self.old }
     {
         self.stores.shrink_if_sparse();
     }
 
-    /// Swaps the table's route of `pair` and `route`, either of which may be none. The pair must be
-    /// a key. `number` is a hint of the number of the peer's store ([`NO_NUMBER`] for none).
+    /// Swaps the table's route of `pair`, a peer and a prefix, with `route`; either may be `None`.
+    /// The pair is required to be a key (to have memory for a route), so that no memory is
+    /// allocated. `number` is a hint of the index of the peer's store, or [`NO_NUMBER`]; a wrong
+    /// one takes only time.
     pub(crate) fn exchange(&mut self, pair: &Pair, number: usize, route: &mut Option<Rc<Route>>)
         requires { set.contains self.old.keys pair.now ≡ true }
         ensures keys { self.new.keys ≡ self.old.keys }
@@ -111,9 +116,11 @@ impl<S: PrefixStore<Rc<Route>>> Table<S> {
         self.stores.update_routed(number, count);
     }
 
-    /// Makes `pair` a key, swaps the table's route of it and `route`, either of which may be none,
-    /// and returns `true` if the key is new. `number` is a hint of the number of the peer's store.
-    /// On an error, which means that memory allocation failed, table and `route` are unchanged.
+    /// Swaps the table's route of `pair`, a peer and a prefix, with `route`, either of which may be
+    /// `None`, and makes the pair a key, which has memory for a route. Returns `true` if it wasn't
+    /// a key before, `false` if it was. `number` is a hint of the index of the peer's store, or
+    /// [`NO_NUMBER`]; a wrong one takes only time. On an error, which means that memory allocation
+    /// failed, table and `route` are unchanged.
     pub(crate) fn put(
         &mut self,
         pair: &Pair,
@@ -144,8 +151,9 @@ impl<S: PrefixStore<Rc<Route>>> Table<S> {
         Ok(true)
     }
 
-    /// Removes the key `pair`, which must have no route. With the last key of a peer, drops its
-    /// store.
+    /// Frees the memory for a route of `pair`, a peer and a prefix, so that it is no key any more.
+    /// It is required to be a key, and to have no route. With the last key of a peer, drops the
+    /// peer's store.
     pub(crate) fn discard(&mut self, pair: &Pair)
         requires key { set.contains self.old.keys pair.now ≡ true }
         requires free { finite.get self.old.routes pair.now ≡ None }
@@ -163,7 +171,8 @@ impl<S: PrefixStore<Rc<Route>>> Table<S> {
     }
 
     /// Moves all routes of the peer into `taken`, in the order of their prefixes, in place of its
-    /// elements. The keys stay. `taken` must have capacity for all of them.
+    /// elements; empties it if there are none. The keys stay: the prefixes keep memory for a route.
+    /// `taken` is required to have capacity for all of the routes.
     pub(crate) fn drain_routes(&mut self, peer: &Peer, taken: &mut Vec<Rc<Route>>)
         requires { finite.len (peer_routes self.old.routes peer.now) ≤ vec_capacity taken.old }
         ensures keys { self.new.keys ≡ self.old.keys }
@@ -181,7 +190,8 @@ impl<S: PrefixStore<Rc<Route>>> Table<S> {
         self.stores.set_routed(number, false);
     }
 
-    /// Returns the route of the peer to exactly this prefix, or `None` if it has none.
+    /// Returns the route of the peer to exactly this prefix, or `None` if it has none. Routes to
+    /// shorter prefixes that contain it aren't looked at; for those, see [`Table::longest`].
     pub fn get(&self, peer: &Peer, prefix: &Prefix) -> Option<&Rc<Route>>
         ensures { option_map (λ route. route.now.value) result ≡
             finite.get self.now.routes (pair_of peer.now prefix.now) }
@@ -190,7 +200,7 @@ impl<S: PrefixStore<Rc<Route>>> Table<S> {
     }
 
     /// Returns the route of the peer to exactly this prefix, or `None` if it has none. `number` is
-    /// a hint of the number of the peer's store.
+    /// a hint of the index of the peer's store, or [`NO_NUMBER`]; a wrong one takes only time.
     #[inline]
     pub(crate) fn find_route(
         &self,
@@ -215,7 +225,9 @@ impl<S: PrefixStore<Rc<Route>>> Table<S> {
     }
 
     /// Returns the peer's route to the least prefix that is greater than `prefix`, or to the least
-    /// prefix if `prefix` is `None`, with that prefix. Returns `None` if there is no such route.
+    /// of all if `prefix` is `None`, with that prefix. Returns `None` if there is no such route.
+    /// `prefix` needn't have a route itself. A walk over all routes of the peer gives each call the
+    /// prefix that the call before returned.
     pub fn after(&self, peer: &Peer, prefix: Option<&Prefix>) -> Option<(Prefix, &Rc<Route>)>
         ensures { option_map (λ found. (found.0, found.1.now.value)) result ≡
             slice_get (routes_above self.now.routes peer.now (option_copied prefix.entry)) 0 }
@@ -223,9 +235,11 @@ impl<S: PrefixStore<Rc<Route>>> Table<S> {
         self.store(peer)?.after(prefix)
     }
 
-    /// Replaces the elements of `found` by the next routes that [`Table::after`] would return for
-    /// the peer, with their prefixes and in their order, up to the capacity of `found`, which
-    /// stays. Allocates no memory.
+    /// Replaces the elements of `found` by the peer's routes to the least prefixes that are greater
+    /// than `prefix`, or to the least of all if it is `None`, each with its prefix, in ascending
+    /// order. Fills `found` up to its capacity, which stays and should be above 0; leaves it empty
+    /// if there is no such route. A walk over all routes needs fewer calls than by
+    /// [`Table::after`]. Allocates no memory.
     pub fn next_routes<'a>(
         &'a self,
         peer: &Peer,
@@ -242,9 +256,10 @@ impl<S: PrefixStore<Rc<Route>>> Table<S> {
         }
     }
 
-    /// Returns the least peer that is greater than `peer`, or the least of all if `peer` is `None`,
-    /// among the peers that have a route, and the number of its routes (`u64::MAX` if that is
-    /// larger). Returns `None` if there is no such peer.
+    /// Returns the least peer that has a route and is greater than `peer`, or the least that has
+    /// one if `peer` is `None`, and the number of its routes (`u64::MAX` if that is larger).
+    /// Returns `None` if there is no such peer. A walk over all peers gives each call the peer that
+    /// the call before returned.
     pub fn peer_after(&self, peer: Option<&Peer>) -> Option<(Peer, u64)>
         ensures { result ≡
             option_map (λ p. (p, saturated_count (finite.len (peer_routes self.now.routes p))))
@@ -266,10 +281,11 @@ impl<S: PrefixStore<Rc<Route>>> Table<S> {
         None
     }
 
-    /// Returns the peers that have a route, in order, each with the number of its routes
-    /// (`u64::MAX` if it is larger). Returns `Ok(None)` if fewer than 64 peers have a key, or more
-    /// than a quarter of them have a route; a walk by [`Table::peer_after`] then passes over few
-    /// others. An error means that memory allocation for the list failed.
+    /// Returns the peers that have a route, in ascending order, each with the number of its routes
+    /// (`u64::MAX` if that is larger), if they are few of those with a key (a prefix with memory
+    /// for a route). Returns `Ok(None)` if fewer than 64 peers have a key, or more than a quarter
+    /// of them have a route: a walk by [`Table::peer_after`] then passes over few others, and needs
+    /// no memory. An error means that memory allocation for the list failed.
     pub fn few_peers(&self) -> Result<Option<BTreeMap<Peer, u64>>, AllocError>
         ensures { IfOk result (λ few. IfSome few (λ peers.
             peers.entries ≡ counted_peers self.now.routes)) }
@@ -291,7 +307,9 @@ impl<S: PrefixStore<Rc<Route>>> Table<S> {
         Ok(Some(found))
     }
 
-    /// Returns the store of the peer, or `None` if the peer has no key.
+    /// Returns the store with the peer's prefixes and routes, for look-ups in it, or `None` if the
+    /// peer has no key: no route, and no prefix with memory for one. A store that is returned may
+    /// have no route.
     #[inline]
     pub fn store(&self, peer: &Peer) -> Option<&S>
         ensures keys { IfSome result (λ store. (n : Network) →
@@ -308,8 +326,9 @@ impl<S: PrefixStore<Rc<Route>>> Table<S> {
         self.find_store(NO_NUMBER, peer)
     }
 
-    /// Returns the store of the peer, or `None` if the peer has no key. `number` is a hint of its
-    /// number.
+    /// Returns the store with the peer's prefixes and routes, or `None` if the peer has no key: no
+    /// route, and no prefix with memory for one. `number` is a hint of the index of its store, or
+    /// [`NO_NUMBER`]; a wrong one takes only time.
     #[inline]
     fn find_store(&self, number: usize, peer: &Peer) -> Option<&S>
         ensures keys { IfSome result (λ store. (n : Network) →

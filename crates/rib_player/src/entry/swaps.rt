@@ -1,5 +1,5 @@
-//! Swaps of the route of an entry and the route of its pair in the table, by which steps are
-//! applied, undone and redone. `journal.rt` and `claims.rt` call them.
+//! Swaps of the route of an entry with the table's route of the entry's peer and prefix, by which
+//! steps (played events) are applied, undone and redone. `journal.rt` and `claims.rt` call them.
 
 ghost use Rattle.std.specs.Prelude.{◌≡◌, [], ◌∷◌, true, not, is_some, IfOk, OnOk, OnErr};
 ghost use Rattle.std.specs.FinMap as finite;
@@ -18,7 +18,7 @@ use std::mem::replace;
 use std::rc::Rc;
 
 impl Entry {
-    /// Returns `true` if the table has a route of the entry's pair.
+    /// Returns `true` if `table` has a route for the entry's peer and prefix.
     #[inline]
     pub(crate) fn pair_has_route_in<S: PrefixStore<Rc<Route>>>(&self, table: &Table<S>) -> bool
         ensures { result ≡ is_some (finite.get table.now.routes self.now.pair) }
@@ -29,8 +29,11 @@ impl Entry {
             .is_some()
     }
 
-    /// Swaps the route of the entry and the table's route of its pair, either of which may be none.
-    /// The pair must be a key. Doing so twice changes nothing.
+    /// Swaps the route that the entry keeps with the table's route of the entry's peer and prefix;
+    /// either may be absent, so that the other is moved. This undoes what the entry's step (a
+    /// played event) did there if it is applied, and redoes it if it is undone; doing it twice
+    /// changes nothing. Peer and prefix are required to be a key of the table (to have memory for a
+    /// route), so that no memory is allocated.
     #[inline(always)]
     pub(crate) fn exchange<S: PrefixStore<Rc<Route>>>(&mut self, table: &mut Table<S>)
         requires { set.contains table.old.keys self.old.pair ≡ true }
@@ -49,8 +52,9 @@ impl Entry {
         self.kept = absent.with_route(other);
     }
 
-    /// Makes the entry that of an applied step that clears the pair: `route` is the one before the
-    /// step. The table isn't changed; the caller took `route` from it.
+    /// Marks the entry as applied by a step that clears the route of its peer and prefix: the entry
+    /// keeps `route`, the one before the step, for undo. Doesn't change the table, from which the
+    /// caller took `route` before.
     #[inline]
     pub(crate) fn set_cleared(&mut self, route: Rc<Route>)
         ensures { self.new ≡ cleared_entry self.old route }
@@ -63,10 +67,11 @@ impl Entry {
         });
     }
 
-    /// Applies the entry of a new step: makes its pair a key, swaps the routes of entry and table,
-    /// and sets whether the pair has a route before and after the step. Returns `true` if the key
-    /// is new. On an error, which means that memory allocation failed, entry and table are
-    /// unchanged.
+    /// Applies the entry, of a new step (played event): makes its peer and prefix a key of the
+    /// table (which has memory for a route), swaps the entry's route with the table's, and sets
+    /// whether there is a route before and after the step. Returns `true` if the pair of peer and
+    /// prefix wasn't a key before, `false` if it was. On an error, which means that memory
+    /// allocation failed, entry and table are unchanged.
     #[inline]
     pub(crate) fn put<S: PrefixStore<Rc<Route>>>(
         &mut self,
