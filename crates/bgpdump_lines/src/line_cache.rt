@@ -80,7 +80,8 @@ struct CachedLine {
 
 impl CachedLine {
     /// Returns a cached line with the octets `ends`, which are around its prefix. Requires that these
-    /// were printed for `peer` and `route`. Keeps at most 512 of them. Fails if memory allocation fails.
+    /// were printed for `peer` and `route`, and are at most 512 ([`LONGEST_LINE`]). Fails if memory
+    /// allocation fails.
     fn of(
         alloc: Global,
         peer: &Peer,
@@ -103,8 +104,9 @@ impl CachedLine {
     }
 
     /// Replaces this line by one with the octets `ends`, which are around its prefix. Requires that these
-    /// were printed for `peer` and `route`. Fails if memory allocation fails; the line is then marked
-    /// invalid, and [`find_line`](CachedLine::find_line) returns `None` for it from then on.
+    /// were printed for `peer` and `route`, and are at most 512 ([`LONGEST_LINE`]). Fails if memory
+    /// allocation fails; the line is then marked invalid, and [`find_line`](CachedLine::find_line)
+    /// returns `None` for it from then on.
     fn replace(
         &mut self,
         peer: &Peer,

@@ -111,9 +111,9 @@ pub(crate) fn repeat_with_prefix(
 
 /// Appends the last line of `text` once more, with `peer` and the attributes of `route` in place of its
 /// own; the first three fields and the prefix are copied. Requires that `last` has the offsets of that
-/// line's fields in `text`, and that `route` has the time that it prints. Returns the offsets of the new
-/// line's fields. Fails if memory allocation fails; `text` then ends with an unspecified part of the
-/// line.
+/// line's fields in `text`; `route` is one whose time that line shows, as the time isn't changed. Returns
+/// the offsets of the new line's fields. Fails if memory allocation fails; `text` then ends with an
+/// unspecified part of the line.
 #[inline(always)]
 fn repeat_with_route(
     last: FieldOffsets,

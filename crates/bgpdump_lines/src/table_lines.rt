@@ -21,9 +21,10 @@ use std::rc::Rc;
 
 /// Appends the line of the route of a table, inserts it into the cache `kept` of printed lines (unless
 /// that doesn't take it), and returns its description for the next call. Requires that `route` equals
-/// `announcement.route`. `last`, if given, describes the last line of `text`; it requires that this line
-/// prints a route under `heading`. What both lines have in common is copied from it. Fails if memory
-/// allocation fails; `text` then ends with an unspecified part of the line.
+/// `announcement.route`, and that `heading` is that of a table. `last`, if given, describes the last line
+/// of `text`; it requires that this line prints a route under `heading`. What both lines have in common
+/// is copied from it. Fails if memory allocation fails; `text` then ends with an unspecified part of the
+/// line.
 #[inline(always)]
 fn put_and_cache<'a>(
     heading: &Heading,
@@ -52,10 +53,10 @@ fn put_and_cache<'a>(
 
 /// Appends the line of the route of a table, and returns its description for the next call. If the cache
 /// `kept` of printed lines has one of this peer and an equal route, all but the prefix is copied from
-/// that; otherwise the line is inserted there. Requires that `route` equals `announcement.route`. `last`,
-/// if given, describes the last line of `text`; it requires that this line prints a route under
-/// `heading`. What both lines have in common is copied from it. Fails if memory allocation fails; `text`
-/// then ends with an unspecified part of the line.
+/// that; otherwise the line is inserted there. Requires that `route` equals `announcement.route`, and
+/// that `heading` is that of a table. `last`, if given, describes the last line of `text`; it requires
+/// that this line prints a route under `heading`. What both lines have in common is copied from it. Fails
+/// if memory allocation fails; `text` then ends with an unspecified part of the line.
 #[inline(always)]
 fn put_entry_line<'a>(
     heading: &Heading,
@@ -82,12 +83,13 @@ fn put_entry_line<'a>(
     put_and_cache(heading, announcement, route, last, kept, text)
 }
 
-/// Appends the line of `item`, which is a route of a table (or a withdrawal or state change). Returns the
-/// description of the new line for the next call if it is a route's, or else `None`. A route's line is
-/// copied from the cache `kept` of printed lines, but for its prefix, if that has it, or else inserted
-/// there. `last`, if given, describes the last line of `text`; it requires that this line prints a route
-/// under `heading`. What both lines have in common is copied from it. Fails if memory allocation fails;
-/// `text` then ends with an unspecified part of the line.
+/// Appends the line of `item`, which is a route of a table (or a withdrawal or state change). Requires
+/// that `heading` is that of a table. Returns the description of the new line for the next call if it is
+/// a route's, or else `None`. A route's line is copied from the cache `kept` of printed lines, but for
+/// its prefix, if that has it, or else inserted there. `last`, if given, describes the last line of
+/// `text`; it requires that this line prints a route under `heading`. What both lines have in common is
+/// copied from it. Fails if memory allocation fails; `text` then ends with an unspecified part of the
+/// line.
 #[inline(always)]
 pub(crate) fn put_table_item_line<'a>(
     heading: &Heading,

@@ -247,9 +247,9 @@ fn write_event_lines<O: Output>(
 /// Appends a line for each of `items`, which are from a TABLE_DUMP_V2 record, to `text`, which holds
 /// lines that are still to be written to `out`. Whenever `text` is long, it is written to `out` and
 /// cleared before the next line; the last lines are left in `text`. Lines are copied from the cache
-/// `kept` of printed lines if it has them, and inserted there if not. Fails if memory allocation or `out`
-/// fails; some of the first lines may have been written to `out` then, and `text` holds unspecified
-/// octets.
+/// `kept` of printed lines if it has them, and inserted there if not. Requires that `heading` is that of
+/// a table. Fails if memory allocation or `out` fails; some of the first lines may have been written to
+/// `out` then, and `text` holds unspecified octets.
 #[inline(never)]
 fn write_table_items<O: Output>(
     out: &mut O,
