@@ -1,5 +1,5 @@
-//! The commands of a script, and their parser. `play.rt` calls [`read_command`] for each line of
-//! a script that isn't empty; read that first.
+//! The commands of a script, and their parser. `play.rt` calls [`read_command`] for each line of a
+//! script that isn't empty; read that first.
 
 ghost use Rattle.std.specs.Prelude.{◌∷◌, []};
 ghost use Rattle.bgp_wire.specs.Readers.{ParsesTo};
@@ -21,8 +21,8 @@ pub enum Command {
     Back(u32),
     /// `goto`: moves the player to this position, the number of steps before its cursor.
     Goto(u32),
-    /// `where`: prints the position of the player, and the number of steps ahead of it, which
-    /// were undone and redo would apply again.
+    /// `where`: prints the position of the player, and the number of steps ahead of it, which were
+    /// undone and redo would apply again.
     Position,
     /// `peers`: prints the peers that have routes, and the number of routes of each.
     Peers,
@@ -30,8 +30,7 @@ pub enum Command {
     Table(Peer),
     /// `route`: prints the route of this peer to this prefix.
     Route(Peer, Prefix),
-    /// `lookup`: prints the route of this peer whose prefix is the longest match for this
-    /// address.
+    /// `lookup`: prints the route of this peer whose prefix is the longest match for this address.
     Lookup(Peer, Addr),
     /// `lose`: plays the loss of the session with this peer as a step of its own.
     Lose(Peer),
@@ -39,9 +38,9 @@ pub enum Command {
     Forget(u32),
 }
 
-/// Parses a line of a script, without its line feed, such as `lookup 192.0.2.1 65000
-/// 198.51.100.7`. Returns `None` if the line is no command: an empty line, an unknown name, or a
-/// wrong number of words, numbers out of range, or more than one space between words.
+/// Parses a line of a script, without its line feed, such as `lookup 192.0.2.1 65000 198.51.100.7`.
+/// Returns `None` if the line is no command: an empty line, an unknown name, or a wrong number of
+/// words, numbers out of range, or more than one space between words.
 pub fn read_command(line: &[u8]) -> Option<Command>
     ensures { ParsesTo SpellsCommand line.now result }
 {
@@ -124,8 +123,8 @@ fn parse_with_two_arguments(name: &[u8], address: &[u8], number: &[u8]) -> Optio
 }
 
 /// Parses a command of a name and the address and the AS number of a peer, and a word `sought`:
-/// `route` with a prefix, or `lookup` with an address. Returns `None` for any other name, or if
-/// an argument is malformed.
+/// `route` with a prefix, or `lookup` with an address. Returns `None` for any other name, or if an
+/// argument is malformed.
 fn parse_with_three_arguments(
     name: &[u8],
     address: &[u8],

@@ -1,6 +1,6 @@
-//! Theorems about the definitions to which the contracts of this crate refer. The functions have
-//! no code and nothing calls them: what they state is proved as the crate is checked.
-//! `docs/proved.md` names them.
+//! Theorems about the definitions to which the contracts of this crate refer. The functions have no
+//! code and nothing calls them: what they state is proved as the crate is checked. `docs/proved.md`
+//! names them.
 
 ghost use Rattle.std.specs.Prelude.{◌≡◌, ℕ, ◌^◌, List, [], ◌∷◌};
 ghost use Rattle.bgpdump_tool.specs.declared.play.TheConstants.{LONGEST_SCRIPT};
@@ -37,9 +37,9 @@ pub fn law_one_script()
     ensures some { (script : List ℕ) → ((lines : List Line) → IsScript lines script → ⊥) → ⊥ }
 {}
 
-/// States that the route with which the definition of `lookup`'s reply answers is the one with
-/// the longest prefix that contains the address. So the reply agrees with `Table::longest`, as
-/// only one answer does (`law_routes_of_peers`, `law_one_longest`).
+/// States that the route with which the definition of `lookup`'s reply answers is the one with the
+/// longest prefix that contains the address. So the reply agrees with `Table::longest`, as only one
+/// answer does (`law_routes_of_peers`, `law_one_longest`).
 pub fn law_best_match()
     ensures { (routes : Routes) (peer : Peer) (address : Address) →
         IsBest routes peer address (longest_match routes peer address) }

@@ -1,5 +1,5 @@
-//! Scripts that play MRT files (RFC 6396) forwards and backwards: their commands, and how they
-//! are executed. The program calls [`run_play`] for `--play`; read `play.rt` first, then
+//! Scripts that play MRT files (RFC 6396) forwards and backwards: their commands, and how they are
+//! executed. The program calls [`run_play`] for `--play`; read `play.rt` first, then
 //! `execution.rt`. What else the program needs is re-exported from `bgpdump_command_line` and
 //! `bgpdump_lines`.
 #![tactic(auto)]

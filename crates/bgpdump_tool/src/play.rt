@@ -23,16 +23,16 @@ use prefix_store::PrefixStore;
 use std::alloc::Global;
 use std::rc::Rc;
 
-/// The greatest size of a script that is executed, in octets: 2^20. A longer one ends as
-/// [`Outcome::ScriptTooLong`].
+/// The greatest size of a script that is executed, in octets: 2^20. With more octets the program
+/// ends as [`Outcome::ScriptTooLong`].
 pub const LONGEST_SCRIPT: usize = 1 << 20;
 
-/// Executes `script` over `input`, MRT records (RFC 6396), with a new player whose routes are
-/// kept in stores of type `S`. Replies go to `out`, reports of faulty records and bad lines to
-/// `err`, each before the next record or line is read, and both are flushed before a read that
-/// may wait. Records that no command wants aren't read. `stamp` selects which time the routes of
-/// tables get: that of the dump, or that of their last change. Requires that no device has failed
-/// before. If nothing fails, finishes `out` and then `err`.
+/// Executes `script` over `input`, MRT records (RFC 6396), with a new player whose routes are kept
+/// in stores of type `S`. Replies go to `out`, reports of faulty records and bad lines to `err`,
+/// each before the next record or line is read, and both are flushed before a read that may wait.
+/// Records that no command wants aren't read. `stamp` selects which time the routes of tables get:
+/// that of the dump, or that of their last change. Requires that no device has failed before. If
+/// nothing fails, finishes `out` and then `err`.
 ///
 /// A script of more than 1,048,576 octets isn't executed: the outcome is `ScriptTooLong`.
 pub fn run_play<S: PrefixStore<Rc<Route>>, I: Input, O: Output, E: Output>(
@@ -117,10 +117,10 @@ pub fn run_play<S: PrefixStore<Rc<Route>>, I: Input, O: Output, E: Output>(
     }
 }
 
-/// Executes the lines of `script` in order, numbered from 1. A line may be empty, or be no
-/// command (which is reported to `err`). Requires that the session is new, and that the script
-/// has at most [`LONGEST_SCRIPT`] octets. Fails with the [`Outcome`] of the first line that ends
-/// the program; the next lines aren't executed then.
+/// Executes the lines of `script` in order, numbered from 1. A line may be empty, or be no command
+/// (which is reported to `err`). Requires that the session is new, and that the script has at most
+/// [`LONGEST_SCRIPT`] octets. Fails with the [`Outcome`] of the first line that ends the program;
+/// the next lines aren't executed then.
 fn execute_lines<S: PrefixStore<Rc<Route>>, I: Input, O: Output, E: Output>(
     session: &mut Session<S>,
     input: &mut I,
@@ -152,9 +152,10 @@ fn execute_lines<S: PrefixStore<Rc<Route>>, I: Input, O: Output, E: Output>(
 }
 
 /// Executes a line of a script: its command, or nothing if it is empty. A line that is no command
-/// is reported to `err`, such as `bgpdump: script line 3: bad command`, with its `number`,
-/// counted from 1. Requires that the player's position and the count of read records are so far
-/// below 2^64 that a script can't reach it. Fails with the [`Outcome`] that ends the program: a
+/// is reported to `err`, such as `bgpdump: script line 3: bad command`, with its `number`, counted
+/// from 1. Requires that the player has played at most 2^20 more events
+/// ([`LONGEST_SCRIPT`](crate::LONGEST_SCRIPT)) than the source has taken octets, and that these are
+/// at most 2^40, so that no count overflows. Fails with the [`Outcome`] that ends the program: a
 /// failed read or write, an input that is too long, or a lack of memory.
 fn execute_line<S: PrefixStore<Rc<Route>>, I: Input, O: Output, E: Output>(
     session: &mut Session<S>,

@@ -1,5 +1,5 @@
-//! The state of the execution of a script, and its steps forward. `play.rt` makes a [`Session`]
-//! for each script, and the commands of `execution.rt` act on it; read [`Session::step`] first.
+//! The state of the execution of a script, and its steps forward. `play.rt` makes a [`Session`] for
+//! each script, and the commands of `execution.rt` act on it; read [`Session::step`] first.
 
 ghost use Rattle.std.specs.Prelude.{◌≡◌, ◌<◌, ◌+◌, ◌||◌, ℕ, false, IfOk, OnOk, IsTrue, is_err};
 ghost use Rattle.std.specs.Io.KnownBytes.{Keeps};
@@ -40,8 +40,8 @@ pub(crate) struct Session<S: PrefixStore<Rc<Route>>> {
 
 impl<S: PrefixStore<Rc<Route>>> Session<S> {
     /// Returns the state before the first line of a script: nothing is played, read or reported.
-    /// `stamp` selects which time the routes of tables get: that of the dump, or that of their
-    /// last change.
+    /// `stamp` selects which time the routes of tables get: that of the dump, or that of their last
+    /// change.
     pub(crate) fn new(alloc: Global, stamp: Stamp) -> Self
         ensures player { result.player ≡ fresh }
         ensures source { result.source ≡ start_state stamp INPUT_LIMIT }
@@ -57,8 +57,8 @@ impl<S: PrefixStore<Rc<Route>>> Session<S> {
     }
 
     /// Drops the state after the last line of a script. Leaks it instead if the stores `S` leave
-    /// their memory to the system (`PrefixStore::leaks_on_drop`), as freeing them one by one
-    /// would take long.
+    /// their memory to the system (`PrefixStore::leaks_on_drop`), as freeing them one by one would
+    /// take long.
     pub(crate) fn end(self) {
         if S::leaks_on_drop() {
             mem::forget(self);
@@ -87,12 +87,13 @@ impl<S: PrefixStore<Rc<Route>>> Session<S> {
         Ok(())
     }
 
-    /// Moves the player one step forward: applies an undone event again, or else reads a record
-    /// and plays its event. A faulty record is reported to `err` and leaves the player as it was.
+    /// Moves the player one step forward: applies an undone event again, or else reads a record and
+    /// plays its event. A faulty record is reported to `err` and leaves the player as it was.
     /// Returns `true` if neither an undone event nor a record is left, and `false` otherwise.
-    /// Requires that the player's position and the count of read records are so far below 2^64
-    /// that a script can't reach it. Fails with the [`Outcome`] that ends the program: a failed
-    /// read or write, an input that is too long, or a lack of memory.
+    /// Requires that the player has played at most 2^20 more events
+    /// ([`LONGEST_SCRIPT`](crate::LONGEST_SCRIPT)) than the source has taken octets, and that these
+    /// are at most 2^40, so that no count overflows. Fails with the [`Outcome`] that ends the
+    /// program: a failed read or write, an input that is too long, or a lack of memory.
     pub(crate) fn step<I: Input, O: Output, E: Output>(
         &mut self,
         input: &mut I,

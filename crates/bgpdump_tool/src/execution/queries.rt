@@ -23,8 +23,8 @@ use std::rc::Rc;
 /// copied at once.
 const MANY: usize = 64;
 
-/// Executes `peers`: writes to `out` a line for each peer that has a route, with the number of
-/// its routes, such as `PEER|192.0.2.1|65000|12`, or `none` if there is no such peer. Overwrites
+/// Executes `peers`: writes to `out` a line for each peer that has a route, with the number of its
+/// routes, such as `PEER|192.0.2.1|65000|12`, or `none` if there is no such peer. Overwrites
 /// `text`, a buffer. Fails if memory allocation or `out` fails; some of the reply's first octets
 /// may have been written then.
 pub(crate) fn peers<S: PrefixStore<Rc<Route>>, O: Output>(
@@ -42,10 +42,9 @@ pub(crate) fn peers<S: PrefixStore<Rc<Route>>, O: Output>(
     }
 }
 
-/// Writes to `out` a line for each peer of `few`, which maps peers to their numbers of routes,
-/// such as `PEER|192.0.2.1|65000|12`, or `none` if `few` is empty. Overwrites `text`, a buffer.
-/// Fails if memory allocation or `out` fails; some of the reply's first octets may have been
-/// written then.
+/// Writes to `out` a line for each peer of `few`, which maps peers to their numbers of routes, such
+/// as `PEER|192.0.2.1|65000|12`, or `none` if `few` is empty. Overwrites `text`, a buffer. Fails if
+/// memory allocation or `out` fails; some of the reply's first octets may have been written then.
 fn few_peers<O: Output>(
     few: &BTreeMap<Peer, u64>,
     out: &mut O,
@@ -64,11 +63,10 @@ fn few_peers<O: Output>(
     Ok(())
 }
 
-/// Writes to `out` a line for each peer that has a route in `table`, with the number of its
-/// routes, such as `PEER|192.0.2.1|65000|12`, or `none` if there is no such peer. Looks the peers
-/// up one after another, so that it needs no memory for all of them. Overwrites `text`, a buffer.
-/// Fails if memory allocation or `out` fails; some of the reply's first octets may have been
-/// written then.
+/// Writes to `out` a line for each peer that has a route in `table`, with the number of its routes,
+/// such as `PEER|192.0.2.1|65000|12`, or `none` if there is no such peer. Looks the peers up one
+/// after another, so that it needs no memory for all of them. Overwrites `text`, a buffer. Fails if
+/// memory allocation or `out` fails; some of the reply's first octets may have been written then.
 fn write_each_peer<S: PrefixStore<Rc<Route>>, O: Output>(
     table: &Table<S>,
     out: &mut O,
@@ -113,8 +111,8 @@ fn write_peer_line<O: Output>(
 
 /// Executes `table`: writes all routes of `peer` to `out`, each on a line that begins with `RIB`,
 /// in the order of their prefixes, and then their number, such as `routes 12`. A peer without
-/// routes gets `routes 0`. Overwrites `text`, a buffer. Fails if memory allocation or `out`
-/// fails; some of the reply's first octets may have been written then.
+/// routes gets `routes 0`. Overwrites `text`, a buffer. Fails if memory allocation or `out` fails;
+/// some of the reply's first octets may have been written then.
 pub(crate) fn table<S: PrefixStore<Rc<Route>>, O: Output>(
     table: &Table<S>,
     alloc: Global,
@@ -141,9 +139,9 @@ pub(crate) fn table<S: PrefixStore<Rc<Route>>, O: Output>(
     write_labelled_numbers(&[(b"routes ", count)], b"\n", out, text)
 }
 
-/// Executes `route`: writes to `out` the line of the route of `peer` to `prefix`, which begins
-/// with `RIB`, or `none` if it has none. Overwrites `text`, a buffer. Fails if memory allocation
-/// or `out` fails; some of the reply's first octets may have been written then.
+/// Writes to `out` the route of `peer` to `prefix`, or `none` if it has none. Overwrites `text`.
+/// Executes the command `route`; the route's line begins with `RIB`. `text` is a buffer. Fails if
+/// memory allocation or `out` fails; some of the reply's first octets may have been written then.
 pub(crate) fn route<S: PrefixStore<Rc<Route>>, O: Output>(
     table: &Table<S>,
     peer: &Peer,
@@ -163,8 +161,8 @@ pub(crate) fn route<S: PrefixStore<Rc<Route>>, O: Output>(
 
 /// Executes `lookup`: writes to `out` the line of the route of `peer` whose prefix is the longest
 /// match for `addr`, which begins with `RIB`, or `none` if no prefix that `peer` has a route to
-/// contains `addr`. Overwrites `text`, a buffer. Fails if memory allocation or `out` fails; some
-/// of the reply's first octets may have been written then.
+/// contains `addr`. Overwrites `text`, a buffer. Fails if memory allocation or `out` fails; some of
+/// the reply's first octets may have been written then.
 pub(crate) fn lookup<S: PrefixStore<Rc<Route>>, O: Output>(
     table: &Table<S>,
     peer: &Peer,
