@@ -122,8 +122,9 @@ fn is_bad(line: &[u8]) -> bool {
     !line.is_empty() && read_command(line).is_none()
 }
 
-/// Returns why `line` is no command, by the first of its words that is wrong, missing or too many.
-/// Returns `None` if no such word is found, though `line` may be a command then.
+/// Returns why `line`, which isn't a command, is none: by the first of its words that is wrong, missing
+/// or too many. Returns `None` if no such word is found. (Of `next` alone, which is a command, it would
+/// say that a number is missing.)
 fn find_flaw(line: &[u8]) -> Option<LineFlaw<'_>> {
     if line.ends_with(b"\r") {
         return Some(LineFlaw::CarriageReturn);
@@ -249,7 +250,7 @@ impl fmt::Display for LineFlaw<'_> {
 }
 
 /// Writes to `f` why `word` isn't an argument of the kind `argument`, such as `192.0.2.0/24 is a prefix;
-/// an address is wanted`. Requires that `word` isn't one. Fails if `f` fails.
+/// an address is wanted`. The caller has found that it isn't one. Fails if `f` fails.
 fn write_wrong_word<W: fmt::Write>(
     f: &mut fmt::Formatter<W>,
     word: &[u8],
@@ -277,8 +278,8 @@ fn write_wrong_word<W: fmt::Write>(
     }
 }
 
-/// Writes to `f` why `word` isn't a number of the kind `argument`, such as `write 65000 for AS65000`.
-/// Requires that `word` isn't one. Fails if `f` fails.
+/// Writes to `f` why `word` isn't a number of the kind `argument`, such as `write 65000 for AS65000`. The
+/// caller has found that it isn't one. Fails if `f` fails.
 fn write_wrong_number<W: fmt::Write>(
     f: &mut fmt::Formatter<W>,
     word: &[u8],
