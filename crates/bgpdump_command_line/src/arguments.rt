@@ -16,8 +16,7 @@ pub(crate) const LINES: &str = "lines";
 /// The id by which `clap` knows the argument `--play SCRIPT`, which selects the play of a script.
 pub(crate) const SCRIPT: &str = "script";
 
-/// The id by which `clap` knows the argument `-t TIME`, which selects the time of a table's
-/// routes.
+/// The id by which `clap` knows the argument `-t TIME`, which selects the time of a table's routes.
 pub(crate) const TIMES: &str = "times";
 
 /// The id by which `clap` knows the argument `-O FILE`, which names the output.
@@ -36,8 +35,8 @@ pub(crate) const CHANGE: &str = "change";
 /// The accepted values of `-t`; `clap` refuses all others.
 const TIMES_ACCEPTED: &[&str] = &[DUMP, CHANGE];
 
-/// The first line of the help: the name of the program, its version, and what it does. The
-/// version is named here, and whatever else names it is compared with this line.
+/// The first line of the help: the name of the program, its version, and what it does. The version
+/// is named here, and whatever else names it is compared with this line.
 const ABOUT: &str = "\
 Rumpleja's bgpdump 1.0.0: reads what BGP routers write (MRT files, RFC 6396).";
 
@@ -76,8 +75,8 @@ fn script_argument<'a>(alloc: Global) -> Arg<'a>
         .help("Steps through INPUT as the commands in SCRIPT say")
 }
 
-/// Returns the argument `-t TIME`, whose value is `dump`, the default, or `change`: which time
-/// the routes of tables get.
+/// Returns the argument `-t TIME`, whose value is `dump`, the default, or `change`: which time the
+/// routes of tables get.
 fn times_argument<'a>(alloc: Global) -> Arg<'a>
     ensures rule { IsTimesRule (rule_of result) }
     ensures alone { ExcludesNone result }
@@ -102,8 +101,7 @@ fn output_argument<'a>(alloc: Global) -> Arg<'a>
         .help("Writes to FILE, made new or emptied")
 }
 
-/// Returns the argument `INPUT`, the MRT file or `-`. Without it, `clap` refuses the command
-/// line.
+/// Returns the argument `INPUT`, the MRT file or `-`. Without it, `clap` refuses the command line.
 fn input_argument<'a>(alloc: Global) -> Arg<'a>
     ensures rule { rule_of result ≡ input_rule }
     ensures alone { ExcludesNone result }

@@ -15,8 +15,8 @@ use std::alloc::Global;
 
 /// Parses the arguments of the command line, `words`, of which the first is the name of the
 /// program, into the settings of the program. Fails with the [`UsageFault`] to report: invalid
-/// arguments, a mode that isn't one, standard input as both script and input, a lack of memory,
-/// or, for a request of help, [`UsageFault::Help`] with its text.
+/// arguments, a mode that isn't one, standard input as both script and input, a lack of memory, or,
+/// for a request of help, [`UsageFault::Help`] with its text.
 pub fn settings(alloc: Global, words: Vec<String>) -> Result<Settings, UsageFault>
     ensures answers { Answers (map string_bytes words.items) result }
 {
@@ -67,8 +67,8 @@ fn settings_of(alloc: Global, matches: &ArgMatches<'_>) -> Result<Settings, Usag
 }
 
 /// Returns the mode that the parsed arguments `matches` select: lines for `-m`, or the play of a
-/// script for `--play`. Fails with `Mode` unless exactly one of them is there, or with `Memory`
-/// if memory allocation fails.
+/// script for `--play`. Fails with `Mode` unless exactly one of them is there, or with `Memory` if
+/// memory allocation fails.
 fn mode_of(alloc: Global, matches: &ArgMatches<'_>) -> Result<Mode, UsageFault>
     ensures { GivesMode (rows_of (found_of matches.now)) result }
 {
@@ -86,8 +86,8 @@ fn has_lines_flag(matches: &ArgMatches<'_>) -> bool
     matches.get_one::<bool>(LINES).unwrap_or(false)
 }
 
-/// Returns `true` if the script and the input are both named `-`, standard input, which can be
-/// read only once; `false` if at most one is.
+/// Returns `true` if the script and the input are both named `-`, standard input, which can be read
+/// only once; `false` if at most one is.
 fn reads_stdin_twice(matches: &ArgMatches<'_>) -> bool
     ensures { result ≡ reads_stdin_twice (rows_of (found_of matches.now)) }
 {
@@ -106,16 +106,16 @@ fn selected_stamp(matches: &ArgMatches<'_>) -> Stamp
     }
 }
 
-/// Returns `true` if the argument with the id `argument` has the value `value` in `matches`, and
-/// `false` if it has another one or none.
+/// Returns `true` if the argument with the id `argument` has the value `value` in the parsed
+/// arguments `matches`, and `false` if it has another one or none.
 fn has_value(matches: &ArgMatches<'_>, argument: &str, value: &str) -> bool
     ensures { result ≡ equals_text value.now (first_of argument.now (rows_of (found_of matches.now))) }
 {
     value_of(matches, argument) == Some(value)
 }
 
-/// Returns the value of the argument with the id `argument` in `matches`, or `None` if it has
-/// none.
+/// Returns the value of the argument with the id `argument` in the parsed arguments `matches`, or
+/// `None` if it has none.
 fn value_of<'a>(matches: &ArgMatches<'a>, argument: &str) -> Option<&'a str>
     ensures { option_map (λ text. text.now) result
         ≡ first_of argument.now (rows_of (found_of matches.now)) }

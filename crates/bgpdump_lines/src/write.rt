@@ -50,10 +50,10 @@ fn write_if_long<O: Output>(out: &mut O, text: &mut Text) -> Result<bool, WriteF
 }
 
 /// Appends a line for each of `items` (announcements, withdrawals, state changes) to `text`, which holds
-/// lines that are still to be written to `out`. Whenever `text` is long, it is written to `out` and
-/// cleared before the next line. `heading` gives the kind and the time of the items' record. Fails if
-/// memory allocation or `out` fails; some of the first lines may have been written to `out` then, and
-/// `text` holds unspecified octets.
+/// lines that are still to be written to `out`. Whenever it has more than [`LONG_TEXT`] octets, it is
+/// written to `out` and cleared before the next line. `heading` gives the kind and the time of the items'
+/// record. Fails if memory allocation or `out` fails; some of the first lines may have been written to
+/// `out` then, and `text` holds unspecified octets.
 #[inline(never)]
 fn write_nonempty_item_lines<O: Output>(
     out: &mut O,
@@ -76,11 +76,11 @@ fn write_nonempty_item_lines<O: Output>(
 }
 
 /// Appends a line for each of `items` (announcements, withdrawals, state changes) to `text`, or nothing
-/// if there are none. `text` holds lines that are still to be written to `out`: only when it is long, it
-/// is written there and cleared before the next line. So the last lines are left in `text` for the caller
-/// to write. `heading` gives the kind and the time of the items' record. Fails if memory allocation or
-/// `out` fails; some of the first lines may have been written to `out` then, and `text` holds unspecified
-/// octets.
+/// if there are none. `text` holds lines that are still to be written to `out`: only when it has more
+/// than [`LONG_TEXT`] octets is it written there and cleared before the next line, so that the last lines
+/// are left in `text` for the caller to write. `heading` gives the kind and the time of the items'
+/// record. Fails if memory allocation or `out` fails; some of the first lines may have been written to
+/// `out` then, and `text` holds unspecified octets.
 #[inline(always)]
 fn write_item_lines<O: Output>(
     out: &mut O,
@@ -100,10 +100,10 @@ fn write_item_lines<O: Output>(
 }
 
 /// Writes the octets of `text` from offset `end` on to `out` and truncates `text` to `end`, if they are
-/// more than [`LONG_TEXT`]. Requires that the first `end` octets are one line, a template for the next
-/// lines, whose fields are at the offsets `kept`, and that `last` has the offsets of the last line.
-/// Returns the offsets of the line that is the last one afterwards: `kept` if it wrote, or else `last`.
-/// Fails if `out` fails.
+/// more than [`LONG_TEXT`]. Requires that `end` isn't above the length of `text`, and that the octets
+/// before it are one line, a template for the next lines, with its fields at the offsets `kept`. `last`
+/// has the offsets of the last line. Returns the offsets of the line that is the last one afterwards:
+/// `kept` if it wrote, or else `last`. Fails if `out` fails.
 fn write_rest_if_long<O: Output>(
     out: &mut O,
     kept: FieldOffsets,
@@ -132,9 +132,10 @@ fn write_rest_if_long<O: Output>(
 
 /// Writes to `out` first `text`, the lines that are still to be written, and then a line for each of
 /// `items`, and leaves `text` empty. Requires that each item announces the peer and the route of `first`.
-/// The line of `first`, which isn't among `items` and isn't written, serves as a template for theirs.
-/// `heading` gives the kind and the time of their record. Fails if memory allocation or `out` fails; some
-/// of the first lines may have been written to `out` then, and `text` holds unspecified octets.
+/// The line of `first`, which the caller has already appended or written, isn't written again; it serves
+/// as a template for theirs. `heading` gives the kind and the time of their record. Fails if memory
+/// allocation or `out` fails; some of the first lines may have been written to `out` then, and `text`
+/// holds unspecified octets.
 #[cold]
 #[inline(never)]
 fn write_many_prefixes<O: Output>(
@@ -167,10 +168,10 @@ fn write_many_prefixes<O: Output>(
 
 /// Appends a line for each of `items` to `text`, which holds lines that are still to be written to `out`.
 /// Requires that each item announces the peer and the route of `first`, and that `offsets` are those of
-/// the fields of the last line of `text`, which prints them. If `text` gets long, it is written to `out`
-/// with all lines that follow, and cleared; or else the lines are left in `text`. Fails if memory
-/// allocation or `out` fails; some of the first lines may have been written to `out` then, and `text`
-/// holds unspecified octets.
+/// the fields of the last line of `text`, which prints them. If `text` gets more than [`LONG_TEXT`]
+/// octets, it is written to `out` with all lines that follow, and cleared; or else the lines are left in
+/// `text`. Fails if memory allocation or `out` fails; some of the first lines may have been written to
+/// `out` then, and `text` holds unspecified octets.
 #[inline(always)]
 fn write_other_prefixes<O: Output>(
     out: &mut O,
@@ -197,10 +198,10 @@ fn write_other_prefixes<O: Output>(
 }
 
 /// Appends a line for each of `items` to `text`, which holds lines that are still to be written to `out`.
-/// Requires that all items are announcements of one route of one peer. Whenever `text` is long, it is
-/// written to `out` and cleared before the next line; the last lines may be left in `text`. Fails if
-/// memory allocation or `out` fails; some of the first lines may have been written to `out` then, and
-/// `text` holds unspecified octets.
+/// Requires that all items are announcements of one route of one peer. Whenever it has more than
+/// [`LONG_TEXT`] octets, it is written to `out` and cleared before the next line; the last lines may be
+/// left in `text`. Fails if memory allocation or `out` fails; some of the first lines may have been
+/// written to `out` then, and `text` holds unspecified octets.
 #[inline(always)]
 fn write_shared_route<O: Output>(
     out: &mut O,
@@ -245,11 +246,11 @@ fn write_event_lines<O: Output>(
 }
 
 /// Appends a line for each of `items`, which are from a TABLE_DUMP_V2 record, to `text`, which holds
-/// lines that are still to be written to `out`. Whenever `text` is long, it is written to `out` and
-/// cleared before the next line; the last lines are left in `text`. Lines are copied from the cache
-/// `kept` of printed lines if it has them, and inserted there if not. Requires that `heading` is that of
-/// a table. Fails if memory allocation or `out` fails; some of the first lines may have been written to
-/// `out` then, and `text` holds unspecified octets.
+/// lines that are still to be written to `out`. Whenever it has more than [`LONG_TEXT`] octets, it is
+/// written to `out` and cleared before the next line; the last lines are left in `text`. Lines are copied
+/// from the cache `kept` of printed lines if it has them, and inserted there if not. Requires that
+/// `heading` is that of a table. Fails if memory allocation or `out` fails; some of the first lines may
+/// have been written to `out` then, and `text` holds unspecified octets.
 #[inline(never)]
 fn write_table_items<O: Output>(
     out: &mut O,
@@ -319,7 +320,8 @@ fn write_event<O: Output>(
     }
 }
 
-/// Writes a line for each of `routes`, the routes of the table of `peer`, to `out`, such as
+/// Writes a line for each of `routes`, pairs of a prefix and the route of `peer` to it, to `out`, in
+/// their order, such as
 /// `RIB|1700000000|B|192.0.2.1|65000|198.51.100.0/24|65000|IGP|192.0.2.1|0|0||NAG||`. Overwrites `text`,
 /// a buffer. Fails if memory allocation or `out` fails; some of the first lines may have been written to
 /// `out` then, and `text` holds unspecified octets.

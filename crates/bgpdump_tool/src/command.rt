@@ -14,8 +14,8 @@ use mrt_wire::Peer;
 /// between two steps.
 #[derive(Clone, Copy, Debug, PartialEq, Eq)]
 pub enum Command {
-    /// `next`: moves the player this many steps forward, at least 1. What the steps behind the
-    /// cursor don't give is read from the input.
+    /// `next`: moves the player this many steps forward, at least 1. Undone steps are applied again
+    /// first; further events are read from the input.
     Next(u32),
     /// `back`: moves the player this many steps back, at least 1.
     Back(u32),
