@@ -30,7 +30,7 @@ pub fn law_one_command()
 
 /// States that a text is a script in exactly one way:
 /// - two lists of lines that the same text spells are equal;
-/// - each text spells some list of lines (in the form that there can't be none).
+/// - each text spells some list of lines (stated as: it can't be that none does).
 pub fn law_one_script()
     ensures one { (a b : List Line) (script : List ℕ) → IsScript a script → IsScript b script →
         a ≡ b }
