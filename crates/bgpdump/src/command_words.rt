@@ -5,29 +5,33 @@ use bgpdump_tool::{Mode, STANDARD_INPUT, Settings};
 use mrt_wire::Stamp;
 use std::fmt;
 
-/// The word that is shown in place of a name with control characters, which can't be typed.
+/// The word that is shown in place of a file name with control characters, which can't be typed.
 const FILE: &str = "FILE";
 
-/// The ASCII characters, besides letters and digits, that a shell takes literally.
+/// The ASCII characters, besides letters and digits, that a shell takes literally, so that a word of them
+/// needs no quotes.
 const PLAIN_MARKS: &[u8] = b"%+,-./:@_";
 
-/// The name of a file, displayed as a word of a shell command.
+/// The name of a file, displayed as a word of a shell command that stands for this name: `table.mrt`,
+/// `'my table.mrt'`, `./-x`.
 #[derive(Clone, Copy)]
 pub struct ShellQuoted<'a>(pub &'a str);
 
-/// The command line of these settings, but with standard input as its input, displayed as a shell
-/// command.
+/// The command line with these settings, but with standard input (`-`) as its input, displayed as a shell
+/// command such as `bgpdump -m -t change -`. A hint puts another program's output in front of it.
 #[derive(Clone, Copy)]
 pub struct PipedCommand<'a>(pub &'a Settings);
 
-/// Returns `true` if a shell takes this octet literally.
+/// Returns `true` if a shell takes this octet literally: an ASCII letter or digit, or one of `%+,-./:@_`.
+/// Returns `false` if a word with it needs quotes.
 fn needs_no_quotes(octet: u8) -> bool {
     octet.is_ascii_alphanumeric() || PLAIN_MARKS.contains(&octet)
 }
 
 impl fmt::Display for ShellQuoted<'_> {
     /// Writes the name, in single quotes unless a shell takes all of it literally, and with `./` ahead if
-    /// it would be an option. Writes `FILE` for a name with control characters.
+    /// it begins with `-`, so that it isn't taken for an option. Writes `FILE` for a name with control
+    /// characters. Fails if `f` fails.
     fn fmt<W: fmt::Write>(&self, f: &mut fmt::Formatter<W>) -> fmt::Result {
         let name = self.0;
         if name.as_bytes().iter().any(|octet| octet.is_ascii_control()) {
@@ -48,7 +52,8 @@ impl fmt::Display for ShellQuoted<'_> {
 }
 
 impl fmt::Display for PipedCommand<'_> {
-    /// Writes the command. A script that is standard input is written as `SCRIPT`.
+    /// Writes the command, such as `bgpdump --play steps -O out -`. A script that is standard input is
+    /// written as `SCRIPT`. Fails if `f` fails.
     fn fmt<W: fmt::Write>(&self, f: &mut fmt::Formatter<W>) -> fmt::Result {
         let settings = self.0;
         match &settings.mode {

@@ -1,5 +1,5 @@
-//! How the program ends: its exit status and its last message. `main.rt` makes an [`Ending`] of each run,
-//! and of each failure before it; read that type first.
+//! How the program ends: its exit status and its last message. `main.rt` makes an [`Ending`] of the
+//! outcome of its work, and of each failure before that; read that type first.
 
 ghost use Rattle.std.specs.Prelude.{◌≡◌, option_map};
 ghost use Rattle.bgpdump.specs.declared.ending.Ending.TheVariants.{Ran};
@@ -13,32 +13,33 @@ use std::io;
 /// The reason for which a file isn't opened.
 #[derive(Clone, Copy)]
 pub enum OpenFailure {
-    /// The system failed to open it, with this error.
+    /// The system refused to open it, with this error.
     Refused(io::Error),
-    /// It is the output, and also the input or the script, which opening it would empty.
+    /// It is the output, and opening it would empty the file that is also the input or the script.
     IsAlsoRead,
 }
 
-/// What tells the program what to do.
+/// A text that tells the program what to do, and that may be unreadable.
 #[derive(Clone, Copy, PartialEq, Eq)]
 pub enum Instructions {
     /// The arguments of the command line.
     Words,
-    /// The script.
+    /// The script whose commands are executed (`--play`).
     Script,
 }
 
-/// The way in which the program ends.
+/// The way in which the program ends, from which its exit status and its last message follow.
 #[derive(Drop)]
 pub enum Ending<'a> {
-    /// The arguments are invalid, or ask for help.
+    /// The arguments of the command line are invalid, or ask for help.
     Usage(UsageFault),
-    /// The file with this name isn't opened.
+    /// The file with this name isn't opened, for this reason.
     NotOpened(&'a str, OpenFailure),
-    /// The instructions can't be read: an argument isn't UTF-8 text, or the system failed with this
-    /// error.
+    /// The command line or the script can't be read: an argument isn't UTF-8 text, or the system failed
+    /// with this error.
     NotRead(Instructions, io::Error),
-    /// A run ended with this outcome, or memory allocation failed before it began.
+    /// The program's work over the input ended with this outcome, or memory allocation failed before it
+    /// began.
     Ran(Outcome),
 }
 
@@ -67,8 +68,12 @@ impl<T: Drop> From<AllocFailed<T>> for Ending<'_> {
 }
 
 impl Ending<'_> {
-    /// Returns the exit status: 0 for help, 2 for other usage faults, 3 if a file isn't opened or
-    /// instructions can't be read, 4 if memory allocation failed, or else [`Outcome::status`].
+    /// Returns the exit status of the program:
+    /// - 0 if help was requested;
+    /// - 2 for any other [`UsageFault`] but `Memory`: the command line is invalid;
+    /// - 3 if a file isn't opened, or the command line or the script can't be read;
+    /// - 4 if memory allocation failed while the command line was parsed;
+    /// - the status of the outcome, [`Outcome::status`], if the program's work ended.
     pub fn status(&self) -> u8
         ensures { result ≡ ending_status self.now }
     {
@@ -83,7 +88,8 @@ impl Ending<'_> {
     }
 
     /// Prints the last message, if there is one: help to standard output, any other message to standard
-    /// error. Fails if it can't be written.
+    /// error, such as `bgpdump: cannot open table.mrt`. Fails if it can't be written; a part of it may
+    /// have been written then.
     pub fn print(&self, rt: &HostRuntime) -> io::Result<()> {
         match self {
             Ending::Usage(UsageFault::Help(text)) => print!(rt; "{text}"),
@@ -96,8 +102,9 @@ impl Ending<'_> {
         }
     }
 
-    /// Returns the last message without the program's name, or `None` if there is none, or if it has the
-    /// name of a file or a text of `clap`.
+    /// Returns the last message without the program's name, such as `read fault`. Returns `None` if the
+    /// program ends without one, and also if its text isn't fixed: help and texts of `clap`, and files
+    /// that aren't opened, which [`print`](Ending::print) writes by itself.
     pub(crate) fn message(&self) -> Option<&'static str>
         ensures { option_map (λ text. text.now) result ≡ ending_message self.now }
     {

@@ -13,23 +13,24 @@ use std::io::{self, ErrorKind, Read};
 use std::os::unix::fs::{FileTypeExt, MetadataExt};
 use std::os::unix::io::{AsRawFd, IntoRawFd};
 
-/// The number of standard streams. Their file descriptors are the numbers below it.
+/// The number of standard streams: input, output and error. Their file descriptors are the numbers below
+/// it.
 const STANDARD_STREAMS: i32 = 3;
 
-/// The paths of standard input, in the order in which they are tried. A system with an empty `/dev` has
-/// only the second.
+/// The paths of standard input, in the order in which they are tried, by which its metadata are found. A
+/// system with an empty `/dev` has only the second.
 const STANDARD_INPUT_PATHS: [&str; 2] = ["/dev/stdin", "/proc/self/fd/0"];
 
-/// The identity of a file: its device, and its inode there. A block device has its own device number,
-/// whatever its path, and inode 0.
+/// What tells whether two names are of the same file: its device, and its inode there. A block device has
+/// its own device number, whatever its path, and inode 0.
 #[derive(Clone, Copy, PartialEq, Eq)]
 struct FileIdentity {
     device: u64,
     inode: u64,
 }
 
-/// Returns the outcome of a run that `error` keeps from starting: `Memory` for `ErrorKind::OutOfMemory`,
-/// or else `ReadFault`.
+/// Returns the outcome of the program if `error` keeps its work from starting: `Memory` for
+/// `ErrorKind::OutOfMemory`, or else `ReadFault`.
 pub fn outcome_of_read_error(error: &io::Error) -> Outcome
     ensures memory { (result ≡ Outcome.Memory) ↔ (error_kind error.now ≡ ErrorKind.OutOfMemory) }
     ensures other { IsOutcomeOfReadError result }
@@ -40,8 +41,8 @@ pub fn outcome_of_read_error(error: &io::Error) -> Outcome
     }
 }
 
-/// Returns how the program ends after opening the file `name` failed with `error`: with the outcome
-/// `Memory` for `ErrorKind::OutOfMemory`, or else as `NotOpened`.
+/// Returns how the program ends after the system refused to open the file `name` with `error`: with the
+/// outcome `Memory` for `ErrorKind::OutOfMemory`, or else as `NotOpened`.
 fn ending_of_open_error<'a>(name: &'a str, error: &io::Error) -> Ending<'a>
     ensures memory { error_kind error.now ≡ ErrorKind.OutOfMemory →
         result ≡ Ending.Ran Outcome.Memory }
@@ -54,8 +55,8 @@ fn ending_of_open_error<'a>(name: &'a str, error: &io::Error) -> Ending<'a>
     }
 }
 
-/// Returns how the program ends after reading `instructions` failed with `error`: with the outcome
-/// `Memory` for `ErrorKind::OutOfMemory`, or else as `NotRead`.
+/// Returns how the program ends after reading the command line or the script (`instructions`) failed with
+/// `error`: with the outcome `Memory` for `ErrorKind::OutOfMemory`, or else as `NotRead`.
 pub fn ending_of_read_error<'a>(instructions: Instructions, error: &io::Error) -> Ending<'a>
     ensures memory { error_kind error.now ≡ ErrorKind.OutOfMemory →
         result ≡ Ending.Ran Outcome.Memory }
@@ -69,8 +70,10 @@ pub fn ending_of_read_error<'a>(instructions: Instructions, error: &io::Error) -
     }
 }
 
-/// Opens a folder on the file descriptor of each standard stream that is closed, so that no file that is
-/// opened later gets that descriptor. Reading from the folder, or writing to it, fails.
+/// Opens the root directory on the file descriptor of each standard stream that is closed. Otherwise the
+/// next file opened would get that descriptor, and what is written to the stream would end up in the
+/// file. Reading from such a stream, or writing to it, then fails. Does nothing for a stream that is
+/// open.
 pub fn reserve_standard_descriptors(rt: &HostRuntime) {
     for _ in 0..STANDARD_STREAMS {
         match File::open(rt, "/") {
@@ -82,13 +85,15 @@ pub fn reserve_standard_descriptors(rt: &HostRuntime) {
     }
 }
 
-/// Opens the file `name` to read it. Fails with how the program ends.
+/// Opens the file `name` for reading. Fails with how the program ends then: as a file that isn't opened,
+/// or with the outcome `Memory`.
 pub fn open<'a>(rt: &HostRuntime, name: &'a str) -> Result<File, Ending<'a>> {
     File::open(rt, name).map_err(|error| ending_of_open_error(name, &error))
 }
 
-/// Creates or empties the file `name` to write it. Fails with how the program ends, and leaves the file
-/// unchanged if it is the input or the script of `settings`.
+/// Creates the file `name` for writing, or empties it if it exists. Fails with how the program ends, and
+/// leaves the file unchanged, if it is also the input or the script of `settings`; fails too if the
+/// system refuses to open it.
 pub fn create<'a>(
     rt: &HostRuntime,
     settings: &Settings,
@@ -101,7 +106,8 @@ pub fn create<'a>(
     }
 }
 
-/// Returns `true` if the file `name` is the input or the script of `settings`.
+/// Returns `true` if the file `name`, which is to be emptied, is the input or the script of `settings`,
+/// and `false` if it isn't. Fails with the system's error if the metadata of one of them can't be read.
 fn is_input_or_script(rt: &HostRuntime, settings: &Settings, name: &str) -> io::Result<bool> {
     let is_script = match &settings.mode {
         Mode::Lines => false,
@@ -110,9 +116,10 @@ fn is_input_or_script(rt: &HostRuntime, settings: &Settings, name: &str) -> io::
     Ok(is_script || is_same_file(rt, settings.input.as_str(), name)?)
 }
 
-/// Returns `true` if `input`, a name or `-` for standard input, is the regular file or block device with
-/// the name `output`. Returns `false` if there is no such file yet, and `true` if the system can't tell
-/// what standard input is.
+/// Returns `true` if `input`, a file name or `-` for standard input, is the regular file or block device
+/// with the name `output`, which writing would overwrite; also if the system can't tell what standard
+/// input is. Returns `false` if they are different files, if either doesn't exist, or if `output` is of
+/// another type, such as a terminal. Fails with the system's error if metadata can't be read.
 fn is_same_file(rt: &HostRuntime, input: &str, output: &str) -> io::Result<bool> {
     let Some(output) = metadata_if_present(rt, output)? else {
         return Ok(false);
@@ -132,7 +139,8 @@ fn is_same_file(rt: &HostRuntime, input: &str, output: &str) -> io::Result<bool>
     })
 }
 
-/// Returns the metadata of standard input, or `None` if the system has no path for it.
+/// Returns the metadata of standard input, or `None` if the system has no path for it. Fails with the
+/// system's error if a path exists and its metadata can't be read.
 fn standard_input_metadata(rt: &HostRuntime) -> io::Result<Option<Metadata>> {
     for path in STANDARD_INPUT_PATHS {
         if let Some(metadata) = metadata_if_present(rt, path)? {
@@ -142,7 +150,8 @@ fn standard_input_metadata(rt: &HostRuntime) -> io::Result<Option<Metadata>> {
     Ok(None)
 }
 
-/// Returns the metadata of the file `name`, or `None` if there is no such file.
+/// Returns the metadata of the file `name`, or `None` if there is no such file. Fails with any other
+/// error of the system.
 fn metadata_if_present(rt: &HostRuntime, name: &str) -> io::Result<Option<Metadata>> {
     match fs::metadata(rt, name) {
         Ok(metadata) => Ok(Some(metadata)),
@@ -152,7 +161,7 @@ fn metadata_if_present(rt: &HostRuntime, name: &str) -> io::Result<Option<Metada
 }
 
 impl FileIdentity {
-    /// Returns the identity of the file with this metadata.
+    /// Returns the identity of the file that has this metadata.
     fn of(metadata: &Metadata) -> FileIdentity {
         let (device, inode) = if metadata.file_type().is_block_device() {
             (metadata.rdev(), 0)
@@ -163,15 +172,16 @@ impl FileIdentity {
     }
 }
 
-/// Returns `true` if two identities are equal, and so of one file.
+/// Returns `true` if the two identities are equal, so that both are of one file, and `false` if not.
 fn is_same_identity(one: FileIdentity, other: FileIdentity) -> bool
     ensures { IsTrue result ↔ (one ≡ other) }
 {
     one == other
 }
 
-/// Reads a script from `reader`: all of it, or the first [`LONGEST_SCRIPT`] octets and one more, so that
-/// a run can tell that it is too long. Fails with how the program ends.
+/// Reads the script from `reader`: all of it, or its first octets, one more than [`LONGEST_SCRIPT`],
+/// which show that it is too long to be executed. Fails with how the program ends: as a script that can't
+/// be read, or with the outcome `Memory`.
 pub fn read_script<'a, R: Read + Drop>(alloc: Global, reader: R) -> Result<Vec<u8>, Ending<'a>>
     ensures octets { IfOk result (λ script. (octets : List ℕ) → R.remaining reader ≡ Some octets →
         script.items ≡ take (LONGEST_SCRIPT + 1) octets) }

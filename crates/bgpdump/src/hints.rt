@@ -1,6 +1,6 @@
-//! What hints for a person are based on: whether standard error is a terminal, and what the input begins
-//! with or fails with. `main.rt` reads the input through a [`NotedReader`] for them. The hints are in
-//! `run_hints.rt` and `script_hints.rt`; read [`InputNotes`] first.
+//! What the hints for a person are based on: whether standard error is a terminal, and with which octets
+//! the input begins or by which error it fails. `main.rt` reads the input through a [`NotedReader`] that
+//! notes these. The hints are in `run_hints.rt` and `script_hints.rt`; read [`InputNotes`] first.
 
 ghost use Rattle.std.specs.Prelude.{◌≡◌, IfOk};
 
@@ -11,41 +11,47 @@ use std::cell::Cell;
 use std::io::{self, IsTerminal, Read};
 use std::rc::Rc;
 
-/// The offset of the block mark of bzip2, after `BZh` and the digit of a level.
+/// The offset in octets from the start of a bzip2 file of the mark of its first block, after `BZh` and
+/// the digit of a level: 4.
 const BZIP2_BLOCK_OFFSET: usize = 4;
 
 /// Returns `true` if hints are to be written: standard error is a terminal, so that a person reads it.
+/// Returns `false` if it is a file or a pipe, which a program may read.
 pub fn are_hints_wanted(rt: &HostRuntime) -> bool {
     rt.stderr().is_terminal()
 }
 
-/// A format of compressed files.
+/// A format of compressed files, such as gzip, which an input seems to be in: with it a hint names the
+/// program to unpack the input by.
 #[derive(Clone, Copy, Debug, PartialEq, Eq)]
 pub struct CompressedFormat {
-    /// The name of the format.
+    /// The name of the format, such as `gzip`.
     pub name: &'static str,
-    /// The program that prints the content of a file in this format.
+    /// The program that prints the unpacked content of a file in this format, such as `zcat`.
     pub printer: &'static str,
 }
 
-/// The first octets of an input, at most as many as the header of a record has (RFC 6396, section 2).
+/// The first octets of an input or a script, at most as many as the header of an MRT record has (12; RFC
+/// 6396, section 2), to guess its format from.
 #[derive(Clone, Copy, Default)]
 pub struct FirstOctets {
     /// The octets, followed by zeros.
     octets: [u8; HEADER_SIZE],
-    /// The number of octets.
+    /// The number of octets that are set in `octets`.
     len: usize,
 }
 
 impl FirstOctets {
-    /// Returns the first octets of an input that begins with `octets`.
+    /// Returns the first octets of an input that begins with `octets`. Only as many as a header has are
+    /// kept.
     pub fn read_from(octets: &[u8]) -> Self {
         let mut front = FirstOctets::default();
         front.add_octets(octets);
         front
     }
 
-    /// Adds the next octets of the input. Those beyond the size of a header are ignored.
+    /// Adds `octets`, the next ones of the input, to those noted. Those beyond the size of a header are
+    /// ignored.
     fn add_octets(&mut self, octets: &[u8]) {
         for octet in octets {
             if self.len >= HEADER_SIZE {
@@ -56,8 +62,8 @@ impl FirstOctets {
         }
     }
 
-    /// Returns the format in which the input seems to be compressed, by its first octets, or `None` if it
-    /// seems to be in none.
+    /// Returns the format in which the input seems to be compressed, by its first octets: gzip, bzip2, xz
+    /// or zstd. Returns `None` if they are of none of these, or too few.
     pub fn find_compressed_format(&self) -> Option<CompressedFormat> {
         // MRT records begin with their time in seconds since 1970. As times, the marks of gzip, zstd and
         // xz are in 1986, 1991 and 2104, when no router writes; `BZh` is in 2005, so that the block mark
@@ -79,13 +85,14 @@ impl FirstOctets {
         }
     }
 
-    /// Returns `true` if one of the octets is 0, as in the header of each record and in no text.
+    /// Returns `true` if one of the octets noted is 0, as in the header of each MRT record and in no
+    /// text, and `false` if none is.
     pub fn has_zero(&self) -> bool {
         self.octets[..self.len.min(HEADER_SIZE)].contains(&0)
     }
 
-    /// Returns the length in octets of the first record's body, as its header states it, or `None` if
-    /// there are fewer octets than in a header.
+    /// Returns the length in octets of the first record's body, as the record's header states it (RFC
+    /// 6396, section 2), or `None` if there are fewer octets than in a header.
     pub fn find_first_body_size(&self) -> Option<u32> {
         if self.len < HEADER_SIZE {
             return None;
@@ -100,7 +107,8 @@ impl FirstOctets {
     }
 }
 
-/// What is noted of an input while it is read, for hints.
+/// What a [`NotedReader`] notes of the input while it is read: its first octets, and the last error of
+/// the reader. After the program's work, hints to a person say by them what seems wrong.
 #[derive(Clone, Copy, Default)]
 pub struct InputNotes {
     /// The first octets of the input.
@@ -109,31 +117,32 @@ pub struct InputNotes {
     pub error: Option<io::Error>,
 }
 
-/// A reader over another one that notes its first octets and its last error in a shared cell.
+/// A reader that reads from another one, and notes the input's first octets and the reader's last error
+/// in a cell shared with others.
 #[derive(Drop)]
 pub struct NotedReader<R> {
-    /// The notes, shared with the maker of this reader.
+    /// The cell with the notes, shared with whoever made this reader.
     notes: Rc<Cell<InputNotes>>,
-    /// The reader below.
+    /// The reader that is read from.
     pub(crate) reader: R,
 }
 
 impl<R> NotedReader<R> {
-    /// Returns a reader of what `reader` reads, which updates `notes`.
+    /// Returns a reader that reads what `reader` reads, and updates the [`InputNotes`] in `notes`.
     pub fn new(notes: Rc<Cell<InputNotes>>, reader: R) -> Self
         ensures { result.reader ≡ reader }
     {
         NotedReader { notes, reader }
     }
 
-    /// Notes an error of the reader.
+    /// Notes `error` as the last error of the reader.
     fn note_error(&self, error: io::Error) {
         let mut notes = self.notes.get();
         notes.error = Some(error);
         self.notes.set(notes);
     }
 
-    /// Notes those of the octets just read that are among the first of the input.
+    /// Notes `octets`, which were just read, as far as they are among the first of the input.
     fn note_octets(&self, octets: &[u8]) {
         let mut notes = self.notes.get();
         notes.front.add_octets(octets);
@@ -158,17 +167,18 @@ impl<R: Read> Read for NotedReader<R> {
     }
 }
 
-/// The reader and the writers of a run, with the notes of its input.
+/// The reader and the writers that the program works with, of which the reader notes what it reads.
 #[derive(Drop)]
 pub struct NotedDevices<R, O, E> {
-    /// The notes of the input so far.
+    /// The notes of the input so far: its first octets, and the last error of its reader.
     pub notes: Rc<Cell<InputNotes>>,
     /// The devices. Their reader updates `notes`.
     pub devices: Devices<NotedReader<R>, O, E>,
 }
 
 impl<R: Drop, O: Drop, E: Drop> NotedDevices<R, O, E> {
-    /// Returns `devices` with a [`NotedReader`] over their reader. On error, they are dropped.
+    /// Returns `devices` with a [`NotedReader`] in place of their reader, and empty notes. Fails if
+    /// memory allocation fails; `devices` are dropped then.
     pub fn new(alloc: Global, devices: Devices<R, O, E>) -> Result<Self, AllocError>
         ensures reader { IfOk result (λ noted. noted.devices.reader.reader ≡ devices.reader) }
         ensures out { IfOk result (λ noted. noted.devices.out ≡ devices.out) }

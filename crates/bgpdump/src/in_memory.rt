@@ -1,6 +1,6 @@
-//! Runs over readers and writers in memory, through all layers that the program puts between a run and
-//! its devices. The program calls none of these functions: their proofs show that no layer loses, changes
-//! or hides an octet. Read [`dump_in_memory`] first.
+//! The program's work over readers and writers in memory, through all layers that lie between it and its
+//! devices. The program calls none of these functions: their proofs show that no layer loses, changes or
+//! hides an octet. Read [`dump_in_memory`] first.
 
 ghost use Rattle.std.specs.Prelude.{◌≡◌, [], Some, IfOk};
 ghost use Rattle.bgpdump_tool.specs.Run.{dump_texts};
@@ -14,8 +14,10 @@ use std::alloc::{AllocError, Global};
 use std::collections::VecDeque;
 use std::io::{Read, Write};
 
-/// Prints the MRT file `octets` to writers in memory, and returns the outcome of the run. Fails if memory
-/// allocation fails before the run begins.
+/// Prints the MRT file that consists of `octets` as `bgpdump -m` does, but to writers in memory, and
+/// returns how the program would end; what was written is dropped. `stamp` selects which time the routes
+/// of tables get: that of the dump, or that of their last change. Fails if memory allocation fails before
+/// the first record is read. Used for proofs only.
 pub fn dump_octets(alloc: Global, stamp: Stamp, octets: &[u8]) -> Result<Outcome, AllocError> {
     let mut held = Vec::new(alloc);
     held.extend_from_slice(octets)?;
@@ -26,8 +28,10 @@ pub fn dump_octets(alloc: Global, stamp: Stamp, octets: &[u8]) -> Result<Outcome
     Ok(ended.outcome)
 }
 
-/// Runs `script` over the MRT file `octets` with writers in memory, and returns the outcome of the run.
-/// Fails if memory allocation fails before the run begins.
+/// Executes the commands of `script` over the MRT file that consists of `octets` as `bgpdump --play`
+/// does, but with writers in memory, and returns how the program would end; what was written is dropped.
+/// `stamp` selects which time the routes of tables get: that of the dump, or that of their last change.
+/// Fails if memory allocation fails before the first command. Used for proofs only.
 pub fn play_octets(
     alloc: Global,
     stamp: Stamp,
@@ -43,8 +47,10 @@ pub fn play_octets(
     Ok(ended.outcome)
 }
 
-/// Prints the MRT file in `devices.reader`, which must hold just `octets`, to the writers in `devices`,
-/// which must be empty. Fails if memory allocation fails before the run begins.
+/// Prints the MRT file in `devices.reader` as `bgpdump -m` does, to the writers in `devices`, and returns
+/// the outcome with these writers. Requires that the reader holds just `octets`, and that the writers are
+/// empty. `stamp` selects which time the routes of tables get: that of the dump, or that of their last
+/// change. Fails if memory allocation fails before the first record is read.
 fn dump_in_memory<R: Read + Drop, O: Write + Drop, E: Write + Drop>(
     alloc: Global,
     stamp: Stamp,
@@ -60,8 +66,11 @@ fn dump_in_memory<R: Read + Drop, O: Write + Drop, E: Write + Drop>(
     Ok(dump(alloc, stamp, noted.devices))
 }
 
-/// Runs `script` over the MRT file in `devices.reader`, which must hold just `octets`. The writers in
-/// `devices` must be empty. Fails if memory allocation fails before the run begins.
+/// Executes the commands of `script` over the MRT file in `devices.reader` as `bgpdump --play` does,
+/// writes to the writers in `devices`, and returns the outcome with these writers. Requires that the
+/// reader holds just `octets`, and that the writers are empty. `stamp` selects which time the routes of
+/// tables get: that of the dump, or that of their last change. Fails if memory allocation fails before
+/// the first command.
 fn play_in_memory<R: Read + Drop, O: Write + Drop, E: Write + Drop>(
     alloc: Global,
     stamp: Stamp,

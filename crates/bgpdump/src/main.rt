@@ -1,6 +1,6 @@
-//! The program `bgpdump`: prints an MRT file (RFC 6396) as lines, or runs a script over it. `main` parses
-//! the command line and opens files; [`run`] has the two runs over readers and writers. Read
-//! [`run_and_report`] first.
+//! The program `bgpdump`: prints an MRT file (RFC 6396) as lines, or executes the commands of a script
+//! over it. `main` parses the command line and opens files; [`run`] has the two kinds of work over
+//! readers and writers. Read [`run_and_report`] first.
 #![tactic(auto)]
 
 mod command_words;
@@ -23,16 +23,16 @@ use std::io::{Read, Write};
 use std::process::ExitCode;
 use std::{env, io};
 
-/// The result of a run.
+/// How the program's work over its input ended, with what a hint needs to know about the input.
 #[derive(Drop)]
 struct Ran {
-    /// How the run ended.
+    /// How it ended.
     outcome: Outcome,
-    /// The notes of its input, for hints.
+    /// The notes of the input: its first octets, and the last error of its reader.
     notes: InputNotes,
 }
 
-/// Runs the program, and returns its exit status.
+/// Does what the command line asks for, and returns the program's exit status.
 fn main(rt: HostRuntime) -> ExitCode {
     reserve_standard_descriptors(&rt);
     match read_settings(&rt) {
@@ -41,20 +41,22 @@ fn main(rt: HostRuntime) -> ExitCode {
     }
 }
 
-/// Parses the command line. Fails with how the program ends instead: with help, with a usage fault, or
-/// because an argument isn't UTF-8 text.
+/// Parses the command line. Fails with how the program ends if that selects no settings: with help, with
+/// a fault of usage, because an argument isn't UTF-8 text, or because memory allocation failed.
 fn read_settings<'a>(rt: &HostRuntime) -> Result<Settings, Ending<'a>> {
     let words = read_words(rt).map_err(|error| ending_of_read_error(Instructions::Words, &error))?;
     settings(rt.alloc(), words).map_err(|fault| Ending::Usage(fault))
 }
 
-/// Returns the arguments of the command line, of which the first is the program's name.
+/// Returns the arguments of the command line, of which the first is the program's name. Fails if one of
+/// them isn't UTF-8 text, or if memory allocation fails.
 fn read_words(rt: &HostRuntime) -> io::Result<Vec<String>> {
     Ok(env::args(rt)?.collect(rt.alloc())?)
 }
 
-/// Runs with these settings, prints the last message, and returns the exit status. Unless the outcome is
-/// `Done`, hints may tell a person what seems to be wrong with the input.
+/// Opens the files that `settings` name, does the program's work over them, prints the last message, and
+/// returns the exit status. If the status isn't 0 and standard error is a terminal, a hint follows there:
+/// on the failure, and on what seems to be wrong with the input (such as that it is compressed).
 fn run_and_report(rt: &HostRuntime, settings: &Settings) -> ExitCode {
     match open_files_and_run(rt, settings) {
         Ok(ran) => {
@@ -69,8 +71,9 @@ fn run_and_report(rt: &HostRuntime, settings: &Settings) -> ExitCode {
     }
 }
 
-/// Reads the script and opens the input, and then the output, that `settings` name, and runs over them.
-/// Fails with how the program ends if no run begins.
+/// Reads the script, and opens the input and then the output, that `settings` name, and does the
+/// program's work over them. Fails with how the program ends if that doesn't begin: a file can't be
+/// opened or read, or memory allocation fails.
 fn open_files_and_run<'a>(rt: &HostRuntime, settings: &'a Settings) -> Result<Ran, Ending<'a>> {
     let script = read_script_for_mode(rt, &settings.mode)?;
     let name = settings.input.as_str();
@@ -82,8 +85,9 @@ fn open_files_and_run<'a>(rt: &HostRuntime, settings: &'a Settings) -> Result<Ra
     open_output_and_run(rt, settings, script.as_deref(), input)
 }
 
-/// Reads the script that `mode` names, or returns `None` for `Mode::Lines`. Fails with how the program
-/// ends.
+/// Reads the script that `mode` names, or standard input for the name `-`. Returns `None` for
+/// `Mode::Lines`, which has no script. Fails with how the program ends: the script can't be opened or
+/// read, or memory allocation fails.
 fn read_script_for_mode<'a>(
     rt: &HostRuntime,
     mode: &'a Mode,
@@ -97,8 +101,9 @@ fn read_script_for_mode<'a>(
     }
 }
 
-/// Opens the output that `settings` name, and runs from `input` to it: runs `script`, or prints lines if
-/// that is `None`. Fails with how the program ends if no run begins.
+/// Opens the output that `settings` name (standard output if they name none), and does the program's work
+/// from `input` to it: executes the commands of `script`, or prints lines if that is `None`. Fails with
+/// how the program ends if that doesn't begin: the output can't be opened, or memory allocation fails.
 fn open_output_and_run<'a>(
     rt: &HostRuntime,
     settings: &'a Settings,
@@ -124,7 +129,8 @@ fn open_output_and_run<'a>(
     Ok(Ran { outcome, notes })
 }
 
-/// Writes hints on the bad lines of `script`, if hints are wanted and it isn't too long to be run.
+/// Writes hints to standard error on the lines of `script` that are no commands. Does nothing if standard
+/// error is no terminal, or if the script is too long to be executed.
 fn write_bad_line_hints(rt: &HostRuntime, script: &[u8]) {
     // This is before the run, since the reports of these lines may come hours later if the input is a stream.
     if are_hints_wanted(rt) && script.len() <= LONGEST_SCRIPT {
@@ -132,8 +138,9 @@ fn write_bad_line_hints(rt: &HostRuntime, script: &[u8]) {
     }
 }
 
-/// Prints the last message, with a hint for a person, and returns the exit status. If help can't be
-/// printed, that is a write fault; other messages that can't be printed are lost.
+/// Prints the last message, and a hint if standard error is a terminal, and returns the exit status. If
+/// help can't be printed, prints the message of a write fault and returns its status instead; other
+/// messages that can't be printed are lost.
 fn end(rt: &HostRuntime, ending: &Ending<'_>) -> ExitCode {
     let is_printed = ending.print(rt).is_ok();
     if is_printed || ending.status() > 0 {

@@ -1,5 +1,5 @@
-//! The two runs of the program, [`dump`] and [`play`], over any reader and writers, through buffers.
-//! `main.rt` and `in_memory.rt` call them; read [`dump`] first.
+//! The two kinds of the program's work, [`dump`] (lines) and [`play`] (a script), over any reader and
+//! writers, through buffers. `main.rt` and `in_memory.rt` call them; read [`dump`] first.
 
 ghost use Rattle.std.specs.Prelude.{◌≡◌, ◌≤◌, ◌<◌, ◌⊎◌, ℕ, List, false, length, Some, None, IfSome, IfOk, IfErr, IsNone};
 ghost use Rattle.std.specs.Io.Buffered.{writer_contents};
@@ -16,39 +16,41 @@ use std::alloc::Global;
 use std::io::{BufReader, BufWriter, Read, Write};
 use std::rc::Rc;
 
-/// The size of each buffer, in octets.
+/// The size in octets of the buffer of the input and of each output: 65,536.
 const BUFFER_SIZE: usize = 65_536;
 
-/// The store of the player. It isn't freed when it is dropped.
+/// The store of the player's routes, a radix tree whose memory isn't freed when it is dropped.
 // The program ends soon after a run, and freeing node by node would take as long as the run. During a run
 // the player drops a store only when it has no keys, and so no memory.
 type Routes = LeakingStore<RadixStore<Rc<Route>>>;
 
-/// The reader and the writers of a run.
+/// The reader and the two writers that the program works with: `R` is the reader's type, `O` that of the
+/// writer of results, `E` that of the writer of reports.
 #[derive(Drop)]
 pub struct Devices<R, O, E> {
     /// The reader of the MRT file.
     pub reader: R,
-    /// The writer of lines or replies.
+    /// The writer of results: the lines of records, or the replies to a script's commands.
     pub out: O,
-    /// The writer of reports.
+    /// The writer of reports: of faulty records, and of bad lines of a script.
     pub err: E,
 }
 
-/// The outcome of a run, with its input and its writers.
+/// What is left after the program's work, an execution of [`dump`] or [`play`]: how it ended, the input,
+/// and the writers. `R`, `O` and `E` are the types of the devices, as in [`Devices`].
 #[derive(Drop)]
 pub struct FinishedRun<R, O, E> {
-    /// How the run ended.
+    /// How it ended.
     pub outcome: Outcome,
-    /// The input after the octets that the run read, or `None` if memory allocation failed before the run
-    /// began.
+    /// The input, of which what wasn't read is left, or `None` if memory allocation failed before the
+    /// work began.
     pub input: Option<BufferedInput<R>>,
-    /// The writer of lines or replies and the writer of reports, with all that the run wrote, or `None`
-    /// if the run didn't begin or a writer failed at the end.
+    /// The writer of results and the writer of reports, with all that was written, or `None` if the work
+    /// didn't begin or a writer failed at the end.
     pub writers: Option<(O, E)>,
 }
 
-/// The input and the outputs of a run, with their buffers.
+/// The reader and the two writers of the program, each with a buffer.
 #[derive(Drop)]
 struct BufferedStreams<R, O: Write + Drop, E: Write + Drop> {
     input: BufferedInput<R>,
@@ -56,8 +58,10 @@ struct BufferedStreams<R, O: Write + Drop, E: Write + Drop> {
     err: BufferedOutput<E>,
 }
 
-/// Prints the MRT file in `devices.reader`: its lines to `devices.out`, and reports of its faulty records
-/// to `devices.err`. `stamp` selects the time that the routes of tables get.
+/// Prints the MRT file in `devices.reader`: the lines of its routes, withdrawals and state changes to
+/// `devices.out`, and reports of its faulty records to `devices.err`. `stamp` selects which time the
+/// routes of tables get: that of the dump, or that of their last change. If the buffers can't be
+/// allocated, nothing is read, and the outcome is `Memory`.
 pub fn dump<R: Read + Drop, O: Write + Drop, E: Write + Drop>(
     alloc: Global,
     stamp: Stamp,
@@ -100,8 +104,10 @@ pub fn dump<R: Read + Drop, O: Write + Drop, E: Write + Drop>(
     close(streams, outcome)
 }
 
-/// Runs `script` over the MRT file in `devices.reader`, with its replies to `devices.out`, and reports of
-/// faulty records and bad lines to `devices.err`. `stamp` selects the time that the routes of tables get.
+/// Executes the commands of `script` over the MRT file in `devices.reader`: writes their replies to
+/// `devices.out`, and reports of faulty records and bad lines to `devices.err`. `stamp` selects which
+/// time the routes of tables get: that of the dump, or that of their last change. If the buffers can't be
+/// allocated, nothing is read, and the outcome is `Memory`.
 pub fn play<R: Read + Drop, O: Write + Drop, E: Write + Drop>(
     alloc: Global,
     stamp: Stamp,
@@ -153,7 +159,8 @@ pub fn play<R: Read + Drop, O: Write + Drop, E: Write + Drop>(
     close(streams, outcome)
 }
 
-/// Puts a buffer over each of `devices`. Fails with [`Outcome::Memory`].
+/// Puts a buffer over the reader and over each writer of `devices`. Fails with [`Outcome::Memory`] if
+/// memory allocation fails; the devices are dropped then.
 fn buffer_devices<R: Read + Drop, O: Write + Drop, E: Write + Drop>(
     alloc: Global,
     devices: Devices<R, O, E>,
@@ -187,7 +194,8 @@ fn buffer_devices<R: Read + Drop, O: Write + Drop, E: Write + Drop>(
     })
 }
 
-/// Returns the result of a run that failed with `refusal` before it began.
+/// Returns the result of an execution that ended with the outcome `refusal` before it began: without
+/// input and writers.
 fn failed_before_run<R, O, E>(refusal: Outcome) -> FinishedRun<R, O, E>
     ensures outcome { result.outcome ≡ refusal }
     ensures input { result.input ≡ None }
@@ -200,8 +208,9 @@ fn failed_before_run<R, O, E>(refusal: Outcome) -> FinishedRun<R, O, E>
     }
 }
 
-/// Flushes the buffers of a run that ended with `outcome`, and takes the writers out of them. If a writer
-/// fails, there are none, and the outcome is [`outcome_without_writers`].
+/// Flushes the buffers of an execution that ended with `outcome`, and takes the writers out of them. If a
+/// flush fails, the writers are lost, and the outcome is the one of [`outcome_without_writers`]: a write
+/// fault, unless memory was lacking.
 fn close<R: Read + Drop, O: Write + Drop, E: Write + Drop>(
     streams: BufferedStreams<R, O, E>,
     outcome: Outcome,
@@ -229,8 +238,8 @@ fn close<R: Read + Drop, O: Write + Drop, E: Write + Drop>(
     }
 }
 
-/// Returns the outcome of a run that ended with `outcome`, and whose writers then failed: a write fault,
-/// unless the run was out of memory.
+/// Returns the outcome of an execution that ended with `outcome`, and whose writers then failed: a write
+/// fault, unless `outcome` is `Memory`, which stays.
 fn outcome_without_writers(outcome: Outcome) -> Outcome
     ensures { result ≡ outcome_without_writers outcome }
 {
@@ -240,7 +249,7 @@ fn outcome_without_writers(outcome: Outcome) -> Outcome
     }
 }
 
-/// Flushes a buffer and returns its writer, or `None` if the writer fails.
+/// Flushes `buffer` and returns the writer below it, or `None` if the writer fails.
 fn flush_into_writer<W: Write + Drop>(mut buffer: BufWriter<W>) -> Option<W>
     ensures { IfSome result (λ writer.
         Keeps (writer_contents W.contents buffer) (W.contents writer)) }

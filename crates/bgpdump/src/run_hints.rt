@@ -9,22 +9,26 @@ use bgpdump_tool::{LONGEST_SCRIPT, Outcome, STANDARD_INPUT, Settings, UsageFault
 use mrt_frames::LONGEST_BODY;
 use std::io::{self, ErrorKind};
 
-/// The options of the C program `bgpdump` that select other lines.
+/// The options of the C program `bgpdump` that select another form of lines, which this program doesn't
+/// have.
 const OPTIONS_OF_LINES: [&str; 6] = ["-H", "-M", "-T", "-l", "-p", "-u"];
 
-/// The options of the C program `bgpdump` that select where it reports to.
+/// The options of the C program `bgpdump` that select where it reports to, which this program doesn't
+/// have.
 const OPTIONS_OF_REPORTS: [&str; 3] = ["-q", "-s", "-v"];
 
-/// The text of `clap` before an argument that it doesn't know.
+/// The text of `clap` before an argument that it doesn't know, to find that argument in an error's text.
 const BEFORE_OPTION: &str = "unexpected argument '";
 
-/// The text of `clap` after an argument that it doesn't know.
+/// The text of `clap` after an argument that it doesn't know, to find that argument in an error's text.
 const AFTER_OPTION: &str = "' found";
 
-/// The start of `clap`'s advice to write an option as a value.
+/// The start of `clap`'s advice to write an unknown option as a value, which shows that the argument
+/// looks like an option.
 const VALUE_ADVICE: &str = "use '-- ";
 
-/// Writes a hint on how the program ends, if there is more to say than the last message does.
+/// Writes a hint to standard error on how the program ends, if there is more to say than the last message
+/// does, such as `bgpdump: only one of SCRIPT and INPUT may be -`. What can't be written is lost.
 pub fn write_ending_hint(rt: &HostRuntime, ending: &Ending<'_>) {
     let _ = match ending {
         Ending::Usage(UsageFault::Words(text)) => write_option_hint(rt, text.as_str()),
@@ -46,8 +50,9 @@ pub fn write_ending_hint(rt: &HostRuntime, ending: &Ending<'_>) {
     };
 }
 
-/// Writes hints on what seems to be wrong with the input of `settings`: the error of its reader, and the
-/// format or the length that its first octets suggest.
+/// Writes hints to standard error on what seems to be wrong with the input of `settings`: the error of
+/// its reader, if it failed, and that it is compressed or no MRT file, if the first octets in `notes`
+/// suggest that. What can't be written is lost.
 pub fn write_input_hints(rt: &HostRuntime, settings: &Settings, notes: &InputNotes) {
     if let Some(error) = &notes.error {
         let _ = write_read_error(rt, "the input", error);
@@ -64,7 +69,9 @@ pub fn write_input_hints(rt: &HostRuntime, settings: &Settings, notes: &InputNot
     };
 }
 
-/// Writes a hint with the command that unpacks an input of this format for a run with `settings`.
+/// Writes a hint to standard error with the command that unpacks an input in the format `form`, such as
+/// `bgpdump: a.gz looks like gzip; try zcat a.gz | bgpdump -m -`, for what `settings` select. Fails if
+/// standard error can't be written; some of the hint may have been written then.
 fn write_compression_hint(
     rt: &HostRuntime,
     settings: &Settings,
@@ -84,8 +91,10 @@ fn write_compression_hint(
     eprintln!(rt; "bgpdump: {name} looks like {form}; try {printer} {name} | {command}")
 }
 
-/// Writes a hint on the unknown argument that `text`, an error of `clap`, names. Writes nothing if it
-/// names none, or an unknown option without more to say.
+/// Writes a hint to standard error on the unknown argument that `text`, the text of an error of `clap`,
+/// names: an option of the C program `bgpdump`, another one that isn't known, or a second INPUT. Writes
+/// nothing if `text` names no argument, or if there is nothing more to say of it. Fails if standard error
+/// can't be written; some of the hint may have been written then.
 fn write_option_hint(rt: &HostRuntime, text: &str) -> io::Result<()> {
     let Some(option) = find_unknown_argument(text) else {
         return Ok(());
@@ -107,14 +116,16 @@ fn write_option_hint(rt: &HostRuntime, text: &str) -> io::Result<()> {
     }
 }
 
-/// Returns the unknown argument that `text`, an error of `clap`, names, or `None` if it names none.
+/// Returns the unknown argument that `text`, the text of an error of `clap`, names, or `None` if it names
+/// none.
 fn find_unknown_argument(text: &str) -> Option<&str> {
     let (_, behind) = text.split_once(BEFORE_OPTION)?;
     let (option, _) = behind.split_once(AFTER_OPTION)?;
     Some(option)
 }
 
-/// Returns the first of `options` that `argument` begins with, or `None` if it begins with none.
+/// Returns the first of `options` with which `argument` begins, such as `-H` for `-Hm`, or `None` if it
+/// begins with none.
 fn find_leading_option(argument: &str, options: &[&'static str]) -> Option<&'static str> {
     options
         .iter()
@@ -122,7 +133,9 @@ fn find_leading_option(argument: &str, options: &[&'static str]) -> Option<&'sta
         .find(|option| argument.starts_with(*option))
 }
 
-/// Writes a hint on why the file `name` isn't opened.
+/// Writes a hint to standard error on why the file `name` isn't opened (`cause`), such as `bgpdump:
+/// permission denied`. Fails if standard error can't be written; some of the hint may have been written
+/// then.
 fn write_open_failure(rt: &HostRuntime, name: &str, cause: &OpenFailure) -> io::Result<()> {
     match cause {
         OpenFailure::IsAlsoRead => eprintln!(rt;
@@ -141,7 +154,10 @@ fn write_open_failure(rt: &HostRuntime, name: &str, cause: &OpenFailure) -> io::
     }
 }
 
-/// Writes a hint on why `what` can't be read. A closed standard stream is read as a folder.
+/// Writes a hint to standard error on why `what` (such as `the input`) can't be read, by its `error`. A
+/// directory may also be a standard stream that was closed: the program puts a directory in its place, so
+/// that the hint names both. Fails if standard error can't be written; some of the hint may have been
+/// written then.
 fn write_read_error(rt: &HostRuntime, what: &str, error: &io::Error) -> io::Result<()> {
     match error.kind() {
         ErrorKind::IsADirectory => eprintln!(rt; "bgpdump: {what} is a folder or a closed stream"),

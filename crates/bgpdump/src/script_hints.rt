@@ -1,75 +1,78 @@
-//! Hints on the bad lines of a script, which are written to standard error before it is run. `main.rt`
-//! calls [`write_script_hints`]; what that can't write is lost.
+//! Hints on the lines of a script that are no commands, which are written to standard error before the
+//! script is executed. `main.rt` calls [`write_script_hints`]; what that can't write is lost.
 
 use crate::hints::FirstOctets;
 use bgpdump_tool::read_command;
 use ip_prefix::{Addr, Prefix, SPACE};
 use std::fmt;
 
-/// The number of bad lines that get a hint, from the first one on.
+/// The number of bad lines, from the first one on, that get a hint: 5.
 const MOST_HINTS: usize = 5;
 
-/// The number of octets of a line or a word that a hint shows, from the first one on.
+/// The number of octets of a line or a word, from the first one on, that a hint shows: 60.
 const SHOWN: usize = 60;
 
-/// The kind of an argument of a command.
+/// What a word in a script's line is to be, by its place after the name of a command: a number, an
+/// address or a prefix. A hint on a bad line names it.
 #[derive(Clone, Copy, PartialEq, Eq)]
 enum ScriptArgumentKind {
-    /// A number of steps to move, from 1 on.
+    /// A number of steps to move, at least 1: the argument of `next` and `back`. (A step is one played
+    /// event.)
     Times,
-    /// A number from 0 on.
+    /// A number, at least 0: of the steps that `forget` keeps.
     Number,
-    /// The number of a step, from 0 on.
+    /// A position, at least 0, the number of steps before it: the argument of `goto`.
     Step,
-    /// The number of an AS.
+    /// The number of an AS, from 0 to `u32::MAX`: the second argument of `table`, `route`, `lookup` and
+    /// `lose`.
     AsNumber,
-    /// An address.
+    /// An address: of a peer, or the one that `lookup` looks up.
     Address,
-    /// A prefix.
+    /// A prefix: the one that `route` asks for.
     Prefix,
 }
 
-/// The arguments of a command without any.
+/// The arguments of a command without any: `where` and `peers`.
 const NO_ARGUMENTS: &[ScriptArgumentKind] = &[];
 
-/// The argument of `next` and `back`.
+/// The argument of `next` and `back`: the number of steps to move.
 const TIMES: &[ScriptArgumentKind] = &[ScriptArgumentKind::Times];
 
-/// The argument of `forget`.
+/// The argument of `forget`: the number of steps to keep.
 const NUMBER: &[ScriptArgumentKind] = &[ScriptArgumentKind::Number];
 
-/// The argument of `goto`.
+/// The argument of `goto`: the position to go to.
 const STEP: &[ScriptArgumentKind] = &[ScriptArgumentKind::Step];
 
-/// The arguments of `table` and `lose`.
+/// The arguments of `table` and `lose`: the address and the AS number of a peer.
 const PEER: &[ScriptArgumentKind] = &[ScriptArgumentKind::Address, ScriptArgumentKind::AsNumber];
 
-/// The arguments of `route`.
+/// The arguments of `route`: the address and the AS number of a peer, and a prefix.
 const PEER_AND_PREFIX: &[ScriptArgumentKind] = &[
     ScriptArgumentKind::Address,
     ScriptArgumentKind::AsNumber,
     ScriptArgumentKind::Prefix,
 ];
 
-/// The arguments of `lookup`.
+/// The arguments of `lookup`: the address and the AS number of a peer, and an address to look up.
 const PEER_AND_ADDRESS: &[ScriptArgumentKind] = &[
     ScriptArgumentKind::Address,
     ScriptArgumentKind::AsNumber,
     ScriptArgumentKind::Address,
 ];
 
-/// The reason for which a line of a script is no command.
+/// The reason for which a line of a script is no command. Displayed, it is the text of a hint.
 #[derive(Clone, Copy)]
 enum LineFlaw<'a> {
-    /// The line ends with a carriage return.
+    /// The line ends with a carriage return, as a line of a Windows text file does.
     CarriageReturn,
-    /// The line has a tab.
+    /// The line has a tab, where only spaces separate words.
     Tab,
     /// A word is empty: the line has two spaces in a row, or one at an end.
     EmptyWord,
-    /// No command has this name.
+    /// No command has this name, the line's first word.
     NoCommand(EscapedOctets<'a>),
-    /// The line ends before this argument.
+    /// The line ends before an argument of this kind.
     Missing(ScriptArgumentKind),
     /// This word isn't of the kind that its place in the line asks for.
     Wrong(&'a [u8], ScriptArgumentKind),
@@ -77,13 +80,13 @@ enum LineFlaw<'a> {
     Extra(EscapedOctets<'a>),
 }
 
-/// Octets as a hint shows them: the first ones, with escapes for all but printable ASCII, and `..` after
-/// them if there are more.
+/// Octets as a hint shows them: the first 60, with escapes for all but printable ASCII, such as `a\tb`,
+/// and `..` after them if there are more.
 #[derive(Clone, Copy)]
 struct EscapedOctets<'a>(&'a [u8]);
 
-/// Writes a hint if `script` seems to be a compressed file or an MRT file, or else hints on its first bad
-/// lines.
+/// Writes a hint to standard error if `script` seems to be a compressed file or an MRT file, or else
+/// hints on its first lines that are no commands, if there are any. What can't be written is lost.
 pub fn write_script_hints(rt: &HostRuntime, script: &[u8]) {
     let front = FirstOctets::read_from(script);
     if let Some(format) = front.find_compressed_format() {
@@ -100,7 +103,9 @@ pub fn write_script_hints(rt: &HostRuntime, script: &[u8]) {
     }
 }
 
-/// Writes hints on the first bad lines of `script`, at most [`MOST_HINTS`].
+/// Writes hints to standard error on the first lines of `script` that are no commands, at most five
+/// ([`MOST_HINTS`]), such as `bgpdump: script line 3, "nxt": nxt is no command; see man bgpdump,
+/// SCRIPTS`. What can't be written is lost.
 fn write_line_hints(rt: &HostRuntime, script: &[u8]) {
     let lines = script.split(|octet| *octet == b'\n').zip(1..=u64::MAX);
     for (line, number) in lines.filter(|(line, _)| is_bad(line)).take(MOST_HINTS) {
@@ -111,13 +116,15 @@ fn write_line_hints(rt: &HostRuntime, script: &[u8]) {
     }
 }
 
-/// Returns `true` if a run reports this line of a script as a bad command.
+/// Returns `true` if the execution of the script reports this line as a bad command: it is neither empty
+/// nor a command. Returns `false` if not.
 fn is_bad(line: &[u8]) -> bool {
     !line.is_empty() && read_command(line).is_none()
 }
 
-/// Returns why `line` is no command, by the first of its words that is wrong or missing, or `None` if no
-/// such word is found.
+/// Returns why `line`, which isn't a command, is none: by the first of its words that is wrong, missing
+/// or too many. Returns `None` if no such word is found. (Of `next` alone, which is a command, it would
+/// say that a number is missing.)
 fn find_flaw(line: &[u8]) -> Option<LineFlaw<'_>> {
     if line.ends_with(b"\r") {
         return Some(LineFlaw::CarriageReturn);
@@ -149,7 +156,8 @@ fn find_flaw(line: &[u8]) -> Option<LineFlaw<'_>> {
     }
 }
 
-/// Returns the kinds of the arguments of the command `name`, or `None` if there is no such command.
+/// Returns the kinds of the arguments of the command `name`, in order, or `None` if there is no such
+/// command.
 fn find_argument_kinds(name: &[u8]) -> Option<&'static [ScriptArgumentKind]> {
     match name {
         b"next" | b"back" => Some(TIMES),
@@ -163,18 +171,19 @@ fn find_argument_kinds(name: &[u8]) -> Option<&'static [ScriptArgumentKind]> {
     }
 }
 
-/// Returns `true` if `word` consists of one or more decimal digits.
+/// Returns `true` if `word` consists of one or more ASCII digits, and `false` if not.
 fn is_digits(word: &[u8]) -> bool {
     !word.is_empty() && word.iter().all(|octet| octet.is_ascii_digit())
 }
 
-/// Returns `true` if `word` consists of two or more decimal digits, of which the first is 0.
+/// Returns `true` if `word` consists of two or more ASCII digits, of which the first is 0, and `false` if
+/// not.
 fn has_leading_zero(word: &[u8]) -> bool {
     is_digits(word) && word.len() > 1 && word[0] == b'0'
 }
 
-/// Parses decimal digits, with or without leading zeros. Returns `None` if `word` has another octet or
-/// none, or if the number is above `u32::MAX`.
+/// Parses ASCII digits, with or without leading zeros, as a decimal number. Returns `None` if `word` is
+/// empty or has another octet, or if the number is above `u32::MAX`.
 fn parse_digits(word: &[u8]) -> Option<u32> {
     if !is_digits(word) {
         return None;
@@ -182,7 +191,8 @@ fn parse_digits(word: &[u8]) -> Option<u32> {
     str::from_utf8(word).ok()?.parse().ok()
 }
 
-/// Returns the digits after `AS`, in letters of either case, or `None` if `word` isn't of this form.
+/// Returns the digits after `AS`, in letters of either case, so `65000` for `as65000`. Returns `None` if
+/// `word` isn't of this form. A hint says that `AS` is to be left out.
 fn find_digits_after_as(word: &[u8]) -> Option<&[u8]> {
     let (front, digits) = word.split_at_checked(2)?;
     if front.eq_ignore_ascii_case(b"AS") && is_digits(digits) {
@@ -193,7 +203,7 @@ fn find_digits_after_as(word: &[u8]) -> Option<&[u8]> {
 }
 
 impl ScriptArgumentKind {
-    /// Returns `true` if `word` is a valid argument of this kind.
+    /// Returns `true` if `word` is a valid argument of this kind, and `false` if not.
     fn is_spelled_by(self, word: &[u8]) -> bool {
         let is_number = parse_digits(word).is_some() && !has_leading_zero(word);
         match self {
@@ -205,7 +215,7 @@ impl ScriptArgumentKind {
         }
     }
 
-    /// Returns the name of the kind, with its article.
+    /// Returns the name of the kind with its article, such as `an address`, for a hint.
     fn kind_with_article(self) -> &'static str {
         match self {
             ScriptArgumentKind::Times | ScriptArgumentKind::Number => "a number",
@@ -239,7 +249,8 @@ impl fmt::Display for LineFlaw<'_> {
     }
 }
 
-/// Writes why `word` isn't an argument of the kind `argument`.
+/// Writes to `f` why `word` isn't an argument of the kind `argument`, such as `192.0.2.0/24 is a prefix;
+/// an address is wanted`. The caller has found that it isn't one. Fails if `f` fails.
 fn write_wrong_word<W: fmt::Write>(
     f: &mut fmt::Formatter<W>,
     word: &[u8],
@@ -267,7 +278,8 @@ fn write_wrong_word<W: fmt::Write>(
     }
 }
 
-/// Writes why `word` isn't a number of the kind `argument`.
+/// Writes to `f` why `word` isn't a number of the kind `argument`, such as `write 65000 for AS65000`. The
+/// caller has found that it isn't one. Fails if `f` fails.
 fn write_wrong_number<W: fmt::Write>(
     f: &mut fmt::Formatter<W>,
     word: &[u8],

@@ -1,4 +1,4 @@
-//! The arguments of the command line, as `clap` is given them, with the texts of the help. The
+//! The arguments of the command line as `clap` is given them, with the texts of the help. The
 //! parser (`command_line.rt`) calls [`command`]; read that function first.
 
 ghost use Rattle.std.specs.Prelude.{◌≡◌, IfOk};
@@ -10,28 +10,29 @@ ghost use Rattle.bgpdump_command_line.specs.CommandLine.{input_rule, lines_rule,
 use clap::{Arg, ArgAction, Command};
 use std::alloc::{AllocError, Global};
 
-/// The id of the argument `-m`.
+/// The id by which `clap` knows the argument `-m`, which selects the output of lines.
 pub(crate) const LINES: &str = "lines";
 
-/// The id of the argument `--play`.
+/// The id by which `clap` knows the argument `--play SCRIPT`, which selects the play of a script.
 pub(crate) const SCRIPT: &str = "script";
 
-/// The id of the argument `-t`.
+/// The id by which `clap` knows the argument `-t TIME`, which selects the time of a table's routes.
 pub(crate) const TIMES: &str = "times";
 
-/// The id of the argument `-O`.
+/// The id by which `clap` knows the argument `-O FILE`, which names the output.
 pub(crate) const OUTPUT: &str = "output";
 
-/// The id of the argument INPUT.
+/// The id by which `clap` knows the argument INPUT, which names the MRT file.
 pub(crate) const INPUT: &str = "input";
 
-/// The value of `-t` that selects the time of the dump.
+/// The value of `-t` that selects the time of the dump as that of a table's routes. It is the
+/// default.
 pub(crate) const DUMP: &str = "dump";
 
-/// The value of `-t` that selects the time at which a route originated.
+/// The value of `-t` that selects the time at which a route originated, that is its last change.
 pub(crate) const CHANGE: &str = "change";
 
-/// The accepted values of `-t`.
+/// The accepted values of `-t`; `clap` refuses all others.
 const TIMES_ACCEPTED: &[&str] = &[DUMP, CHANGE];
 
 /// The first line of the help: the name of the program, its version, and what it does. The version
@@ -39,10 +40,10 @@ const TIMES_ACCEPTED: &[&str] = &[DUMP, CHANGE];
 const ABOUT: &str = "\
 Rumpleja's bgpdump 1.0.0: reads what BGP routers write (MRT files, RFC 6396).";
 
-/// The usage line of the help.
+/// The usage line of the help, in place of the one that `clap` would make.
 const USAGE: &str = "bgpdump (-m | --play SCRIPT) [-t dump|change] [-O FILE] INPUT";
 
-/// The text at the end of the help.
+/// The text at the end of the help: examples, and a pointer to the manual page.
 const AFTER_HELP: &str = "\
 Examples:
   bgpdump -m table.mrt            the lines of a file
@@ -52,7 +53,7 @@ Examples:
 `man bgpdump` tells the fields of the lines, the commands of a script and the
 statuses.";
 
-/// Returns the argument `-m`.
+/// Returns the argument `-m`, a flag that selects the output of lines.
 fn lines_argument<'a>(alloc: Global) -> Arg<'a>
     ensures rule { rule_of result ≡ lines_rule }
     ensures alone { ExcludesNone result }
@@ -63,7 +64,7 @@ fn lines_argument<'a>(alloc: Global) -> Arg<'a>
         .help("Prints each route and state change as a line")
 }
 
-/// Returns the argument `--play SCRIPT`.
+/// Returns the argument `--play SCRIPT`, which selects the play of the named script.
 fn script_argument<'a>(alloc: Global) -> Arg<'a>
     ensures rule { rule_of result ≡ script_rule }
     ensures alone { ExcludesNone result }
@@ -74,7 +75,8 @@ fn script_argument<'a>(alloc: Global) -> Arg<'a>
         .help("Steps through INPUT as the commands in SCRIPT say")
 }
 
-/// Returns the argument `-t`, whose value is `dump`, the default, or `change`.
+/// Returns the argument `-t TIME`, whose value is `dump`, the default, or `change`: which time the
+/// routes of tables get.
 fn times_argument<'a>(alloc: Global) -> Arg<'a>
     ensures rule { IsTimesRule (rule_of result) }
     ensures alone { ExcludesNone result }
@@ -88,7 +90,7 @@ fn times_argument<'a>(alloc: Global) -> Arg<'a>
         .help("Time of a table's routes: dump or change")
 }
 
-/// Returns the argument `-O FILE`.
+/// Returns the argument `-O FILE`, which names the output if that isn't standard output.
 fn output_argument<'a>(alloc: Global) -> Arg<'a>
     ensures rule { rule_of result ≡ output_rule }
     ensures alone { ExcludesNone result }
@@ -99,7 +101,7 @@ fn output_argument<'a>(alloc: Global) -> Arg<'a>
         .help("Writes to FILE, made new or emptied")
 }
 
-/// Returns the argument `INPUT`, which is required.
+/// Returns the argument `INPUT`, the MRT file or `-`. Without it, `clap` refuses the command line.
 fn input_argument<'a>(alloc: Global) -> Arg<'a>
     ensures rule { rule_of result ≡ input_rule }
     ensures alone { ExcludesNone result }
@@ -112,7 +114,8 @@ fn input_argument<'a>(alloc: Global) -> Arg<'a>
         .help("The file to read, or - for standard input")
 }
 
-/// Returns the command with all arguments. Fails if memory allocation fails.
+/// Returns the description of the program for `clap`: its help, and all its arguments. Fails if
+/// memory allocation fails.
 pub(crate) fn command<'a>(alloc: Global) -> Result<Command<'a>, AllocError>
     ensures app { IfOk result (λ command. IsCommandLine (app_of command)) }
     ensures input { IfOk result TakesInput }

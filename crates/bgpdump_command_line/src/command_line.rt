@@ -13,8 +13,10 @@ use clap::error::ErrorKind;
 use mrt_events::Stamp;
 use std::alloc::Global;
 
-/// Parses the arguments `words`, of which the first is the name of the program, into settings.
-/// Fails with the [`UsageFault`] to report, or with [`UsageFault::Help`] if help is requested.
+/// Parses the arguments of the command line, `words`, of which the first is the name of the
+/// program, into the settings of the program. Fails with the [`UsageFault`] to report: invalid
+/// arguments, a mode that isn't one, standard input as both script and input, a lack of memory, or,
+/// for a request of help, [`UsageFault::Help`] with its text.
 pub fn settings(alloc: Global, words: Vec<String>) -> Result<Settings, UsageFault>
     ensures answers { Answers (map string_bytes words.items) result }
 {
@@ -24,7 +26,8 @@ pub fn settings(alloc: Global, words: Vec<String>) -> Result<Settings, UsageFaul
     }
 }
 
-/// Converts an error of `clap` to a fault with its text, or to `Memory` if memory allocation fails.
+/// Converts an error of `clap` to a fault with its text: `Help` for a request of help, or else
+/// `Words`. It is `Memory` if memory allocation failed, here or in `clap`.
 fn fault_of_parse_error(alloc: Global, error: &clap::Error) -> UsageFault
     ensures { IsFaultOf (kind_of error.now) result }
 {
@@ -38,9 +41,10 @@ fn fault_of_parse_error(alloc: Global, error: &clap::Error) -> UsageFault
     }
 }
 
-/// Returns the settings in `matches`, which must have a value of `INPUT`. Fails with `Mode` unless
-/// one mode is selected, with `TwoInputs` if the script and the input are both standard input, or
-/// with `Memory` if memory allocation fails.
+/// Returns the settings that the parsed arguments `matches` select. Requires that these have a
+/// value of `INPUT`. Fails with `Mode` unless exactly one of `-m` and `--play` is there, with
+/// `TwoInputs` if the script and the input are both `-`, or with `Memory` if memory allocation
+/// fails.
 fn settings_of(alloc: Global, matches: &ArgMatches<'_>) -> Result<Settings, UsageFault>
     requires input { is_some (input_of (rows_of (found_of matches.now))) ≡ true }
     ensures gives { GivesSettings (rows_of (found_of matches.now)) result }
@@ -62,8 +66,9 @@ fn settings_of(alloc: Global, matches: &ArgMatches<'_>) -> Result<Settings, Usag
     })
 }
 
-/// Returns the mode that `matches` select. Fails with `Mode` unless exactly one of `-m` and
-/// `--play` is in them, or with `Memory` if memory allocation fails.
+/// Returns the mode that the parsed arguments `matches` select: lines for `-m`, or the play of a
+/// script for `--play`. Fails with `Mode` unless exactly one of them is there, or with `Memory` if
+/// memory allocation fails.
 fn mode_of(alloc: Global, matches: &ArgMatches<'_>) -> Result<Mode, UsageFault>
     ensures { GivesMode (rows_of (found_of matches.now)) result }
 {
@@ -74,21 +79,23 @@ fn mode_of(alloc: Global, matches: &ArgMatches<'_>) -> Result<Mode, UsageFault>
     }
 }
 
-/// Returns `true` if `-m` is in `matches`.
+/// Returns `true` if `-m` is among the parsed arguments `matches`, and `false` if not.
 fn has_lines_flag(matches: &ArgMatches<'_>) -> bool
     ensures { result ≡ has_lines_flag (rows_of (found_of matches.now)) }
 {
     matches.get_one::<bool>(LINES).unwrap_or(false)
 }
 
-/// Returns `true` if the script and the input are both standard input.
+/// Returns `true` if the script and the input are both named `-`, standard input, which can be read
+/// only once; `false` if at most one is.
 fn reads_stdin_twice(matches: &ArgMatches<'_>) -> bool
     ensures { result ≡ reads_stdin_twice (rows_of (found_of matches.now)) }
 {
     has_value(matches, SCRIPT, STANDARD_INPUT) && has_value(matches, INPUT, STANDARD_INPUT)
 }
 
-/// Returns the choice of the time that the routes of a table get, by the value of `-t`.
+/// Returns which time the routes of a table get, by the value of `-t`: that of their last change
+/// for `change`, or else that of the dump.
 fn selected_stamp(matches: &ArgMatches<'_>) -> Stamp
     ensures { result ≡ selected_stamp (rows_of (found_of matches.now)) }
 {
@@ -99,14 +106,16 @@ fn selected_stamp(matches: &ArgMatches<'_>) -> Stamp
     }
 }
 
-/// Returns `true` if `argument` has the value `value` in `matches`.
+/// Returns `true` if the argument with the id `argument` has the value `value` in the parsed
+/// arguments `matches`, and `false` if it has another one or none.
 fn has_value(matches: &ArgMatches<'_>, argument: &str, value: &str) -> bool
     ensures { result ≡ equals_text value.now (first_of argument.now (rows_of (found_of matches.now))) }
 {
     value_of(matches, argument) == Some(value)
 }
 
-/// Returns the value of `argument` in `matches`, or `None` if it has none.
+/// Returns the value of the argument with the id `argument` in the parsed arguments `matches`, or
+/// `None` if it has none.
 fn value_of<'a>(matches: &ArgMatches<'a>, argument: &str) -> Option<&'a str>
     ensures { option_map (λ text. text.now) result
         ≡ first_of argument.now (rows_of (found_of matches.now)) }

@@ -8,47 +8,50 @@ use mrt_events::Stamp;
 use std::alloc::AllocError;
 use thiserror::Error;
 
-/// The name of standard input, as an input and as a script.
+/// The name by which the command line refers to standard input, as the MRT file or as the script:
+/// `-`.
 pub const STANDARD_INPUT: &str = "-";
 
-/// The mode of the program: what it does with its input.
+/// What the program does with the MRT file that it reads.
 #[derive(Debug, PartialEq, Eq, Drop)]
 pub enum Mode {
-    /// Prints each route and state change as a line (`-m`).
+    /// Writes each route, withdrawal and state change as a line (`-m`).
     Lines,
-    /// Carries out the commands of the script with this name (`--play`).
+    /// Carries out the commands of the script with this file name, or `-` for standard input
+    /// (`--play`).
     Play(String),
 }
 
-/// The settings of a run. Names are as they were given.
+/// What the command line selects: what the program does, and with which files. File names are as
+/// they were given.
 #[derive(Debug, PartialEq, Eq, Drop)]
 pub struct Settings {
-    /// The mode of the program.
+    /// What the program does with the MRT file.
     pub mode: Mode,
-    /// The choice of the time that the routes of a table get.
+    /// Which time the routes of a table get: that of the dump, or that of their last change.
     pub stamp: Stamp,
     /// The name of the output file, or `None` for standard output.
     pub output: Option<String>,
-    /// The name of the input file, or `-` for standard input.
+    /// The name of the MRT file, or `-` for standard input.
     pub input: String,
 }
 
-/// The reason for which a command line selects no settings.
+/// The reason for which a command line selects no settings. A request of help counts as one.
 #[derive(Debug, PartialEq, Eq, Drop, Error)]
 pub enum UsageFault {
     /// The arguments aren't valid. The text, which is `clap`'s, says why.
     #[error("{0}")]
     Words(String),
-    /// None or both of `-m` and `--play` are there.
+    /// None or both of `-m` and `--play` are there; exactly one is needed.
     #[error("choose one of -m and --play")]
     Mode,
-    /// The script and the input are both standard input.
+    /// The script and the input are both `-`, standard input, which can be read only once.
     #[error("standard input named twice")]
     TwoInputs,
     /// Memory allocation failed.
     #[error("out of memory")]
     Memory,
-    /// Help was requested. This is its text.
+    /// Help was requested, which isn't an error. This is its text.
     #[error("{0}")]
     Help(String),
 }

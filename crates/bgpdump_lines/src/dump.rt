@@ -1,5 +1,5 @@
-//! The run of `bgpdump -m`: reads records until the input ends, and prints each of them. The program
-//! calls [`run_dump`]; read it first, then `write.rt`, which prints a record.
+//! An execution of `bgpdump -m`: reads MRT records until the input ends, and writes each of them as lines
+//! of text. The program calls [`run_dump`]; read it first, then `write.rt`, which writes a record.
 
 ghost use Rattle.std.specs.Prelude.{◌≡◌, ◌≢◌, ◌↔◌, ◌||◌, ℕ, List, false, IsTrue, length};
 ghost use Rattle.std.specs.Io.KnownBytes.{Consumes};
@@ -17,16 +17,19 @@ use ip_prefix::Text;
 use mrt_wire::{Input, Next, Source, Stamp};
 use std::alloc::Global;
 
-/// The largest number of octets that a run takes from its input: 2^40.
+/// The largest number of octets that an execution of the program takes from its input: 2^40. If the input
+/// is longer, it ends as [`Outcome::InputTooLong`].
 pub const INPUT_LIMIT: u64 = 1 << 40;
 
-/// Prints the MRT records (RFC 6396) in `input`: the lines of events to `out`, and the reports of faulty
-/// records to `err`. Each record is printed before the next one is read, and both outputs are flushed
-/// before a read that may wait. `stamp` selects the time that
-/// the routes of tables get.
+/// Writes the MRT records (RFC 6396) in `input` as text: the lines of their routes, withdrawals and state
+/// changes to `out`, and a line for each faulty record to `err`. Each record is written before the next
+/// one is read, and both outputs are flushed before a read that may wait. `stamp` selects which time the
+/// routes of tables get: that of the dump, or that of their last change. Requires that no device has
+/// failed before.
 ///
-/// The run ends with the input, after a header with a length above 16,777,216 octets, or at the first
-/// error. If nothing fails, it finishes `out` and then `err`.
+/// It stops at the end of the input, after a header with a length above 16,777,216 octets (which is
+/// reported), or at the first error, which the [`Outcome`] names. If nothing fails, it finishes `out` and
+/// then `err`.
 pub fn run_dump<I: Input, O: Output, E: Output>(
     alloc: Global,
     input: &mut I,
@@ -79,8 +82,10 @@ pub fn run_dump<I: Input, O: Output, E: Output>(
     }
 }
 
-/// Reads records and prints them until the input ends. Returns `true` if a record was reported. Fails
-/// with the outcome that ends the run.
+/// Writes the MRT records in `input` as [`run_dump`] does, but doesn't finish the outputs. Returns `true`
+/// if at least one faulty record was reported to `err`, and `false` if none was. Fails with the outcome
+/// of the program: a failed read or write, an input that is too long, or a lack of memory. `stamp`
+/// selects which time the routes of tables get: that of the dump, or that of their last change.
 fn dump_all<I: Input, O: Output, E: Output>(
     alloc: Global,
     input: &mut I,

@@ -1,4 +1,5 @@
-//! Appends the lines of events to a text, one for each item. [`put_lines`] is for users of the library;
+//! Appends the lines of an event to a text, one for each item. An event is what an MRT record reports;
+//! its items are announcements, withdrawals and state changes. [`put_lines`] is for users of the library;
 //! `write.rt` calls the parts of it, and writes a text that gets long before it goes on. On error, each
 //! function but `append_lines` and `put_lines` may have appended a part. Read [`put_item_line`] first.
 
@@ -18,8 +19,12 @@ use ip_prefix::Text;
 use mrt_wire::{Event, Item};
 use std::alloc::AllocError;
 
-/// Appends the line of `item`, and returns it if the item is an announcement. `last` is the last line of
-/// `text`, if that prints a route under this heading: what both lines have in common is copied.
+/// Appends the line of `item`, an announcement, withdrawal or state change, such as
+/// `BGP4MP|1700000000|W|192.0.2.1|65000|198.51.100.0/24`. `heading` gives the kind and the time of its
+/// record. Returns the description of the new line if it is an announcement's, for the next call, or
+/// `None` if it is another one's. `last`, if given, describes the last line of `text`; it requires that
+/// this line prints a route under `heading`. What both lines have in common is copied from it. Fails if
+/// memory allocation fails; `text` then ends with an unspecified part of the line.
 #[inline(always)]
 pub(crate) fn put_item_line<'a>(
     heading: &Heading,
@@ -60,7 +65,10 @@ pub(crate) fn put_item_line<'a>(
     }
 }
 
-/// Appends the lines of `items`, or nothing if there are none.
+/// Appends a line for each of `items` (announcements, withdrawals, state changes), or nothing if there
+/// are none. `heading` gives the kind and the time of their record. This is the inlined test for the
+/// usual case that there are none. Fails if memory allocation fails; `text` then ends with an unspecified
+/// part of the lines.
 #[inline(always)]
 fn put_item_lines(heading: &Heading, items: &[Item], text: &mut Text) -> Result<(), AllocError>
     ensures { Prints text.old text.new (lines_under_heading heading.now (map item_value items.now)) result }
@@ -71,7 +79,10 @@ fn put_item_lines(heading: &Heading, items: &[Item], text: &mut Text) -> Result<
     put_nonempty_item_lines(heading, items, text)
 }
 
-/// Appends the lines of `items`. What a line has in common with the one before it is copied.
+/// Appends a line for each of `items` (announcements, withdrawals, state changes; none is allowed, too).
+/// `heading` gives the kind and the time of their record. What an announcement's line has in common with
+/// the one before it is copied. Fails if memory allocation fails; `text` then ends with an unspecified
+/// part of the lines.
 #[inline(never)]
 fn put_nonempty_item_lines(
     heading: &Heading,
@@ -88,9 +99,11 @@ fn put_nonempty_item_lines(
     Ok(())
 }
 
-/// Appends the line of `item`, which must announce the route of `first`. `last` are the offsets of the
-/// fields of the last line of `text`, which prints that route: all but the prefix is copied. Returns the
-/// offsets of the new line's fields.
+/// Appends the line of `item`, which repeats the last line of `text` with another prefix. Requires that
+/// `item` announces the peer and the route of `first`, and that `last` has the offsets of the fields of
+/// the last line of `text`, which prints that peer and route under `heading`. Returns the offsets of the
+/// new line's fields in `text`. Fails if memory allocation fails; `text` then ends with an unspecified
+/// part of the line.
 #[inline(always)]
 pub(crate) fn put_another_prefix(
     heading: &Heading,
@@ -112,8 +125,10 @@ pub(crate) fn put_another_prefix(
     }
 }
 
-/// Appends the lines of `items`, which must announce the route of `first`. `offsets` are those of the
-/// fields of the last line of `text`, which prints that route.
+/// Appends a line for each of `items`, which repeats the line before it with another prefix. Requires
+/// that each item announces the peer and the route of `first`, and that `offsets` are those of the fields
+/// of the last line of `text`, which prints that peer and route under `heading`. Fails if memory
+/// allocation fails; `text` then ends with an unspecified part of the lines.
 #[inline(always)]
 fn put_other_prefixes(
     heading: &Heading,
@@ -133,8 +148,8 @@ fn put_other_prefixes(
     Ok(())
 }
 
-/// Returns the first of several announcements of one route, and the items after it, or `None` if `items`
-/// is empty.
+/// Splits announcements into the first one and the items after it. Returns `None` if `items` is empty.
+/// Requires that all items are announcements of one route of one peer.
 #[inline(always)]
 pub(crate) fn split_first_announcement(items: &[Item]) -> Option<(Announcement<'_>, &[Item])>
     requires { AnnounceOneRoute (map item_value items.now) }
@@ -153,7 +168,10 @@ pub(crate) fn split_first_announcement(items: &[Item]) -> Option<(Announcement<'
     Some((first, rest))
 }
 
-/// Appends the lines of `items`, which must be announcements of one route of a peer.
+/// Appends a line for each of `items`, or nothing if there are none. Requires that all are announcements
+/// of one route of one peer, so that their lines differ in the prefix alone. `heading` gives the kind and
+/// the time of their record. Fails if memory allocation fails; `text` then ends with an unspecified part
+/// of the lines.
 #[inline(always)]
 fn put_shared_route(heading: &Heading, items: &[Item], text: &mut Text) -> Result<(), AllocError>
     requires { AnnounceOneRoute (map item_value items.now) }
@@ -166,7 +184,8 @@ fn put_shared_route(heading: &Heading, items: &[Item], text: &mut Text) -> Resul
     put_other_prefixes(heading, first, offsets, rest, text)
 }
 
-/// Appends the lines of `event`, one for each item.
+/// Appends the lines of `event`, one for each of its items (announcements, withdrawals, state changes) in
+/// order. Fails if memory allocation fails; `text` then ends with an unspecified part of the lines.
 #[inline(always)]
 fn put_event_lines(event: &Event, text: &mut Text) -> Result<(), AllocError>
     ensures { Prints text.old text.new (event_lines event.now) result }
@@ -180,7 +199,9 @@ fn put_event_lines(event: &Event, text: &mut Text) -> Result<(), AllocError>
     Ok(())
 }
 
-/// Appends the lines of `event` to `text`, one for each item. On error, `text` is unchanged.
+/// Appends the lines of `event`, what an MRT record reports, to `text`: one for each of its items
+/// (announcements, withdrawals, state changes) in order. Fails if memory allocation fails; `text` is
+/// unchanged then.
 #[inline(always)]
 pub(crate) fn append_lines(event: &Event, text: &mut Text) -> Result<(), AllocError>
     ensures appended { OnOk result (text.new ≡ text.old ++ event_lines event.now) }
@@ -194,8 +215,10 @@ pub(crate) fn append_lines(event: &Event, text: &mut Text) -> Result<(), AllocEr
     result
 }
 
-/// Appends the lines of `event` to `text`, one for each item, as `bgpdump -m` prints them. On error,
-/// `text` is unchanged.
+/// Appends the lines of `event`, what an MRT record reports, to `text`: one for each of its items
+/// (announcements, withdrawals, state changes) in order, as `bgpdump -m` writes them, such as
+/// `BGP4MP|1700000000|W|192.0.2.1|65000|198.51.100.0/24` and a line feed. Fails if memory allocation
+/// fails; `text` is unchanged then.
 pub fn put_lines(event: &Event, text: &mut Vec<u8>) -> Result<(), AllocError>
     ensures appended { OnOk result (text.new.items ≡ text.old.items ++ event_lines event.now) }
     ensures unchanged { OnErr result (text.new.items ≡ text.old.items) }

@@ -1,5 +1,6 @@
-//! Errors of printing, and the [`Outcome`] of a run that an error ends. All functions of `write.rt` fail
-//! with a [`WriteFault`]; runs convert it, and the faults of a `Source`, by `?`.
+//! Errors of writing text, and the [`Outcome`] of an execution of the program that such an error ends.
+//! All functions of `write.rt` fail with a [`WriteFault`]; the operator `?` converts it, and the faults
+//! of a `Source` of records, to an `Outcome`.
 
 ghost use Rattle.std.specs.Prelude.{◌≡◌};
 ghost use Rattle.bgpdump_lines.specs.declared.fault.WriteFault.TheVariants.{Write, Memory};
@@ -10,12 +11,12 @@ use crate::output::OutFault;
 use mrt_wire::SourceFault;
 use std::alloc::AllocError;
 
-/// An error of writing a text to an output.
+/// The reason for which a text couldn't be assembled or written to an [`Output`](crate::Output).
 #[derive(Clone, Copy, Debug, PartialEq, Eq)]
 pub enum WriteFault {
-    /// The output failed.
+    /// The output failed: a write or a flush.
     Write,
-    /// Memory allocation failed.
+    /// Memory allocation failed while the text was assembled.
     Memory,
 }
 

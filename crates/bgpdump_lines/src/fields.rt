@@ -1,6 +1,6 @@
-//! Appends the fields of a line after its first ones, each with the bar ahead of it. `event_lines.rt` and
-//! `route_line.rt` call these functions; on error, each may have appended a part. The first fields of a
-//! line are in `heading.rt`. Read [`put_attribute_fields`] first.
+//! Appends the fields of a line after its first ones (which are in `heading.rt`), each with the bar `|`
+//! ahead of it. `event_lines.rt` and `route_line.rt` call these functions; on error, each may have
+//! appended a part. Read [`put_attribute_fields`] first.
 
 ghost use Rattle.std.specs.Prelude.{◌∷◌, ◌++◌, decimal};
 ghost use Rattle.ip_prefix.specs.Text.{address_text, network_text};
@@ -13,10 +13,11 @@ use ip_prefix::{Addr, Prefix, SPACE, Text};
 use mrt_wire::Peer;
 use std::alloc::AllocError;
 
-/// The octet that separates the fields of a line.
+/// The octet `|`, which separates the fields of a line.
 pub(crate) const BAR: u8 = b'|';
 
-/// Appends a field to `text`: a bar and `number` in decimal. On error, a part may have been appended.
+/// Appends a field of a line to `text`: a bar and `number` in decimal, such as `|120`. Fails if memory
+/// allocation fails; `text` then ends with an unspecified part of the field.
 pub fn put_number_field(number: u64, text: &mut Text) -> Result<(), AllocError>
     ensures { Prints text.old text.new (bar ∷ decimal number) result }
 {
@@ -24,7 +25,8 @@ pub fn put_number_field(number: u64, text: &mut Text) -> Result<(), AllocError>
     text.put_decimal_u64(number)
 }
 
-/// Appends the field of a number of 32 bits: a bar and `number` in decimal.
+/// Appends the field of a number of 32 bits: a bar and `number` in decimal, such as `|120`. Fails if
+/// memory allocation fails; `text` then ends with an unspecified part of the field.
 #[inline(always)]
 pub(crate) fn put_u32_field(number: u32, text: &mut Text) -> Result<(), AllocError>
     ensures { Prints text.old text.new (bar ∷ decimal number) result }
@@ -32,8 +34,9 @@ pub(crate) fn put_u32_field(number: u32, text: &mut Text) -> Result<(), AllocErr
     text.put_led_decimal(BAR, number)
 }
 
-/// Appends the two fields of a peer to `text`: a bar and its address, a bar and its AS number. On error,
-/// a part may have been appended.
+/// Appends the two fields of a BGP peer to `text`: a bar and its address, a bar and its AS number, such
+/// as `|192.0.2.1|65000`. Fails if memory allocation fails; `text` then ends with an unspecified part of
+/// them.
 #[inline(always)]
 pub fn put_peer_fields(peer: &Peer, text: &mut Text) -> Result<(), AllocError>
     ensures { Prints text.old text.new
@@ -43,7 +46,9 @@ pub fn put_peer_fields(peer: &Peer, text: &mut Text) -> Result<(), AllocError>
     put_u32_field(peer.asn, text)
 }
 
-/// Appends the field of a prefix: a bar, its address, `/`, and its length in bits.
+/// Appends the field of a prefix: a bar, its address, `/`, and its length in bits, such as
+/// `|198.51.100.0/24`. Fails if memory allocation fails; `text` then ends with an unspecified part of the
+/// field.
 #[inline(always)]
 pub(crate) fn put_prefix_field(prefix: &Prefix, text: &mut Text) -> Result<(), AllocError>
     ensures { Prints text.old text.new (bar ∷ network_text prefix.now) result }
@@ -52,7 +57,8 @@ pub(crate) fn put_prefix_field(prefix: &Prefix, text: &mut Text) -> Result<(), A
 }
 
 /// Appends the field of ORIGIN (RFC 4271, section 5.1.1): a bar and `IGP`, `EGP` or `INCOMPLETE`, or only
-/// a bar for `None`.
+/// a bar for `None`, where a route has no such attribute. Fails if memory allocation fails; `text` then
+/// ends with an unspecified part of the field.
 #[inline(always)]
 fn put_origin_field(origin: Option<Origin>, text: &mut Text) -> Result<(), AllocError>
     ensures { Prints text.old text.new (bar ∷ origin_text origin) result }
@@ -65,7 +71,8 @@ fn put_origin_field(origin: Option<Origin>, text: &mut Text) -> Result<(), Alloc
     }
 }
 
-/// Appends the field of the next hop: a bar and its address, or only a bar for `None`.
+/// Appends the field of the next hop: a bar and its address, such as `|192.0.2.1`, or only a bar for
+/// `None`. Fails if memory allocation fails; `text` then ends with an unspecified part of the field.
 #[inline(always)]
 fn put_next_hop_field(next_hop: Option<Addr>, text: &mut Text) -> Result<(), AllocError>
     ensures { Prints text.old text.new (bar ∷ next_hop_text next_hop) result }
@@ -76,8 +83,9 @@ fn put_next_hop_field(next_hop: Option<Addr>, text: &mut Text) -> Result<(), All
     }
 }
 
-/// Appends the field of LOCAL_PREF or MULTI_EXIT_DISC: a bar and the value in decimal, or a bar and `0`
-/// for `None`.
+/// Appends the field of LOCAL_PREF or MULTI_EXIT_DISC (RFC 4271, section 5.1): a bar and the value in
+/// decimal, such as `|100`, or `|0` for `None`, where a route has no such attribute. Fails if memory
+/// allocation fails; `text` then ends with an unspecified part of the field.
 #[inline(always)]
 fn put_number_or_zero_field(number: Option<u32>, text: &mut Text) -> Result<(), AllocError>
     ensures { Prints text.old text.new (bar ∷ number_or_zero number) result }
@@ -89,7 +97,9 @@ fn put_number_or_zero_field(number: Option<u32>, text: &mut Text) -> Result<(), 
     }
 }
 
-/// Appends the field of COMMUNITIES (RFC 1997): a bar and the communities, separated by spaces.
+/// Appends the field of COMMUNITIES (RFC 1997): a bar and the communities, separated by spaces, such as
+/// `|65000:1 no-export`, or only the bar if there are none. Fails if memory allocation fails; `text` then
+/// ends with an unspecified part of the field.
 fn put_community_field(communities: &Communities, text: &mut Text) -> Result<(), AllocError>
     ensures { Prints text.old text.new (bar ∷ communities_text communities.now) result }
 {
@@ -97,7 +107,9 @@ fn put_community_field(communities: &Communities, text: &mut Text) -> Result<(),
     append_communities(communities.as_slice(), text)
 }
 
-/// Appends the field of ATOMIC_AGGREGATE: a bar and `AG` if a route has it, or else `NAG`.
+/// Appends the field of ATOMIC_AGGREGATE (RFC 4271, section 5.1.6): `|AG` if `atomic`, that is if the
+/// route has this attribute, or else `|NAG`. Fails if memory allocation fails; `text` then ends with an
+/// unspecified part of the field.
 #[inline(always)]
 fn put_atomic_field(atomic: bool, text: &mut Text) -> Result<(), AllocError>
     ensures { Prints text.old text.new (bar ∷ atomic_word atomic) result }
@@ -109,8 +121,9 @@ fn put_atomic_field(atomic: bool, text: &mut Text) -> Result<(), AllocError>
     }
 }
 
-/// Appends the field of AGGREGATOR: a bar, its AS number, a space and its address, or only a bar for
-/// `None`.
+/// Appends the field of AGGREGATOR (RFC 4271, section 5.1.7): a bar, its AS number, a space and its
+/// address, such as `|65000 192.0.2.1`, or only a bar for `None`, where a route has no such attribute.
+/// Fails if memory allocation fails; `text` then ends with an unspecified part of the field.
 #[inline(always)]
 fn put_aggregator_field(aggregator: Option<Aggregator>, text: &mut Text) -> Result<(), AllocError>
     ensures { Prints text.old text.new (bar ∷ aggregator_text aggregator) result }
@@ -124,8 +137,10 @@ fn put_aggregator_field(aggregator: Option<Aggregator>, text: &mut Text) -> Resu
     }
 }
 
-/// Appends the fields of a route's attributes, which follow the prefix of its line, then an empty field
-/// and a line feed.
+/// Appends the fields of a route's attributes, which follow the prefix in its line, then an empty field
+/// and a line feed, such as `|65000 65001|IGP|192.0.2.1|100|0|65000:1|NAG||`: AS_PATH, ORIGIN, next hop,
+/// LOCAL_PREF, MULTI_EXIT_DISC, COMMUNITIES, ATOMIC_AGGREGATE and AGGREGATOR. Fails if memory allocation
+/// fails; `text` then ends with an unspecified part of them.
 pub(crate) fn put_attribute_fields(attrs: &Attrs, text: &mut Text) -> Result<(), AllocError>
     ensures { Prints text.old text.new (bar ∷ line_from_fields (attribute_fields attrs.now)) result }
 {

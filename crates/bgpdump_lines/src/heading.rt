@@ -1,6 +1,7 @@
-//! Appends the first fields of a line: the kind of the record, the time, and the letter of a route.
-//! `event_lines.rt` and `route_line.rt` call these functions with the [`Heading`] of an event or of a
-//! table; read that type first. On error, each function may have appended a part.
+//! Appends the first fields of a line: the kind of the record, the time, and the letter that tells a
+//! route of a table (`B`) from an announcement (`A`). `event_lines.rt` and `route_line.rt` call these
+//! functions with the [`Heading`] of a record or of a table; read that type first. On error, each
+//! function may have appended a part.
 
 ghost use Rattle.std.specs.Prelude.{◌≡◌, ◌∷◌, ◌++◌};
 ghost use Rattle.bgpdump_lines.specs.WrittenSoFar.{Prints};
@@ -18,31 +19,35 @@ use ip_prefix::Text;
 use mrt_wire::{Event, Route, Tag, Time};
 use std::alloc::AllocError;
 
-/// The least number of digits that microseconds are printed with.
+/// The least number of decimal digits that the microseconds of a time are written with: 6, with leading
+/// zeros.
 const MICROS_DIGITS: usize = 6;
 
-/// The first field of a line.
+/// The choice of the first field of a line.
 #[derive(Clone, Copy)]
 pub(crate) enum FirstField {
-    /// The kind of the record that the line is from, such as `BGP4MP`.
+    /// The kind of the record that the line is from: `TABLE_DUMP`, `TABLE_DUMP2`, `BGP4MP` or
+    /// `BGP4MP_ET`.
     Record,
-    /// `RIB`, for a route in the table of a peer.
+    /// `RIB`, for a route in the table of a peer that the player of a script keeps.
     Rib,
 }
 
-/// What all lines of an event, or of a peer's table, have in common.
+/// What all lines of a record, or of a peer's table, have in common, and from which their first fields
+/// are made: such as `BGP4MP|1700000000`.
 #[derive(Clone, Copy)]
 pub(crate) struct Heading {
-    /// The first field.
+    /// The choice of the first field: the kind of the record, or `RIB`.
     pub(crate) first: FirstField,
-    /// The time of the record. It isn't printed in the lines of a table, whose routes have a time each.
+    /// The time of the record. It isn't written in the lines of routes of a table, which have a time
+    /// each.
     pub(crate) time: Time,
-    /// The kind of the record.
+    /// The kind of the record, by its MRT type, which also selects the form of the time and the letter.
     pub(crate) tag: Tag,
 }
 
 impl Heading {
-    /// Returns the heading of the lines of `event`.
+    /// Returns the heading of the lines of `event`, what an MRT record reports: its kind and its time.
     #[inline(always)]
     pub(crate) fn of(event: &Event) -> Heading
         ensures line { line_under_heading result ≡ item_line event.now.time event.now.tag }
@@ -55,8 +60,8 @@ impl Heading {
         }
     }
 
-    /// Returns the heading of the lines of a peer's table: `RIB`, and then the fields of an entry of a
-    /// TABLE_DUMP_V2 record.
+    /// Returns the heading of the lines of a peer's table: their first field is `RIB`, and the others are
+    /// those of a route from a TABLE_DUMP_V2 record, such as `RIB|1700000000|B`.
     #[inline(always)]
     pub(crate) fn for_rib_lines() -> Heading
         ensures { (peer : Peer) (prefix : Network) (route : Route) →
@@ -73,7 +78,9 @@ impl Heading {
     }
 }
 
-/// Appends the first field of a line, without a bar: `RIB`, or the kind of the record.
+/// Appends the first field of a line, without a bar: `RIB` if `heading.first` is [`FirstField::Rib`], or
+/// else the kind of the record, `TABLE_DUMP`, `TABLE_DUMP2`, `BGP4MP` or `BGP4MP_ET`. Fails if memory
+/// allocation fails; `text` then ends with an unspecified part of the field.
 #[inline(always)]
 fn put_first_field(heading: &Heading, text: &mut Text) -> Result<(), AllocError>
     ensures { Prints text.old text.new (first_field heading.now) result }
@@ -87,7 +94,9 @@ fn put_first_field(heading: &Heading, text: &mut Text) -> Result<(), AllocError>
     }
 }
 
-/// Appends microseconds in decimal, with leading zeros up to [`MICROS_DIGITS`] digits.
+/// Appends the microseconds of a time in decimal, with leading zeros up to 6 digits ([`MICROS_DIGITS`]),
+/// such as `000250`. A number of more digits, which a faulty record may have, is written in full. Fails
+/// if memory allocation fails; `text` then ends with an unspecified part of them.
 fn put_micros(micros: u32, text: &mut Text) -> Result<(), AllocError>
     ensures { Prints text.old text.new (micros_text micros) result }
 {
@@ -101,8 +110,10 @@ fn put_micros(micros: u32, text: &mut Text) -> Result<(), AllocError>
     Ok(())
 }
 
-/// Appends the field of a record's time: a bar and the seconds since 1970, and for BGP4MP_ET a dot and
-/// the microseconds (RFC 6396, section 3), which count as 0 if `heading` has none.
+/// Appends the field of a record's time: a bar and the seconds since 1970, such as `|1700000000`, and for
+/// BGP4MP_ET a dot and the microseconds (RFC 6396, section 3), such as `|1700000000.000250`, which count
+/// as 0 if `heading` has none. Fails if memory allocation fails; `text` then ends with an unspecified
+/// part of the field.
 #[inline(always)]
 fn put_time_field(heading: &Heading, text: &mut Text) -> Result<(), AllocError>
     ensures { Prints text.old text.new (bar ∷ time_text heading.now.tag heading.now.time) result }
@@ -115,8 +126,9 @@ fn put_time_field(heading: &Heading, text: &mut Text) -> Result<(), AllocError>
     Ok(())
 }
 
-/// Appends the first two fields of a withdrawal's or a state change's line: the kind of the record, and
-/// its time.
+/// Appends the first two fields of the line of a withdrawal or a state change: the kind of the record,
+/// and its time, such as `BGP4MP|1700000000`. Fails if memory allocation fails; `text` then ends with an
+/// unspecified part of them.
 #[inline(always)]
 pub(crate) fn put_kind_and_time(heading: &Heading, text: &mut Text) -> Result<(), AllocError>
     ensures { Prints text.old text.new
@@ -126,9 +138,10 @@ pub(crate) fn put_kind_and_time(heading: &Heading, text: &mut Text) -> Result<()
     put_time_field(heading, text)
 }
 
-/// Appends the first three fields of a route's line: the kind of the record, a time, and `B` for an entry
-/// of a table or `A` for an announcement. The time is `route.time` for an entry, and the time of the
-/// record for an announcement.
+/// Appends the first three fields of a route's line, such as `TABLE_DUMP2|1700000000|B`: the kind of the
+/// record or `RIB`, a time, and `B` for a route of a table or `A` for an announcement. The time is
+/// `route.time` for a route of a table, and the time of the record for an announcement. Fails if memory
+/// allocation fails; `text` then ends with an unspecified part of them.
 #[inline(always)]
 pub(crate) fn put_first_three_fields(
     heading: &Heading,

@@ -1,13 +1,16 @@
-//! A theorem about the constants that the definitions of this crate name. The function has no code and
-//! nothing calls it: what it states is proved as the crate is checked.
+//! A theorem about constants of this crate. The function has no code and nothing calls it: what it states
+//! is proved as the crate is checked.
 
 ghost use Rattle.std.specs.Prelude.{◌≡◌, ◌^◌, [], ◌∷◌, codes};
 ghost use Rattle.bgpdump_lines.specs.declared.dump.TheConstants.{INPUT_LIMIT};
 ghost use Rattle.bgpdump_lines.specs.declared.heading.TheConstants.{MICROS_DIGITS};
 ghost use Rattle.bgpdump_lines.specs.Lines.{bar, line_feed, dot, zero_digit, space};
 
-/// Proves the values of the constants that the definitions name: the largest number of octets that a run
-/// takes, the least number of digits of microseconds, and the ASCII codes of the marks of lines.
+/// States the values of constants to which the contracts of this crate refer by name:
+/// - the largest number of octets that is taken from an input ([`INPUT_LIMIT`](crate::INPUT_LIMIT)):
+///   2^40,
+/// - the least number of digits that microseconds are written with: 6,
+/// - the ASCII codes of the characters that separate or end parts of a line.
 pub fn law_line_numbers()
     ensures limit { INPUT_LIMIT ≡ 2 ^ 40 }
     ensures micros { MICROS_DIGITS ≡ 6 }

@@ -1,6 +1,6 @@
-//! Prints MRT files (RFC 6396) as lines of text: one line for each route, withdrawal and state change,
-//! and one report for each faulty record. [`run_dump`] is a whole run of `bgpdump -m`; the other
-//! functions print parts of it for programs that read records themselves. Read `dump.rt` first, then
+//! Formats MRT files (RFC 6396) as lines of text: one line for each route, withdrawal and state change,
+//! and one report for each faulty record. [`run_dump`] is a whole execution of `bgpdump -m`; the other
+//! functions write parts of it for programs that read records themselves. Read `dump.rt` first, then
 //! `write.rt`.
 #![tactic(auto)]
 

@@ -1,7 +1,7 @@
-//! A cache of printed lines of TABLE_DUMP_V2 records (RFC 6396, section 4.3), one for each peer. Mostly a
-//! peer has a route with equal attributes in the next record, so that all of its line but the prefix is
-//! copied. `table_lines.rt` looks lines up and inserts them, and `write.rt` counts records; read
-//! [`LineCache`] first.
+//! A cache of the printed lines of TABLE_DUMP_V2 records (RFC 6396, section 4.3), one for each peer.
+//! Mostly a peer has a route with equal attributes in the next record, so that all of its line but the
+//! prefix is copied. `table_lines.rt` looks lines up and inserts them, and `write.rt` counts records;
+//! read [`LineCache`] first.
 
 ghost use Rattle.std.specs.Prelude.{◌≡◌, ◌≤◌, ◌+◌, true, take, drop, length, IfSome, IsTrue, vec_len};
 ghost use Rattle.std.proofs.Props.{props};
@@ -15,51 +15,61 @@ use mrt_wire::{Event, Peer, Route, Tag, same_peer, same_route};
 use std::alloc::{AllocError, Global};
 use std::rc::Rc;
 
-/// The largest number of lines in the cache. The lines of further peers are printed each time.
+/// The largest number of lines in a [`LineCache`]: 512. When it is full, the lines of further peers
+/// aren't cached.
 const MOST_LINES: usize = 512;
 
-/// The largest size of a cached line without its prefix, in octets. A longer one is printed each time.
+/// The largest size of a cached line without its prefix, in octets: 512. A longer line isn't cached.
 const LONGEST_LINE: usize = 512;
 
 // With so few segments, a route takes little more memory than its line.
-/// The largest number of AS_PATH segments of a route whose line is cached. The line of one with more is
-/// printed each time.
+/// The largest number of AS_PATH segments of a route whose line is cached: 2. The line of a route with
+/// more isn't cached.
 const MOST_SEGMENTS: usize = 2;
 
-/// The number of hashes of peers. Two peers with one hash replace each other's line.
+/// The number of different hashes of peers: 2^12. Of two peers with one hash, only the one printed last
+/// has its line in the cache.
 const HASH_COUNT: usize = 1 << 12;
 
-/// The number of low bits of the 32-bit product that a hash leaves out.
+/// The number of low bits of a 32-bit product that the hash of a peer leaves out: 20, so that 12 bits are
+/// left.
 const LOWEST_BITS: u32 = 20;
 
-/// The factor of a hash: the odd number next to 2^32 divided by the golden ratio.
+/// The factor in the hash of a peer: the odd number next to 2^32 divided by the golden ratio, which
+/// spreads numbers that lie close together.
 const MULTIPLIER: u32 = 0x9E37_79B9;
 
-/// The index of a hash without a line.
+/// The value in the table of line indexes for a hash of peers that has no line.
 const NO_LINE: u16 = u16::MAX;
 
 // Of tables as routers send them, of which three of five lines are copied, 512 lines in a row may be
 // mostly new ones; 4,096 aren't.
-/// The number of lines after which a trial of the cache ends, see [`LineCache::end_trial`].
+/// The number of lines, 2^12, after which a [`LineCache`] decides whether it saves enough, see
+/// [`LineCache::end_trial`]. These lines are a trial.
 const TRIAL_LINES: usize = 1 << 12;
 
-/// The number of lines in a pause of the cache, as a multiple of the lines of the trial before it.
+/// The number of lines for which a [`LineCache`] isn't used after a trial in which it saved little, as a
+/// multiple of the number of lines in that trial: 32.
 const PAUSE_FACTOR: usize = 32;
 
-/// The printed line of a peer's route in a table, without its prefix.
+/// The printed line of a peer's route in a table, without its prefix:
+/// `TABLE_DUMP2|1700000000|B|192.0.2.1|65000` and `|65000|IGP|192.0.2.1|0|0||NAG||`.
 #[derive(Drop)]
 struct CachedLine {
     /// The peer that the line was printed for.
     peer: Peer,
     /// The route that the line was printed for.
     route: Rc<Route>,
-    /// The fields before the prefix, followed by the fields after it.
+    /// The octets of the line before the prefix's field, followed by those after it.
     octets: Vec<u8>,
-    /// The end of the first three fields, in octets from the start of `octets`.
+    /// The end of the line's first three fields (kind, time, letter), in octets from the start of
+    /// `octets`.
     head: usize,
-    /// The end of the fields before the prefix, in octets from the start of `octets`.
+    /// The end of the fields before the prefix, in octets from the start of `octets`, where those after
+    /// the prefix begin.
     front: usize,
-    /// Whether `octets` is the line of `peer` and `route`. It is `false` after an error.
+    /// Whether `octets` is the line of `peer` and `route`. It is `false` after an allocation error while
+    /// the line was replaced; the line is never found then.
     is_valid: bool,
     ghost short: { vec_len octets ≤ LONGEST_LINE },
     // The term after `by` shows that the statement has at most one proof, as a ghost field must.
@@ -69,7 +79,9 @@ struct CachedLine {
 }
 
 impl CachedLine {
-    /// Returns a line with the fields `ends`, which must be those printed for `peer` and `route`.
+    /// Returns a cached line with the octets `ends`, which are around its prefix. Requires that these
+    /// were printed for `peer` and `route`, and are at most 512 ([`LONGEST_LINE`]). Fails if memory
+    /// allocation fails.
     fn of(
         alloc: Global,
         peer: &Peer,
@@ -91,8 +103,10 @@ impl CachedLine {
         Ok(line)
     }
 
-    /// Replaces the line by one with the fields `ends`, which must be those printed for `peer` and
-    /// `route`. On error, [`find_line`](CachedLine::find_line) returns `None` from then on.
+    /// Replaces this line by one with the octets `ends`, which are around its prefix. Requires that these
+    /// were printed for `peer` and `route`, and are at most 512 ([`LONGEST_LINE`]). Fails if memory
+    /// allocation fails; the line is then marked invalid, and [`find_line`](CachedLine::find_line)
+    /// returns `None` for it from then on.
     fn replace(
         &mut self,
         peer: &Peer,
@@ -114,8 +128,9 @@ impl CachedLine {
         Ok(())
     }
 
-    /// Returns the fields of the line, if it was printed for this peer and for a route with equal
-    /// attributes and an equal time. `None` also after an error of [`replace`](CachedLine::replace).
+    /// Returns the octets of this line around its prefix, if it was printed for the peer of
+    /// `announcement` and for a route with equal attributes and an equal time. Returns `None` if not, or
+    /// if an error of [`replace`](CachedLine::replace) has made the line invalid.
     #[inline(always)]
     fn find_line(&self, announcement: Announcement<'_>) -> Option<PrefixlessLine<'_>>
         ensures { IfSome result (λ ends. IsPrefixlessLine ends.front.now ends.head ends.tail.now
@@ -136,7 +151,8 @@ impl CachedLine {
     }
 }
 
-/// Returns the last two octets of an address as a big-endian number.
+/// Returns the last two octets of an address, IPv4 or IPv6, as a big-endian number. In them the addresses
+/// of peers differ most.
 #[inline(always)]
 fn last_two_octets(addr: &Addr) -> u32 {
     match addr.family() {
@@ -145,15 +161,17 @@ fn last_two_octets(addr: &Addr) -> u32 {
     }
 }
 
-/// Returns a hash of a peer's address and AS number, below [`HASH_COUNT`].
+/// Returns a hash of a peer's address and AS number, below 2^12 ([`HASH_COUNT`]): an index in the cache's
+/// table of lines.
 #[inline(always)]
 fn peer_hash(peer: &Peer) -> usize {
     let first = last_two_octets(&peer.addr).wrapping_add(peer.asn);
     (first.wrapping_mul(MULTIPLIER) >> LOWEST_BITS) as usize
 }
 
-/// Returns `true` if the line of `route` may be cached: its path has at most [`MOST_SEGMENTS`] segments,
-/// and its time is `time`, the time of its record in seconds.
+/// Returns `true` if the line of `route` may be cached: its AS_PATH has at most two segments
+/// ([`MOST_SEGMENTS`]), and its time is `time`, the time of its record in seconds. Returns `false` for a
+/// route that has more segments or a time of its own, as its line is hardly ever met again.
 #[inline]
 fn is_cacheable(route: &Route, time: u32) -> bool {
     // The line of a route with a time of its own would be cached in vain: in the next record the time is
@@ -161,31 +179,32 @@ fn is_cacheable(route: &Route, time: u32) -> bool {
     route.time == time && route.attrs.path.segments.as_slice().len() <= MOST_SEGMENTS
 }
 
-/// A cache of the lines of tables, at most one for each peer. It takes memory for at most [`MOST_LINES`]
-/// lines of [`LONGEST_LINE`] octets, and holds their routes. It pauses for a while after a trial in which
-/// it saved little.
+/// A cache of printed lines of tables, at most one for each peer, to copy from if a peer has an equal
+/// route to another prefix. It takes memory for at most [`MOST_LINES`] lines of [`LONGEST_LINE`] octets,
+/// and holds their routes. If it saved little during some thousands of lines (a trial), it is emptied and
+/// not used for many more lines (a pause), and then tried anew.
 #[derive(Drop)]
 pub(crate) struct LineCache {
     /// The allocator of the lines.
     alloc: Global,
-    /// The cached lines.
+    /// The cached lines, in the order in which their peers were first met.
     lines: Vec<CachedLine>,
-    /// The index in `lines` for each hash of a peer: [`NO_LINE`] for a hash without a line. Empty until
-    /// the first line is inserted.
+    /// For each hash of a peer, the index of its line in `lines`, or [`NO_LINE`] if it has none. Empty
+    /// until the first line is inserted.
     line_indexes: Vec<u16>,
-    /// The number of lines in the trial so far.
+    /// The number of lines in the current trial so far, see [`LineCache::end_trial`].
     printed: usize,
-    /// The number of lines in the trial that were neither copied nor inserted as the first one of their
-    /// hash.
+    /// The number of lines in the current trial that were neither copied from the cache nor inserted as
+    /// the first one of their hash: lines for which it was of no use.
     missed: usize,
-    /// The number of lines that are still printed without the cache, or 0 if it is in use.
+    /// The number of lines that are still to be printed without the cache, or 0 if it is in use.
     pause: usize,
     ghost few: { vec_len lines ≤ MOST_LINES },
     ghost spread: { vec_len line_indexes ≤ HASH_COUNT },
 }
 
 impl LineCache {
-    /// Returns an empty cache, without allocating memory.
+    /// Returns an empty cache that is in use, without allocating memory.
     pub(crate) fn new(alloc: Global) -> LineCache {
         LineCache {
             alloc,
@@ -198,8 +217,9 @@ impl LineCache {
     }
 
     /// Returns `true` if the lines of `event` are to be copied from the cache and inserted into it: the
-    /// event was made from a TABLE_DUMP_V2 record (RFC 6396, section 4.3), and the cache doesn't pause.
-    /// In a pause, counts the lines of such an event.
+    /// event, what an MRT record reports, is from a TABLE_DUMP_V2 record (RFC 6396, section 4.3), and the
+    /// cache is in use. Returns `false` for another record, or while the cache pauses because it saved
+    /// little; the lines of a TABLE_DUMP_V2 record shorten the pause.
     #[inline(always)]
     pub(crate) fn accepts(&mut self, event: &Event) -> bool
         ensures { IsTrue result → event.now.tag ≡ TableDump2 }
@@ -210,8 +230,8 @@ impl LineCache {
         }
     }
 
-    /// Returns `true` if the cache doesn't pause. In a pause, counts `lines` printed lines, at least one,
-    /// and returns `false`.
+    /// Returns `true` if the cache is in use. If it pauses because it saved little, counts `lines`
+    /// printed lines, but at least one, towards the end of the pause, and returns `false`.
     #[inline(always)]
     fn begin(&mut self, lines: usize) -> bool {
         if self.pause == 0 {
@@ -221,7 +241,8 @@ impl LineCache {
         false
     }
 
-    /// Counts the `lines` of a record that used the cache. After [`TRIAL_LINES`] lines, ends the trial.
+    /// Adds `lines`, the number of lines of a record that used the cache, to those of the trial in which
+    /// the cache is judged. If these are [`TRIAL_LINES`] or more, ends the trial.
     #[inline(always)]
     pub(crate) fn end(&mut self, lines: usize) {
         self.printed = self.printed.saturating_add(lines);
@@ -230,7 +251,9 @@ impl LineCache {
         }
     }
 
-    /// Ends a trial. If more than half of its lines missed, drops all cached lines and begins a pause.
+    /// Ends a trial, in which the cache is judged, and begins the next one. If the cache was of no use
+    /// for more than half of the trial's lines, empties it and begins a pause of 32 times as many lines
+    /// ([`PAUSE_FACTOR`]), in which it isn't used.
     #[inline(never)]
     fn end_trial(&mut self) {
         if self.missed > self.printed / 2 {
@@ -242,7 +265,9 @@ impl LineCache {
         self.missed = 0;
     }
 
-    /// Returns the fields of the cached line of this peer and route, or `None` if it isn't in the cache.
+    /// Returns the octets around the prefix of the cached line for the peer and the route of
+    /// `announcement`, or `None` if the cache has no line of this peer and an equal route. The prefix of
+    /// `announcement` doesn't matter.
     #[inline(always)]
     pub(crate) fn find_line(&self, announcement: Announcement<'_>) -> Option<PrefixlessLine<'_>>
         ensures { IfSome result (λ ends. IsPrefixlessLine ends.front.now ends.head ends.tail.now
@@ -254,10 +279,11 @@ impl LineCache {
             .find_line(announcement)
     }
 
-    /// Inserts the line of `peer` and `route` with the fields `ends`, which must be those printed for
-    /// them. A line of the same hash is replaced. Does nothing if the line may not be cached, or if the
-    /// cache is full. `time` is the time of the record in seconds.
-    /// On error, the line isn't in the cache.
+    /// Inserts the line of `peer` and `route` with the octets `ends`, which are around its prefix.
+    /// Requires that these were printed for them. It replaces a line of the same hash of peers. Does
+    /// nothing if the line may not be cached (too long, too many AS_PATH segments, or a route's time
+    /// other than `time`, the time of the record in seconds), or if the cache is full. Fails if memory
+    /// allocation fails; the line isn't in the cache then.
     #[inline(never)]
     pub(crate) fn insert(
         &mut self,

@@ -1,23 +1,25 @@
-//! The outcome of a run, and its exit status. Runs return an [`Outcome`]; `fault.rt` has those of their
-//! errors.
+//! How an execution of the program ends, and its exit status. [`run_dump`](crate::run_dump) and its like
+//! return an [`Outcome`]; `fault.rt` converts errors to it.
 
 ghost use Rattle.std.specs.Prelude.{◌≡◌};
 ghost use Rattle.bgpdump_lines.specs.WrittenSoFar.{exit_status};
 
-/// How a run ended.
+/// How an execution of the program ended, once it had its input and outputs: `bgpdump -m`, or a script.
+/// It determines the exit status.
 #[derive(Clone, Copy, Debug, PartialEq, Eq)]
 pub enum Outcome {
-    /// The run came to its end, and nothing was reported.
+    /// It came to its end, and nothing was reported as faulty.
     Done,
-    /// The run came to its end, and at least one faulty record or bad line of a script was reported.
+    /// It came to its end, and at least one faulty record or bad line of a script was reported to
+    /// standard error.
     Reported,
     /// Reading from the input failed.
     ReadFault,
     /// Writing to an output, or flushing it, failed.
     WriteFault,
-    /// The run wanted an octet, or the end of the input, after the first 2^40 octets.
+    /// An octet, or the end of the input, was wanted after the first 2^40 octets of the input.
     InputTooLong,
-    /// The script has more than 1,048,576 octets, and wasn't run.
+    /// The script has more than 1,048,576 octets, and no line of it was executed.
     ScriptTooLong,
     /// Memory allocation failed.
     Memory,

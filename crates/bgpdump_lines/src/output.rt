@@ -1,5 +1,6 @@
 //! Outputs of text: the trait [`Output`], which [`WriteOutput`] implements over any writer of std, and
-//! [`BufferedOutput`] over one with a buffer. Runs write to two of them, one for lines and one for reports.
+//! [`BufferedOutput`] over a `BufWriter`. The program writes to two of them, one for lines and one for
+//! reports.
 
 ghost use Rattle.std.specs.Prelude.{◌≡◌, ◌≤◌, ◌<◌, ◌||◌, ℕ, List, [], Bool, false, Option, Some, None, length, IfOk, OnOk, is_err};
 ghost use Rattle.std.specs.Io.Buffered.{writer_buffer, writer_contents};
@@ -12,44 +13,48 @@ use crate::outcome::Outcome;
 use mrt_wire::Input;
 use std::io::{BufWriter, Write};
 
-/// The error of an output. The call that failed wrote nothing.
+/// The error of an [`Output`]: a write or flush failed. A write that failed wrote nothing; what earlier
+/// calls wrote is unaffected.
 #[derive(Clone, Copy, Debug, PartialEq, Eq)]
 pub struct OutFault;
 
-/// An output of octets.
+/// An output of octets that may buffer them: a narrow form of `std::io::Write`, whose only error is
+/// [`OutFault`].
 pub trait Output {
-    /// The octets that were written, or `None` where an output can't tell.
+    /// In contracts: all octets that were written, or `None` if the output can't tell.
     ghost written: { Self → Option (List ℕ) };
 
-    /// Whether a call has failed.
+    /// In contracts: whether a call has failed.
     ghost failed: { Self → Bool };
 
-    /// The octets that were written and not yet passed to the device, or `None` where an output can't tell.
+    /// In contracts: the octets that were written and are still in a buffer, not passed to the device, or
+    /// `None` if the output can't tell.
     ghost pending: { Self → Option (List ℕ) } = { λ _. None };
 
-    /// Writes some of the octets, from the first on, and returns how many: at least one, unless
-    /// `octets` is empty.
+    /// Writes some of `octets`, from the first on, and returns how many: at least one, unless `octets` is
+    /// empty, when it returns 0. On error, nothing was written.
     fn put(&mut self, octets: &[u8]) -> Result<usize, OutFault>
         ensures bound { IfOk result (λ count. count ≤ length octets.now) }
         ensures some { IfOk result (λ count. 0 < length octets.now → 0 < count) }
         ensures octets { WriteAppends (written self.old) (written self.new) result octets.now }
         ensures failed { failed self.new ≡ (failed self.old || is_err result) };
 
-    /// Passes all that was written to the device, before a wait for input that may be long.
+    /// Passes all octets that were written to the device. Called before a wait for input that may be
+    /// long, so that no line waits in a buffer.
     fn flush(&mut self) -> Result<(), OutFault>
         ensures octets { Keeps (written self.old) (written self.new) }
         ensures flushed { OnOk result (IsFlushed (pending self.new)) }
         ensures failed { failed self.new ≡ (failed self.old || is_err result) };
 
-    /// Passes all that was written to the device, at the end of a run.
+    /// Passes all octets that were written to the device, once no more will be written.
     fn finish(&mut self) -> Result<(), OutFault>
         ensures octets { Keeps (written self.old) (written self.new) }
         ensures flushed { OnOk result (IsFlushed (pending self.new)) }
         ensures failed { failed self.new ≡ (failed self.old || is_err result) };
 }
 
-/// An output over a writer of std. Each of the writer's errors is an [`OutFault`], and so is a write
-/// that takes no octet of several.
+/// An [`Output`] over a writer of std. Any error of the writer, or `Ok(0)` for a write of one octet or
+/// more, is an [`OutFault`].
 #[derive(Drop)]
 pub struct WriteOutput<W> {
     writer: W,
@@ -57,7 +62,7 @@ pub struct WriteOutput<W> {
 }
 
 impl<W: Write> WriteOutput<W> {
-    /// Returns an output to `writer`.
+    /// Returns an output that writes to `writer`, and hasn't failed.
     pub fn new(writer: W) -> Self
         ensures written { ⟦<WriteOutput<W> as Output>⟧.written result ≡ W.contents writer }
         ensures failed { ⟦<WriteOutput<W> as Output>⟧.failed result ≡ false }
@@ -68,7 +73,7 @@ impl<W: Write> WriteOutput<W> {
         }
     }
 
-    /// Returns the writer.
+    /// Returns the writer, to which all octets were written; nothing is flushed.
     pub fn into_inner(self) -> W
         ensures { W.contents result ≡ ⟦<WriteOutput<W> as Output>⟧.written self }
     {
@@ -106,14 +111,15 @@ impl<W: Write> Output for WriteOutput<W> {
     }
 }
 
-/// An output over a writer with a buffer, whose octets are pending.
+/// An [`Output`] over a `BufWriter`. In contracts, the octets in its buffer count as pending: written,
+/// and not yet passed to the writer below.
 #[derive(Drop)]
 pub struct BufferedOutput<W: Write + Drop> {
     output: WriteOutput<BufWriter<W>>,
 }
 
 impl<W: Write + Drop> BufferedOutput<W> {
-    /// Returns an output to `writer`.
+    /// Returns an output that writes to `writer`, and hasn't failed.
     pub fn new(writer: BufWriter<W>) -> Self
         ensures written { ⟦<BufferedOutput<W> as Output>⟧.written result
             ≡ writer_contents W.contents writer }
@@ -124,7 +130,7 @@ impl<W: Write + Drop> BufferedOutput<W> {
         }
     }
 
-    /// Returns the writer, with what is left in its buffer.
+    /// Returns the `BufWriter`, with the octets that are still in its buffer; nothing is flushed.
     pub fn into_inner(self) -> BufWriter<W>
         ensures { writer_contents W.contents result ≡ ⟦<BufferedOutput<W> as Output>⟧.written self }
     {
@@ -158,8 +164,8 @@ impl<W: Write + Drop> Output for BufferedOutput<W> {
     }
 }
 
-/// Writes all of the octets, by as many calls of [`Output::put`] as that takes. On error, some of them
-/// may have been written.
+/// Writes all of `octets` to `output`, by as many calls of [`Output::put`] as that takes. On error, some
+/// of the first octets may have been written.
 pub fn put_all<W: Output>(output: &mut W, octets: &[u8]) -> Result<(), OutFault>
     ensures all { OnOk result (Appends (W.written output.old) (W.written output.new) octets.now) }
     ensures front { AppendsPrefix (W.written output.old) (W.written output.new) octets.now }
@@ -173,7 +179,8 @@ pub fn put_all<W: Output>(output: &mut W, octets: &[u8]) -> Result<(), OutFault>
     Ok(())
 }
 
-/// Flushes both outputs, unless the input has its next record buffered, so that reading it won't wait.
+/// Flushes `out` and then `err`, as the next read of `input` may wait. Does nothing if `input` has its
+/// whole next record in its buffer, so that no wait is to be expected. Fails if a flush fails.
 pub fn flush_before_waiting<I: Input, O: Output, E: Output>(
     input: &I,
     out: &mut O,
@@ -193,8 +200,9 @@ pub fn flush_before_waiting<I: Input, O: Output, E: Output>(
     err.flush()
 }
 
-/// Flushes both outputs at the end of a run, and returns its outcome. `reported` tells whether a record
-/// was reported.
+/// Finishes `out` and then `err` at the end of the program's work, and returns how it ended: `WriteFault`
+/// if one of them fails, or else `Reported` if `reported`, which says whether a faulty record or bad line
+/// was reported, or else `Done`. Requires that no output has failed.
 pub fn finish_outputs<O: Output, E: Output>(out: &mut O, err: &mut E, reported: bool) -> Outcome
     requires sound { (O.failed out.old || E.failed err.old) ≡ false }
     ensures outcome { result ≡ outcome_of_finished_run (O.failed out.new || E.failed err.new) reported }

@@ -1,4 +1,4 @@
-//! Prints the report of a faulty record, a line for standard error. `write.rt` calls [`put_report`]. On
+//! Formats the report of a faulty record, a line for standard error. `write.rt` calls [`put_report`]. On
 //! error, each function may have appended a part.
 
 ghost use Rattle.std.specs.Prelude.{◌≡◌, ◌++◌, OnOk, decimal};
@@ -8,7 +8,8 @@ use ip_prefix::Text;
 use mrt_wire::{RecordFault, RecordKind};
 use std::alloc::AllocError;
 
-/// Appends `word` and then `number` in decimal.
+/// Appends `word` and right after it `number` in decimal, such as `length 20000000` for the word `length
+/// ` with its space. Fails if memory allocation fails; `text` then ends with an unspecified part of them.
 fn put_labelled_number(word: &[u8], number: u64, text: &mut Text) -> Result<(), AllocError>
     ensures { OnOk result (text.new ≡ text.old ++ (word.now ++ decimal number)) }
 {
@@ -17,7 +18,10 @@ fn put_labelled_number(word: &[u8], number: u64, text: &mut Text) -> Result<(), 
     Ok(())
 }
 
-/// Appends what is wrong with a record, such as `cut record`.
+/// Appends what is wrong with a record, in words that follow from `kind`, the kind of its fault: `cut
+/// record`, `length 20000000 too long`, `unsupported type 16 subtype 9`, `malformed`, `no peer index` or
+/// `peer index 7`. Fails if memory allocation fails; `text` then ends with an unspecified part of the
+/// words.
 fn put_fault_description(kind: RecordKind, text: &mut Text) -> Result<(), AllocError>
     ensures { OnOk result (text.new ≡ text.old ++ fault_kind_text kind) }
 {
@@ -42,8 +46,10 @@ fn put_fault_description(kind: RecordKind, text: &mut Text) -> Result<(), AllocE
     Ok(())
 }
 
-/// Appends the report of a faulty record to `text`: its number, counted from 1, the offset of its header
-/// in octets from the start of the input, what is wrong with it, and a line feed.
+/// Appends the report of a faulty record to `text`, such as `bgpdump: record 3, byte 120: cut record` and
+/// a line feed: the record's number, counted from 1, the offset of its header in octets from the start of
+/// the input, and what is wrong. Fails if memory allocation fails; `text` then ends with an unspecified
+/// part of the report.
 pub(crate) fn put_report(fault: RecordFault, text: &mut Text) -> Result<(), AllocError>
     ensures { OnOk result (text.new ≡ text.old ++ fault_report fault) }
 {

@@ -1,5 +1,5 @@
 //! Appends the lines of routes to a text. What a line has in common with the last line of the text, or
-//! with a cached one, is copied instead of printed. `event_lines.rt`, `table_lines.rt` and `write.rt`
+//! with a cached one, is copied instead of formatted. `event_lines.rt`, `table_lines.rt` and `write.rt`
 //! call these functions; on error, each may have appended a part. Read [`put_route_line`] first.
 
 ghost use Rattle.std.specs.Prelude.{◌≡◌, ◌≤◌, ◌++◌, take, length, IfOk, IfSome};
@@ -14,7 +14,7 @@ use ip_prefix::{Prefix, Text};
 use mrt_wire::{Peer, Route, same_peer, same_prefix, same_route};
 use std::alloc::AllocError;
 
-/// A peer's route to a prefix, as a line prints it: an announcement or an entry of a table.
+/// A peer's route to a prefix, as one line prints it: from an announcement, or from a table.
 #[derive(Clone, Copy)]
 pub(crate) struct Announcement<'a> {
     pub(crate) peer: &'a Peer,
@@ -22,29 +22,35 @@ pub(crate) struct Announcement<'a> {
     pub(crate) route: &'a Route,
 }
 
-/// The offsets of the fields of a route's line, in octets from the start of its text.
+/// Where the groups of fields of one route's line are in a text, so that parts of the line can be copied:
+/// offsets in octets from the start of the text. The groups are the first three fields (kind, time,
+/// letter), the peer's two, the prefix's, and those of the attributes with the line feed.
 #[derive(Clone, Copy)]
 pub(crate) struct FieldOffsets {
     /// The start of the line.
     start: usize,
-    /// The end of the first three fields, where the peer's fields begin.
+    /// The end of the first three fields, where the peer's two fields begin with a bar.
     head: usize,
-    /// The end of the peer's fields, where the prefix's field begins.
+    /// The end of the peer's fields, where the prefix's field begins with a bar.
     front: usize,
-    /// The end of the prefix's field, where the attributes' fields begin.
+    /// The end of the prefix's field, where the attributes' fields begin with a bar.
     tail: usize,
 }
 
-/// The last line of a text, which prints a route.
+/// A description of the last line of a text, which prints a route: the next line is copied from it where
+/// both are equal.
 #[derive(Clone, Copy)]
 pub(crate) struct LastLine<'a> {
-    /// The peer, the prefix and the route that it prints.
+    /// The peer, the prefix and the route that the line prints.
     pub(crate) announcement: Announcement<'a>,
-    /// The offsets of its fields in the text.
+    /// The offsets of the line's fields in the text.
     pub(crate) offsets: FieldOffsets,
 }
 
-/// Appends the line of a route, and copies none of it. Returns the offsets of its fields.
+/// Appends the line of a route, such as
+/// `BGP4MP|1700000000|A|192.0.2.1|65000|198.51.100.0/24|65000|IGP|192.0.2.1|0|0||NAG||`, and copies none
+/// of it from another line. Returns the offsets of its fields in `text`. Fails if memory allocation
+/// fails; `text` then ends with an unspecified part of the line.
 #[inline(always)]
 pub(crate) fn put_whole_route_line(
     heading: &Heading,
@@ -72,8 +78,9 @@ pub(crate) fn put_whole_route_line(
     })
 }
 
-/// Appends the last line of `text` once more, with `prefix` in place of its prefix. `last` are the
-/// offsets of that line's fields. Returns the offsets of the new line's fields.
+/// Appends the last line of `text` once more, with `prefix` in place of its prefix. Requires that `last`
+/// has the offsets of that line's fields in `text`. Returns the offsets of the new line's fields. Fails
+/// if memory allocation fails; `text` then ends with an unspecified part of the line.
 #[inline(always)]
 pub(crate) fn repeat_with_prefix(
     last: FieldOffsets,
@@ -103,7 +110,10 @@ pub(crate) fn repeat_with_prefix(
 }
 
 /// Appends the last line of `text` once more, with `peer` and the attributes of `route` in place of its
-/// own. `last` are the offsets of that line's fields. Returns the offsets of the new line's fields.
+/// own; the first three fields and the prefix are copied. Requires that `last` has the offsets of that
+/// line's fields in `text`; `route` is one whose time that line shows, as the time isn't changed. Returns
+/// the offsets of the new line's fields. Fails if memory allocation fails; `text` then ends with an
+/// unspecified part of the line.
 #[inline(always)]
 fn repeat_with_route(
     last: FieldOffsets,
@@ -134,19 +144,19 @@ fn repeat_with_route(
     })
 }
 
-/// The fields of a route's line without its prefix.
+/// The octets of a route's line without its prefix's field: those before it and those after it.
 #[derive(Clone, Copy)]
 pub(crate) struct PrefixlessLine<'a> {
-    /// The fields before the prefix.
+    /// The octets before the prefix's field, such as `TABLE_DUMP2|1700000000|B|192.0.2.1|65000`.
     pub(crate) front: &'a [u8],
-    /// The end of the first three fields, in octets from the start of `front`.
+    /// The end of the first three fields (kind, time, letter), in octets from the start of `front`.
     pub(crate) head: usize,
-    /// The fields after the prefix, with the line feed.
+    /// The octets after the prefix's field: the fields of the attributes, with the line feed.
     pub(crate) tail: &'a [u8],
 }
 
-/// Returns the fields of the last line of `text` without its prefix. `last` are the offsets of that
-/// line's fields.
+/// Returns the octets of the last line of `text` without its prefix's field. Requires that `last` has the
+/// offsets of that line's fields in `text`.
 #[inline(always)]
 pub(crate) fn prefixless_last_line(text: &Text, last: FieldOffsets) -> PrefixlessLine<'_>
     requires { AreOffsetsOrdered last text.now }
@@ -163,7 +173,9 @@ pub(crate) fn prefixless_last_line(text: &Text, last: FieldOffsets) -> Prefixles
     }
 }
 
-/// Appends the field of a prefix. It is copied if `last`, the last line of `text`, has an equal prefix.
+/// Appends the field of a prefix, such as `|198.51.100.0/24`. `last`, if given, describes the last line
+/// of `text` before the unfinished one, from which the field is copied if its prefix is equal to
+/// `prefix`. Fails if memory allocation fails; `text` then ends with an unspecified part of the field.
 #[inline(always)]
 fn copy_or_put_prefix_field(
     prefix: &Prefix,
@@ -181,8 +193,11 @@ fn copy_or_put_prefix_field(
     }
 }
 
-/// Appends a line that has the fields `ends` before and after `prefix`. The prefix is copied if `last`,
-/// the last line of `text`, has an equal one. Returns the offsets of the new line's fields.
+/// Appends the line that consists of the octets before the prefix in `ends` (`ends.front`), the field of
+/// `prefix`, and the octets after it (`ends.tail`). `last`, if given, describes the last line of `text`,
+/// from which the prefix's field is copied if its prefix is equal. Returns the offsets of the new line's
+/// fields in `text`. Fails if memory allocation fails; `text` then ends with an unspecified part of the
+/// line.
 #[inline(always)]
 pub(crate) fn put_line_around_prefix(
     ends: PrefixlessLine<'_>,
@@ -213,8 +228,11 @@ pub(crate) fn put_line_around_prefix(
     })
 }
 
-/// Appends the line of a route, and returns it. `last` is the last line of `text`, if that prints a route
-/// under the same heading: what both lines have in common is copied.
+/// Appends the line of a route, such as
+/// `BGP4MP|1700000000|A|192.0.2.1|65000|198.51.100.0/24|65000|IGP|192.0.2.1|0|0||NAG||`, and returns its
+/// description for the next call. `last`, if given, describes the last line of `text`; it requires that
+/// this line prints a route under `heading`. What both lines have in common is copied from it. Fails if
+/// memory allocation fails; `text` then ends with an unspecified part of the line.
 #[inline(always)]
 pub(crate) fn put_route_line<'a>(
     heading: &Heading,

@@ -1,6 +1,6 @@
 //! Appends the lines of TABLE_DUMP_V2 records (RFC 6396, section 4.3) to a text, mostly copied from a
-//! [`LineCache`]. `write.rt` calls [`put_table_item_line`]; read that first. On error, each function may
-//! have appended a part.
+//! [`LineCache`], which keeps a printed line for each peer. `write.rt` calls [`put_table_item_line`];
+//! read that first. On error, each function may have appended a part.
 
 ghost use Rattle.std.specs.Prelude.{◌≡◌, IfOk, IfSome};
 ghost use Rattle.mrt_events.specs.Event.{Announced, item_value};
@@ -19,8 +19,12 @@ use mrt_wire::{Item, Route};
 use std::alloc::AllocError;
 use std::rc::Rc;
 
-/// Appends the line of a route, inserts it into the cache `kept`, and returns it. `route` must equal
-/// `announcement.route`. `last` is the last line of `text`, if that prints a route under this heading.
+/// Appends the line of the route of a table, inserts it into the cache `kept` of printed lines (unless
+/// that doesn't take it), and returns its description for the next call. Requires that `route` equals
+/// `announcement.route`, and that `heading` is that of a table. `last`, if given, describes the last line
+/// of `text`; it requires that this line prints a route under `heading`. What both lines have in common
+/// is copied from it. Fails if memory allocation fails; `text` then ends with an unspecified part of the
+/// line.
 #[inline(always)]
 fn put_and_cache<'a>(
     heading: &Heading,
@@ -47,9 +51,12 @@ fn put_and_cache<'a>(
     Ok(line)
 }
 
-/// Appends the line of a route, and returns it. If the cache `kept` has the line of this peer and route,
-/// all but the prefix is copied from it; otherwise the line is inserted there. `route` must equal
-/// `announcement.route`. `last` is the last line of `text`, if that prints a route under this heading.
+/// Appends the line of the route of a table, and returns its description for the next call. If the cache
+/// `kept` of printed lines has one of this peer and an equal route, all but the prefix is copied from
+/// that; otherwise the line is inserted there. Requires that `route` equals `announcement.route`, and
+/// that `heading` is that of a table. `last`, if given, describes the last line of `text`; it requires
+/// that this line prints a route under `heading`. What both lines have in common is copied from it. Fails
+/// if memory allocation fails; `text` then ends with an unspecified part of the line.
 #[inline(always)]
 fn put_entry_line<'a>(
     heading: &Heading,
@@ -76,9 +83,13 @@ fn put_entry_line<'a>(
     put_and_cache(heading, announcement, route, last, kept, text)
 }
 
-/// Appends the line of `item`, which is from a record of a table, and returns it if the item is an
-/// announcement. What the cache `kept` or `last` has of it is copied. `last` is the last line of `text`,
-/// if that prints a route under this heading.
+/// Appends the line of `item`, which is a route of a table (or a withdrawal or state change). Requires
+/// that `heading` is that of a table. Returns the description of the new line for the next call if it is
+/// a route's, or else `None`. A route's line is copied from the cache `kept` of printed lines, but for
+/// its prefix, if that has it, or else inserted there. `last`, if given, describes the last line of
+/// `text`; it requires that this line prints a route under `heading`. What both lines have in common is
+/// copied from it. Fails if memory allocation fails; `text` then ends with an unspecified part of the
+/// line.
 #[inline(always)]
 pub(crate) fn put_table_item_line<'a>(
     heading: &Heading,

@@ -1,6 +1,6 @@
-//! Writes the lines and reports of records, and the lines of peers' tables, to outputs. Runs call these
-//! functions. `text` is their buffer: lines are appended to it, and it is written and cleared when it
-//! gets long. Read [`write_next`] first.
+//! Writes the lines and reports of records, and the lines of peers' tables, to outputs. Their `text` is a
+//! buffer: lines are appended to it, and it is written and cleared when it gets long. Read [`write_next`]
+//! first.
 
 ghost use Rattle.std.specs.Prelude.{◌≡◌, ◌||◌, ◌≤◌, [], false, All, map, take, drop, length, IfOk, OnOk, flat_map};
 ghost use Rattle.mrt_events.specs.declared.event.Route.{Route};
@@ -28,12 +28,13 @@ use ip_prefix::{Prefix, Text};
 use mrt_wire::{Event, Item, Next, Peer, RecordFault, Route};
 use std::rc::Rc;
 
-/// The size of a text in octets up to which another line is appended to it. A longer text is written
-/// first, so that it has at most this many octets and two lines.
+/// The size in octets, 2^16, up to which another line is appended to a text before it is written to an
+/// output. A longer text is written first, so that it never has more than this many octets and two lines.
 const LONG_TEXT: usize = 1 << 16;
 
-/// Writes `text` to `out` and clears it, if it has more than [`LONG_TEXT`] octets. Returns `true` if it
-/// had.
+/// Writes `text`, lines that are still to be written, to `out` and clears it, if it has more than
+/// [`LONG_TEXT`] octets. Returns `true` if it was written, `false` if it was left as it is. Fails if
+/// `out` fails; some of the first octets may have been written then.
 #[inline(always)]
 fn write_if_long<O: Output>(out: &mut O, text: &mut Text) -> Result<bool, WriteFault>
     ensures text { PutsThroughBufferOrFront (O.written out.old) (O.written out.new) text.old text.new [] result }
@@ -48,8 +49,11 @@ fn write_if_long<O: Output>(out: &mut O, text: &mut Text) -> Result<bool, WriteF
     Ok(true)
 }
 
-/// Appends the lines of `items` to `text`. Whenever `text` is long, it is written to `out` before the
-/// next line.
+/// Appends a line for each of `items` (announcements, withdrawals, state changes) to `text`, which holds
+/// lines that are still to be written to `out`. Whenever it has more than [`LONG_TEXT`] octets, it is
+/// written to `out` and cleared before the next line. `heading` gives the kind and the time of the items'
+/// record. Fails if memory allocation or `out` fails; some of the first lines may have been written to
+/// `out` then, and `text` holds unspecified octets.
 #[inline(never)]
 fn write_nonempty_item_lines<O: Output>(
     out: &mut O,
@@ -71,8 +75,12 @@ fn write_nonempty_item_lines<O: Output>(
     Ok(())
 }
 
-/// Appends the lines of `items` to `text`, as [`write_nonempty_item_lines`] does, or does nothing if
-/// there are none.
+/// Appends a line for each of `items` (announcements, withdrawals, state changes) to `text`, or nothing
+/// if there are none. `text` holds lines that are still to be written to `out`: only when it has more
+/// than [`LONG_TEXT`] octets is it written there and cleared before the next line, so that the last lines
+/// are left in `text` for the caller to write. `heading` gives the kind and the time of the items'
+/// record. Fails if memory allocation or `out` fails; some of the first lines may have been written to
+/// `out` then, and `text` holds unspecified octets.
 #[inline(always)]
 fn write_item_lines<O: Output>(
     out: &mut O,
@@ -92,9 +100,10 @@ fn write_item_lines<O: Output>(
 }
 
 /// Writes the octets of `text` from offset `end` on to `out` and truncates `text` to `end`, if they are
-/// more than [`LONG_TEXT`]. The first `end` octets must be a line whose fields are at the offsets `kept`,
-/// and `last` must be the offsets of the last line. Returns the offsets of the line that is the last one
-/// afterwards.
+/// more than [`LONG_TEXT`]. Requires that `end` isn't above the length of `text`, and that the octets
+/// before it are one line, a template for the next lines, with its fields at the offsets `kept`. `last`
+/// has the offsets of the last line. Returns the offsets of the line that is the last one afterwards:
+/// `kept` if it wrote, or else `last`. Fails if `out` fails.
 fn write_rest_if_long<O: Output>(
     out: &mut O,
     kept: FieldOffsets,
@@ -121,8 +130,12 @@ fn write_rest_if_long<O: Output>(
     Ok(kept)
 }
 
-/// Writes `text` and then the lines of `items`, which must announce the route of `first`, to `out`, and
-/// clears `text`.
+/// Writes to `out` first `text`, the lines that are still to be written, and then a line for each of
+/// `items`, and leaves `text` empty. Requires that each item announces the peer and the route of `first`.
+/// The line of `first`, which the caller has already appended or written, isn't written again; it serves
+/// as a template for theirs. `heading` gives the kind and the time of their record. Fails if memory
+/// allocation or `out` fails; some of the first lines may have been written to `out` then, and `text`
+/// holds unspecified octets.
 #[cold]
 #[inline(never)]
 fn write_many_prefixes<O: Output>(
@@ -153,9 +166,12 @@ fn write_many_prefixes<O: Output>(
     Ok(())
 }
 
-/// Appends the lines of `items`, which must announce the route of `first`, to `text`. `offsets` are those
-/// of the fields of its last line, which prints that route. If `text` gets long, it is written to `out`
-/// with all lines that follow, and cleared.
+/// Appends a line for each of `items` to `text`, which holds lines that are still to be written to `out`.
+/// Requires that each item announces the peer and the route of `first`, and that `offsets` are those of
+/// the fields of the last line of `text`, which prints them. If `text` gets more than [`LONG_TEXT`]
+/// octets, it is written to `out` with all lines that follow, and cleared; or else the lines are left in
+/// `text`. Fails if memory allocation or `out` fails; some of the first lines may have been written to
+/// `out` then, and `text` holds unspecified octets.
 #[inline(always)]
 fn write_other_prefixes<O: Output>(
     out: &mut O,
@@ -181,8 +197,11 @@ fn write_other_prefixes<O: Output>(
     Ok(())
 }
 
-/// Appends the lines of `items`, which must be announcements of one route of a peer, to `text`. Whenever
-/// `text` is long, it is written to `out` before the next line.
+/// Appends a line for each of `items` to `text`, which holds lines that are still to be written to `out`.
+/// Requires that all items are announcements of one route of one peer. Whenever it has more than
+/// [`LONG_TEXT`] octets, it is written to `out` and cleared before the next line; the last lines may be
+/// left in `text`. Fails if memory allocation or `out` fails; some of the first lines may have been
+/// written to `out` then, and `text` holds unspecified octets.
 #[inline(always)]
 fn write_shared_route<O: Output>(
     out: &mut O,
@@ -203,8 +222,9 @@ fn write_shared_route<O: Output>(
     write_other_prefixes(out, heading, first, offsets, rest, text)
 }
 
-/// Writes the lines of `event` to `out`. Overwrites `text`. On error, a prefix of the lines may have been
-/// written.
+/// Writes the lines of `event`, what an MRT record reports, to `out`: one for each announcement,
+/// withdrawal or state change. Overwrites `text`, a buffer. Fails if memory allocation or `out` fails;
+/// some of the first lines may have been written to `out` then, and `text` holds unspecified octets.
 #[inline(always)]
 fn write_event_lines<O: Output>(
     out: &mut O,
@@ -225,9 +245,12 @@ fn write_event_lines<O: Output>(
     Ok(())
 }
 
-/// Appends the lines of `items`, from a record of a table, to `text`. Whenever `text` is long, it is
-/// written to `out` before the next line. Lines are copied from the cache `kept` if it has them, and
-/// inserted there if not.
+/// Appends a line for each of `items`, which are from a TABLE_DUMP_V2 record, to `text`, which holds
+/// lines that are still to be written to `out`. Whenever it has more than [`LONG_TEXT`] octets, it is
+/// written to `out` and cleared before the next line; the last lines are left in `text`. Lines are copied
+/// from the cache `kept` of printed lines if it has them, and inserted there if not. Requires that
+/// `heading` is that of a table. Fails if memory allocation or `out` fails; some of the first lines may
+/// have been written to `out` then, and `text` holds unspecified octets.
 #[inline(never)]
 fn write_table_items<O: Output>(
     out: &mut O,
@@ -251,9 +274,10 @@ fn write_table_items<O: Output>(
     Ok(())
 }
 
-/// Writes the lines of `event`, which must be made from a TABLE_DUMP_V2 record, to `out`. Lines are
-/// copied from the cache `kept` if it has them, and inserted there if not. Overwrites `text`. On error, a
-/// prefix of the lines may have been written.
+/// Writes the lines of `event`, what an MRT record reports, to `out`. Requires that it is from a
+/// TABLE_DUMP_V2 record. Lines are copied from the cache `kept` of printed lines if it has them, and
+/// inserted there if not. Overwrites `text`, a buffer. Fails if memory allocation or `out` fails; some of
+/// the first lines may have been written to `out` then, and `text` holds unspecified octets.
 #[inline(always)]
 fn write_table_event<O: Output>(
     out: &mut O,
@@ -274,9 +298,11 @@ fn write_table_event<O: Output>(
     Ok(())
 }
 
-/// Writes the lines of `event` to `out`, by [`write_table_event`] if the cache `kept` accepts the event,
-/// or else by [`write_event_lines`]. Overwrites `text`. On error, a prefix of the lines may have been
-/// written.
+/// Writes the lines of `event`, what an MRT record reports, to `out`: one for each announcement,
+/// withdrawal or state change. The cache `kept` of printed lines is used if it accepts the event: for
+/// TABLE_DUMP_V2 records, as long as that saves work. Overwrites `text`, a buffer. Fails if memory
+/// allocation or `out` fails; some of the first lines may have been written to `out` then, and `text`
+/// holds unspecified octets.
 #[inline(always)]
 fn write_event<O: Output>(
     out: &mut O,
@@ -294,8 +320,11 @@ fn write_event<O: Output>(
     }
 }
 
-/// Writes the lines of `routes`, which are from the table of `peer`, to `out`. Each begins with `RIB`.
-/// Overwrites `text`. On error, a prefix of the lines may have been written.
+/// Writes a line for each of `routes`, pairs of a prefix and the route of `peer` to it, to `out`, in
+/// their order, such as
+/// `RIB|1700000000|B|192.0.2.1|65000|198.51.100.0/24|65000|IGP|192.0.2.1|0|0||NAG||`. Overwrites `text`,
+/// a buffer. Fails if memory allocation or `out` fails; some of the first lines may have been written to
+/// `out` then, and `text` holds unspecified octets.
 pub fn write_rib_lines<O: Output>(
     out: &mut O,
     peer: &Peer,
@@ -324,9 +353,10 @@ pub fn write_rib_lines<O: Output>(
     Ok(())
 }
 
-/// Writes the line of the route of `peer` to `prefix` to `out`. It begins with `RIB`. Overwrites `text`.
-/// If memory allocation fails, nothing is written; if `out` fails, a prefix of the line may have been
-/// written.
+/// Writes the line of the route of `peer` to `prefix` to `out`, such as
+/// `RIB|1700000000|B|192.0.2.1|65000|198.51.100.0/24|65000|IGP|192.0.2.1|0|0||NAG||`. Overwrites `text`,
+/// a buffer. If memory allocation fails, nothing is written; if `out` fails, some of the line's first
+/// octets may have been written.
 pub fn write_rib_line<O: Output>(
     out: &mut O,
     peer: &Peer,
@@ -349,8 +379,9 @@ pub fn write_rib_line<O: Output>(
     Ok(())
 }
 
-/// Writes the report of a faulty record to `err`. Overwrites `text`. If memory allocation fails, nothing
-/// is written; if `err` fails, a prefix of the report may have been written.
+/// Writes the report of a faulty record to `err`, such as `bgpdump: record 3, byte 120: cut record`.
+/// Overwrites `text`, a buffer. If memory allocation fails, nothing is written; if `err` fails, some of
+/// the report's first octets may have been written.
 pub fn write_report<E: Output>(
     err: &mut E,
     text: &mut Text,
@@ -365,9 +396,10 @@ pub fn write_report<E: Output>(
     Ok(())
 }
 
-/// Writes the lines of an event to `out`, or the report of a faulty record to `err`, or nothing at the
-/// end of the input. Returns `true` if it was a report. Overwrites `text`. On error, a prefix of the
-/// lines or of the report may have been written.
+/// Writes what reading a record gave: the lines of an event to `out`, the report of a faulty record to
+/// `err`, or nothing at the end of the input. Returns `true` if a report was written, and `false`
+/// otherwise. `kept` is a cache of printed lines. Overwrites `text`, a buffer. Fails if memory allocation
+/// or an output fails; some of the first lines, or a part of the report, may have been written then.
 #[inline(always)]
 pub(crate) fn write_next<O: Output, E: Output>(
     out: &mut O,

@@ -9,16 +9,20 @@ use crate::words::{equals, parse_number, split_once};
 use ip_prefix::{Addr, Prefix, SPACE};
 use mrt_wire::Peer;
 
-/// A command of a script.
+/// A command of a script, which moves a player through the events of an MRT file, or prints parts
+/// of its routing table. A step is one played event, which undo and redo go over; the cursor is
+/// between two steps.
 #[derive(Clone, Copy, Debug, PartialEq, Eq)]
 pub enum Command {
-    /// `next`: moves the player this many steps forward.
+    /// `next`: moves the player this many steps forward, at least 1. Undone steps are applied again
+    /// first; further events are read from the input.
     Next(u32),
-    /// `back`: moves the player this many steps back.
+    /// `back`: moves the player this many steps back, at least 1.
     Back(u32),
     /// `goto`: moves the player to this position, the number of steps before its cursor.
     Goto(u32),
-    /// `where`: prints the position of the player, and the number of steps ahead of it.
+    /// `where`: prints the position of the player, and the number of steps ahead of it, which were
+    /// undone and redo would apply again.
     Position,
     /// `peers`: prints the peers that have routes, and the number of routes of each.
     Peers,
@@ -28,14 +32,15 @@ pub enum Command {
     Route(Peer, Prefix),
     /// `lookup`: prints the route of this peer whose prefix is the longest match for this address.
     Lookup(Peer, Addr),
-    /// `lose`: plays the loss of the session with this peer.
+    /// `lose`: plays the loss of the session with this peer as a step of its own.
     Lose(Peer),
     /// `forget`: drops the oldest steps, until at most this many are left that can be undone.
     Forget(u32),
 }
 
-/// Parses a line of a script, without its line feed. Returns `None` if the line is no command; an
-/// empty one is none.
+/// Parses a line of a script, without its line feed, such as `lookup 192.0.2.1 65000 198.51.100.7`.
+/// Returns `None` if the line is no command: an empty line, an unknown name, or a wrong number of
+/// words, numbers out of range, or more than one space between words.
 pub fn read_command(line: &[u8]) -> Option<Command>
     ensures { ParsesTo SpellsCommand line.now result }
 {
@@ -54,7 +59,8 @@ pub fn read_command(line: &[u8]) -> Option<Command>
     }
 }
 
-/// Parses a command that consists of its name. Returns `None` if there is no such command.
+/// Parses a line that consists of the name of a command alone: `next` and `back` (by one step),
+/// `where` or `peers`. Returns `None` for any other name.
 fn parse_bare_command(name: &[u8]) -> Option<Command>
     ensures { ParsesTo SpellsWords (name.now ∷ []) result }
 {
@@ -71,8 +77,8 @@ fn parse_bare_command(name: &[u8]) -> Option<Command>
     }
 }
 
-/// Parses a command of a name and an argument, a number. Returns `None` if there is no such
-/// command.
+/// Parses a command of a name and a number, `word`: `goto`, `next`, `back` or `forget`. Returns
+/// `None` for any other name, or if `word` isn't such a number.
 fn parse_with_one_argument(name: &[u8], word: &[u8]) -> Option<Command>
     ensures { ParsesTo SpellsWords (name.now ∷ word.now ∷ []) result }
 {
@@ -101,8 +107,8 @@ fn parse_step_count(word: &[u8]) -> Option<u32>
     Some(number)
 }
 
-/// Parses a command of a name and two arguments, the address and the AS number of a peer. Returns
-/// `None` if there is no such command.
+/// Parses a command of a name and the address and the AS number of a peer: `table` or `lose`.
+/// Returns `None` for any other name, or if the peer is malformed.
 fn parse_with_two_arguments(name: &[u8], address: &[u8], number: &[u8]) -> Option<Command>
     ensures { ParsesTo SpellsWords (name.now ∷ address.now ∷ number.now ∷ []) result }
 {
@@ -116,8 +122,9 @@ fn parse_with_two_arguments(name: &[u8], address: &[u8], number: &[u8]) -> Optio
     }
 }
 
-/// Parses a command of a name and three arguments, the address and the AS number of a peer, and the
-/// prefix or the address that is `sought` in its table. Returns `None` if there is no such command.
+/// Parses a command of a name and the address and the AS number of a peer, and a word `sought`:
+/// `route` with a prefix, or `lookup` with an address. Returns `None` for any other name, or if an
+/// argument is malformed.
 fn parse_with_three_arguments(
     name: &[u8],
     address: &[u8],
@@ -136,7 +143,8 @@ fn parse_with_three_arguments(
     }
 }
 
-/// Parses a peer from its address and its AS number. Returns `None` if either is malformed.
+/// Parses a peer from the words of its address (such as `192.0.2.1`) and its AS number (such as
+/// `65000`). Returns `None` if either is malformed.
 fn parse_peer(address: &[u8], number: &[u8]) -> Option<Peer>
     ensures { ParsesTo (SpellsPeer address.now) number.now result }
 {

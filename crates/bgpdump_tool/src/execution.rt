@@ -1,6 +1,6 @@
-//! Executing the commands of a script. `play.rt` calls [`execute_command`] for each; the commands that
-//! move the player are in `execution/moves.rt`, and those that print parts of its table in
-//! `execution/queries.rt`.
+//! Executing the commands of a script. `play.rt` calls [`execute_command`] for each; the commands
+//! that move the player are in `execution/moves.rt`, and those that print parts of its routing
+//! table in `execution/queries.rt`.
 
 mod moves;
 mod queries;
@@ -19,8 +19,11 @@ use mrt_wire::{Input, Route};
 use prefix_store::PrefixStore;
 use std::rc::Rc;
 
-/// Executes a command: reads the records that it wants from `input`, reports the faulty ones to
-/// `err`, and then writes its reply to `out`. Fails with the outcome that ends the run.
+/// Executes a command of a script: reads the records that it wants from `input`, reports the faulty
+/// ones to `err`, and then writes its reply to `out`. Requires that the player has played at most
+/// 2^20 more events ([`LONGEST_SCRIPT`](crate::LONGEST_SCRIPT)) than the source has taken octets,
+/// and that these are at most 2^40, so that no count overflows. Fails with the [`Outcome`] that
+/// ends the program: a failed read or write, an input that is too long, or a lack of memory.
 pub(crate) fn execute_command<S: PrefixStore<Rc<Route>>, I: Input, O: Output, E: Output>(
     session: &mut Session<S>,
     input: &mut I,

@@ -1,6 +1,7 @@
-//! Scripts that play MRT files (RFC 6396) forwards and backwards. The program calls [`run_play`]
-//! for `--play`; read `play.rt` first, then `execution.rt`. What else the program needs is
-//! re-exported from `bgpdump_command_line` and `bgpdump_lines`.
+//! Scripts that play MRT files (RFC 6396) forwards and backwards: their commands, and how they are
+//! executed. The program calls [`run_play`] for `--play`; read `play.rt` first, then
+//! `execution.rt`. What else the program needs is re-exported from `bgpdump_command_line` and
+//! `bgpdump_lines`.
 #![tactic(auto)]
 
 mod command;

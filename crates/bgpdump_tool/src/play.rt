@@ -1,4 +1,4 @@
-//! Running a script from its first line to its last. The program calls [`run_play`]; read that
+//! Executing a script from its first line to its last. The program calls [`run_play`]; read that
 //! first, then `execute_line`, which executes one line.
 
 ghost use Rattle.std.specs.Prelude.{◌≡◌, ◌↔◌, ◌<◌, ◌≤◌, ◌+◌, ◌||◌, ℕ, List, false, IsTrue, length};
@@ -23,13 +23,18 @@ use prefix_store::PrefixStore;
 use std::alloc::Global;
 use std::rc::Rc;
 
-/// The greatest size of a script that is run, in octets.
+/// The greatest size of a script that is executed, in octets: 2^20. With more octets the program
+/// ends as [`Outcome::ScriptTooLong`].
 pub const LONGEST_SCRIPT: usize = 1 << 20;
 
-/// Runs `script` over an input of MRT records (RFC 6396), on a new player with stores of type `S`.
-/// Replies go to `out`, reports of faulty records and bad lines to `err`, each before the next
-/// record or line is read, and both are flushed before a read that may wait. Records that no
-/// command wants aren't read. If the run ends without a fault, `out` and then `err` are finished. A script of more than 1,048,576 octets isn't run.
+/// Executes `script` over `input`, MRT records (RFC 6396), with a new player whose routes are kept
+/// in stores of type `S`. Replies go to `out`, reports of faulty records and bad lines to `err`,
+/// each before the next record or line is read, and both are flushed before a read that may wait.
+/// Records that no command wants aren't read. `stamp` selects which time the routes of tables get:
+/// that of the dump, or that of their last change. Requires that no device has failed before. If
+/// nothing fails, finishes `out` and then `err`.
+///
+/// A script of more than 1,048,576 octets isn't executed: the outcome is `ScriptTooLong`.
 pub fn run_play<S: PrefixStore<Rc<Route>>, I: Input, O: Output, E: Output>(
     alloc: Global,
     input: &mut I,
@@ -112,8 +117,10 @@ pub fn run_play<S: PrefixStore<Rc<Route>>, I: Input, O: Output, E: Output>(
     }
 }
 
-/// Executes the lines of `script` in order, counted from 1. Fails with the outcome of the first
-/// line that ends the run.
+/// Executes the lines of `script` in order, numbered from 1. A line may be empty, or be no command
+/// (which is reported to `err`). Requires that the session is new, and that the script has at most
+/// [`LONGEST_SCRIPT`] octets. Fails with the [`Outcome`] of the first line that ends the program;
+/// the next lines aren't executed then.
 fn execute_lines<S: PrefixStore<Rc<Route>>, I: Input, O: Output, E: Output>(
     session: &mut Session<S>,
     input: &mut I,
@@ -144,8 +151,12 @@ fn execute_lines<S: PrefixStore<Rc<Route>>, I: Input, O: Output, E: Output>(
     execute_line(session, input, rest, number, out, err)
 }
 
-/// Executes a line of a script: its command, or nothing if it is empty. Reports a line that is
-/// neither to `err`, with its `number`, counted from 1. Fails with the outcome that ends the run.
+/// Executes a line of a script: its command, or nothing if it is empty. A line that is no command
+/// is reported to `err`, such as `bgpdump: script line 3: bad command`, with its `number`, counted
+/// from 1. Requires that the player has played at most 2^20 more events
+/// ([`LONGEST_SCRIPT`](crate::LONGEST_SCRIPT)) than the source has taken octets, and that these are
+/// at most 2^40, so that no count overflows. Fails with the [`Outcome`] that ends the program: a
+/// failed read or write, an input that is too long, or a lack of memory.
 fn execute_line<S: PrefixStore<Rc<Route>>, I: Input, O: Output, E: Output>(
     session: &mut Session<S>,
     input: &mut I,

@@ -8,8 +8,10 @@ ghost use Rattle.bgpdump_tool.specs.Replies.{at_text, none_text, labelled_number
 use bgpdump_lines::{Outcome, Output, WriteFault, put_all};
 use ip_prefix::Text;
 
-/// Writes each word to `out` with the number after it, in decimal, and then `ending`. Overwrites
-/// `text`. Fails if `out` or memory allocation fails; a prefix may be written then.
+/// Writes to `out` each word of `numbers` with the number after it, in decimal, and then `ending`,
+/// such as `at 5 floor 2 forgot 1`. The words contain their own spaces (`at `, ` floor `), and the
+/// ending the line feed. Overwrites `text`, a buffer. Fails if memory allocation or `out` fails;
+/// some of the reply's first octets may have been written then.
 pub(crate) fn write_labelled_numbers<O: Output>(
     numbers: &[(&[u8], u64)],
     ending: &[u8],
@@ -30,8 +32,10 @@ pub(crate) fn write_labelled_numbers<O: Output>(
     Ok(())
 }
 
-/// Writes to `out` the reply `at` with the position of the player, and with `end` if `ended`, that
-/// is if the command met the end of the input. Overwrites `text`. Fails as [`write_labelled_numbers`] does.
+/// Writes to `out` the reply `at 5`, where 5 is `position`, the number of played events before the
+/// player's cursor, or `at 5 end` if `ended`, that is if the command met the end of the input.
+/// Overwrites `text`, a buffer. Fails if memory allocation or `out` fails; some of the reply's
+/// first octets may have been written then.
 pub(crate) fn write_position<O: Output>(
     position: u64,
     ended: bool,
@@ -47,7 +51,8 @@ pub(crate) fn write_position<O: Output>(
     write_labelled_numbers(&[(b"at ", position)], b"\n", out, text)
 }
 
-/// Writes to `out` the reply `none`, for a question that finds nothing. Fails if `out` fails.
+/// Writes to `out` the reply `none`, for a question that finds nothing. Fails if `out` fails; some
+/// of the octets may have been written then.
 pub(crate) fn write_none<O: Output>(out: &mut O) -> Result<(), WriteFault>
     ensures text { Puts (O.written out.old) (O.written out.new) none_text result }
     ensures failed { O.failed out.new ≡ (O.failed out.old || is_output_fault result) }
@@ -56,8 +61,8 @@ pub(crate) fn write_none<O: Output>(out: &mut O) -> Result<(), WriteFault>
     Ok(())
 }
 
-/// Converts the result of writing a reply into the result of a command, whose error is the outcome
-/// that ends the run.
+/// Converts the result of writing a reply into the result of a command, whose error is the
+/// [`Outcome`] that ends the program: a write fault, or a lack of memory.
 pub(crate) fn replied(reply: Result<(), WriteFault>) -> Result<(), Outcome>
     ensures { result ≡ with_outcome_error reply }
 {

@@ -1,5 +1,5 @@
-//! The state of a run of a script, and its steps forward. `play.rt` makes a [`Session`] for each
-//! run, and the commands of `execution.rt` act on it; read [`Session::step`] first.
+//! The state of the execution of a script, and its steps forward. `play.rt` makes a [`Session`] for
+//! each script, and the commands of `execution.rt` act on it; read [`Session::step`] first.
 
 ghost use Rattle.std.specs.Prelude.{◌≡◌, ◌<◌, ◌+◌, ◌||◌, ℕ, false, IfOk, OnOk, IsTrue, is_err};
 ghost use Rattle.std.specs.Io.KnownBytes.{Keeps};
@@ -21,24 +21,27 @@ use std::alloc::Global;
 use std::mem;
 use std::rc::Rc;
 
-/// The state of a run of a script: a player, and the source of the events that it plays next.
+/// The state of the execution of a script: a player, which applies events to a routing table and
+/// undoes them, and the source of the events that it plays next.
 #[derive(Drop)]
 pub(crate) struct Session<S: PrefixStore<Rc<Route>>> {
-    /// The allocator.
+    /// The allocator of the texts and of the player.
     pub(crate) alloc: Global,
-    /// The player.
+    /// The player: a routing table, the played events (steps) that led to it, and a cursor among
+    /// them.
     pub(crate) player: Player<S>,
-    /// The source of the events that are played next.
+    /// The reader of the input's records, and the events that are played next.
     pub(crate) source: Source,
-    /// Whether a faulty record or a bad line was reported.
+    /// Whether a faulty record or a bad line was reported to standard error.
     pub(crate) reported: bool,
     /// A buffer that a text is assembled in before it is written. Its contents are unspecified.
     pub(crate) text: Text,
 }
 
 impl<S: PrefixStore<Rc<Route>>> Session<S> {
-    /// Returns the state at the start of a run: nothing is played, read or reported. `stamp`
-    /// selects the time that the routes of tables get.
+    /// Returns the state before the first line of a script: nothing is played, read or reported.
+    /// `stamp` selects which time the routes of tables get: that of the dump, or that of their last
+    /// change.
     pub(crate) fn new(alloc: Global, stamp: Stamp) -> Self
         ensures player { result.player ≡ fresh }
         ensures source { result.source ≡ start_state stamp INPUT_LIMIT }
@@ -53,16 +56,18 @@ impl<S: PrefixStore<Rc<Route>>> Session<S> {
         }
     }
 
-    /// Drops the state at the end of a run, or leaks it if the stores leave their memory to the
-    /// system (`PrefixStore::leaks_on_drop`).
+    /// Drops the state after the last line of a script. Leaks it instead if the stores `S` leave
+    /// their memory to the system (`PrefixStore::leaks_on_drop`), as freeing them one by one would
+    /// take long.
     pub(crate) fn end(self) {
         if S::leaks_on_drop() {
             mem::forget(self);
         }
     }
 
-    /// Flushes `out` and `err` before the next record is waited for. Does nothing if the source
-    /// reads no more, or if `input` has the whole record buffered.
+    /// Flushes `out` and `err`, as the next record may have to be waited for. Does nothing if no
+    /// further record is read, or if `input` has the whole next record in its buffer. Fails if a
+    /// flush fails.
     fn flush_before_record<I: Input, O: Output, E: Output>(
         &self,
         input: &I,
@@ -82,9 +87,13 @@ impl<S: PrefixStore<Rc<Route>>> Session<S> {
         Ok(())
     }
 
-    /// Moves the player one step forward: redoes the step ahead, or else reads a record and plays
-    /// its event. A faulty record is reported to `err` and leaves the player as it was. Returns
-    /// `true` if neither a step nor a record is left. Fails with the outcome that ends the run.
+    /// Moves the player one step forward: applies an undone event again, or else reads a record and
+    /// plays its event. A faulty record is reported to `err` and leaves the player as it was.
+    /// Returns `true` if neither an undone event nor a record is left, and `false` otherwise.
+    /// Requires that the player has played at most 2^20 more events
+    /// ([`LONGEST_SCRIPT`](crate::LONGEST_SCRIPT)) than the source has taken octets, and that these
+    /// are at most 2^40, so that no count overflows. Fails with the [`Outcome`] that ends the
+    /// program: a failed read or write, an input that is too long, or a lack of memory.
     pub(crate) fn step<I: Input, O: Output, E: Output>(
         &mut self,
         input: &mut I,

@@ -22,12 +22,16 @@ use rib_player::Player;
 use std::alloc::Global;
 use std::rc::Rc;
 
-/// The number of the session state Idle (RFC 6396, section 4.4.1).
+/// The number of the BGP session state Idle (RFC 6396, section 4.4.1): 1.
 const IDLE: u16 = 1;
 
 /// Executes `next`: moves the player `count` steps forward, or as far as the input goes, and writes
-/// its position to `out`. Each faulty record is reported to `err` and counts as one of the steps.
-/// Fails with the outcome that ends the run.
+/// its position to `out`, such as `at 5`, or `at 5 end` if the input came to its end. A step redoes
+/// an undone event, or else plays the next one from `input`; each faulty record is reported to
+/// `err` and counts as one of the `count` steps. Requires that the player has played at most 2^20
+/// more events ([`LONGEST_SCRIPT`](crate::LONGEST_SCRIPT)) than the source has taken octets, and
+/// that these are at most 2^40, so that no count overflows. Fails with the [`Outcome`] that ends
+/// the program: a failed read or write, an input that is too long, or a lack of memory.
 pub(crate) fn next<S: PrefixStore<Rc<Route>>, I: Input, O: Output, E: Output>(
     session: &mut Session<S>,
     input: &mut I,
@@ -56,9 +60,13 @@ pub(crate) fn next<S: PrefixStore<Rc<Route>>, I: Input, O: Output, E: Output>(
     replied(write_position(session.player.at(), false, out, &mut session.text))
 }
 
-/// Executes `goto`: moves the player to `position`, or as far as the kept steps or the input go,
-/// and writes its position to `out`. Each faulty record is reported to `err` and counts as no step.
-/// Fails with the outcome that ends the run.
+/// Executes `goto`: moves the player back or forward to `position`, the number of played events
+/// before its cursor, and writes the position reached to `out`, such as `at 5`. It ends earlier at
+/// the oldest event that can be undone, or at the end of the input (`at 5 end`). Each faulty record
+/// is reported to `err` and counts as no event. Requires that the player has played at most 2^20
+/// more events ([`LONGEST_SCRIPT`](crate::LONGEST_SCRIPT)) than the source has taken octets, and
+/// that these are at most 2^40, so that no count overflows. Fails with the [`Outcome`] that ends
+/// the program: a failed read or write, an input that is too long, or a lack of memory.
 pub(crate) fn goto<S: PrefixStore<Rc<Route>>, I: Input, O: Output, E: Output>(
     session: &mut Session<S>,
     input: &mut I,
@@ -91,7 +99,8 @@ pub(crate) fn goto<S: PrefixStore<Rc<Route>>, I: Input, O: Output, E: Output>(
     replied(write_position(session.player.at(), false, out, &mut session.text))
 }
 
-/// Undoes `count` steps, or all that are kept before the cursor if there are fewer.
+/// Undoes `count` steps, that is played events, or all that can be undone if there are fewer: those
+/// before the cursor that aren't forgotten.
 fn undo_steps<S: PrefixStore<Rc<Route>>>(player: &mut Player<S>, count: u64)
     ensures { player.new ≡
         at_cursor (player.old.cursor - min count (undoable player.old)) player.old }
@@ -103,9 +112,10 @@ fn undo_steps<S: PrefixStore<Rc<Route>>>(player: &mut Player<S>, count: u64)
     }
 }
 
-/// Undoes `count` steps, or all that are kept before the cursor if there are fewer, and writes the
-/// position of the player to `out`. Overwrites `text`. Fails if `out` or memory allocation fails;
-/// the steps are undone even so.
+/// Executes `back`: undoes `count` steps, that is played events, or all that can be undone if there
+/// are fewer, and writes the position of the player to `out`, such as `at 5`. Overwrites `text`, a
+/// buffer. Fails if memory allocation or `out` fails; some of the reply's first octets may have
+/// been written then. The steps are undone even so.
 pub(crate) fn back<S: PrefixStore<Rc<Route>>, O: Output>(
     player: &mut Player<S>,
     count: u64,
@@ -122,9 +132,10 @@ pub(crate) fn back<S: PrefixStore<Rc<Route>>, O: Output>(
     write_position(player.at(), false, out, text)
 }
 
-/// Plays the loss of the session with `peer`, a change of its state from Established to Idle at
-/// time 0. Returns the number of steps ahead, which this drops. Fails if memory allocation fails;
-/// `player` is left as it was then.
+/// Executes `lose`: plays the loss of the session with `peer` as a step, a change of its state from
+/// Established to Idle at time 0. Returns the number of undone steps that redo would have applied
+/// again, and that this drops. Requires that the player's position is below `u64::MAX`. Fails if
+/// memory allocation fails; `player` is unchanged then.
 pub(crate) fn play_session_loss<S: PrefixStore<Rc<Route>>>(
     player: &mut Player<S>,
     alloc: Global,

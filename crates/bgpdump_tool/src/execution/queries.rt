@@ -1,6 +1,6 @@
-//! The commands that print parts of the player's table: `peers`, `table`, `route` and `lookup`.
-//! `execute_command` calls these functions. Each fails if `out` or memory allocation fails; a prefix of
-//! its reply may be written then.
+//! The commands that print parts of the player's routing table: `peers`, `table`, `route` and
+//! `lookup`. `execute_command` calls these functions. Each fails if `out` or memory allocation
+//! fails; some of the first octets of its reply may be written then.
 
 ghost use Rattle.std.specs.Prelude.{◌≡◌, ◌||◌};
 ghost use Rattle.bgpdump_lines.specs.WrittenSoFar.{Puts, PutsAllOrFront, is_output_fault};
@@ -19,11 +19,14 @@ use std::alloc::Global;
 use std::collections::BTreeMap;
 use std::rc::Rc;
 
-/// The number of routes that are fetched from a table at a time.
+/// The number of routes, 64, that are fetched from a table at a time, so that a large one isn't
+/// copied at once.
 const MANY: usize = 64;
 
-/// Writes to `out` each peer that has a route, with the number of its routes, or `none` if there is
-/// no such peer. Overwrites `text`.
+/// Executes `peers`: writes to `out` a line for each peer that has a route, with the number of its
+/// routes, such as `PEER|192.0.2.1|65000|12`, or `none` if there is no such peer. Overwrites
+/// `text`, a buffer. Fails if memory allocation or `out` fails; some of the reply's first octets
+/// may have been written then.
 pub(crate) fn peers<S: PrefixStore<Rc<Route>>, O: Output>(
     table: &Table<S>,
     out: &mut O,
@@ -39,8 +42,9 @@ pub(crate) fn peers<S: PrefixStore<Rc<Route>>, O: Output>(
     }
 }
 
-/// Writes to `out` each peer of `few`, with the number of its routes, or `none` if `few` is empty.
-/// Overwrites `text`.
+/// Writes to `out` a line for each peer of `few`, which maps peers to their numbers of routes, such
+/// as `PEER|192.0.2.1|65000|12`, or `none` if `few` is empty. Overwrites `text`, a buffer. Fails if
+/// memory allocation or `out` fails; some of the reply's first octets may have been written then.
 fn few_peers<O: Output>(
     few: &BTreeMap<Peer, u64>,
     out: &mut O,
@@ -59,8 +63,10 @@ fn few_peers<O: Output>(
     Ok(())
 }
 
-/// Writes to `out` each peer that has a route, with the number of its routes, or `none` if there is
-/// no such peer. The peers are looked up in `table` one after another. Overwrites `text`.
+/// Writes to `out` a line for each peer that has a route in `table`, with the number of its routes,
+/// such as `PEER|192.0.2.1|65000|12`, or `none` if there is no such peer. Looks the peers up one
+/// after another, so that it needs no memory for all of them. Overwrites `text`, a buffer. Fails if
+/// memory allocation or `out` fails; some of the reply's first octets may have been written then.
 fn write_each_peer<S: PrefixStore<Rc<Route>>, O: Output>(
     table: &Table<S>,
     out: &mut O,
@@ -81,7 +87,9 @@ fn write_each_peer<S: PrefixStore<Rc<Route>>, O: Output>(
     Ok(())
 }
 
-/// Writes the `PEER` line of a peer with this number of routes to `out`. Overwrites `text`.
+/// Writes the line of a peer with its number of `routes` to `out`, such as
+/// `PEER|192.0.2.1|65000|12`. Overwrites `text`, a buffer. If memory allocation fails, nothing is
+/// written; if `out` fails, some of the line's first octets may have been written.
 fn write_peer_line<O: Output>(
     peer: &Peer,
     routes: u64,
@@ -101,8 +109,10 @@ fn write_peer_line<O: Output>(
     Ok(())
 }
 
-/// Writes all routes of `peer` to `out`, each on a line, in the order of their prefixes, and then
-/// the number of them. Overwrites `text`.
+/// Executes `table`: writes all routes of `peer` to `out`, each on a line that begins with `RIB`,
+/// in the order of their prefixes, and then their number, such as `routes 12`. A peer without
+/// routes gets `routes 0`. Overwrites `text`, a buffer. Fails if memory allocation or `out` fails;
+/// some of the reply's first octets may have been written then.
 pub(crate) fn table<S: PrefixStore<Rc<Route>>, O: Output>(
     table: &Table<S>,
     alloc: Global,
@@ -130,6 +140,8 @@ pub(crate) fn table<S: PrefixStore<Rc<Route>>, O: Output>(
 }
 
 /// Writes to `out` the route of `peer` to `prefix`, or `none` if it has none. Overwrites `text`.
+/// Executes the command `route`; the route's line begins with `RIB`. `text` is a buffer. Fails if
+/// memory allocation or `out` fails; some of the reply's first octets may have been written then.
 pub(crate) fn route<S: PrefixStore<Rc<Route>>, O: Output>(
     table: &Table<S>,
     peer: &Peer,
@@ -147,8 +159,10 @@ pub(crate) fn route<S: PrefixStore<Rc<Route>>, O: Output>(
     }
 }
 
-/// Writes to `out` the route of `peer` whose prefix is the longest match for `addr`, or `none` if
-/// no prefix that it has a route to contains `addr`. Overwrites `text`.
+/// Executes `lookup`: writes to `out` the line of the route of `peer` whose prefix is the longest
+/// match for `addr`, which begins with `RIB`, or `none` if no prefix that `peer` has a route to
+/// contains `addr`. Overwrites `text`, a buffer. Fails if memory allocation or `out` fails; some of
+/// the reply's first octets may have been written then.
 pub(crate) fn lookup<S: PrefixStore<Rc<Route>>, O: Output>(
     table: &Table<S>,
     peer: &Peer,
