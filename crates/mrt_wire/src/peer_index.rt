@@ -33,7 +33,8 @@ const ID_SIZE: usize = 4;
 /// number of two octets.
 const SMALLEST_PEER: usize = 11;
 
-/// Returns the family of a peer's address, by its Peer Type (RFC 6396, section 4.3.1).
+/// Returns the family of a peer's address, by the Peer Type octet `kind` (RFC 6396, section 4.3.1).
+/// Other bits of it are ignored.
 fn peer_family(kind: u8) -> Family
     ensures { result ≡ peer_family kind }
 {
@@ -44,7 +45,8 @@ fn peer_family(kind: u8) -> Family
     }
 }
 
-/// Returns the width of a peer's AS number, by its Peer Type (RFC 6396, section 4.3.1).
+/// Returns the width of a peer's AS number, by the Peer Type octet `kind` (RFC 6396, section
+/// 4.3.1). Other bits of it are ignored.
 fn peer_width(kind: u8) -> AsWidth
     ensures { result ≡ peer_width kind }
 {
@@ -56,7 +58,8 @@ fn peer_width(kind: u8) -> AsWidth
 }
 
 /// Parses the peer entry at the start of `octets`, ignoring its BGP ID (RFC 6396, section 4.3.1).
-/// Returns `None` if `octets` is shorter than the entry.
+/// Returns the peer with the octets after the entry, or `None` if `octets` is shorter than the
+/// entry.
 fn split_peer(octets: &[u8]) -> Option<ValueAndRest<'_, Peer>>
     ensures { FindsValue SpellsPeer octets.now result }
 {
@@ -66,9 +69,9 @@ fn split_peer(octets: &[u8]) -> Option<ValueAndRest<'_, Peer>>
     split_address_and_asn(family, width, after_id)
 }
 
-/// Parses a 16-bit count and as many peer entries at the start of `octets`, and ignores the octets
-/// after them. Fails with `Malformed` if there are fewer entries than the count states, or with
-/// `Memory` if memory allocation fails.
+/// Parses a big-endian 16-bit count and as many peer entries at the start of `octets`, and ignores
+/// the octets after them. Fails with `Malformed` if there are fewer entries than the count states,
+/// or with `Memory` if memory allocation fails.
 fn read_peers(alloc: Global, octets: &[u8]) -> Result<Peers, WireFault>
     ensures { ParsesOrFails (SpellsFront (SpellsCounted SpellsPeer)) octets.now result }
 {
@@ -88,8 +91,8 @@ fn read_peers(alloc: Global, octets: &[u8]) -> Result<Peers, WireFault>
 }
 
 /// Parses the body of a PEER_INDEX_TABLE record into its peers (RFC 6396, section 4.3.1), and
-/// ignores the collector's BGP ID and the view name. Fails with `Malformed` if the body has another
-/// form, or with `Memory` if memory allocation fails.
+/// ignores the collector's BGP ID and the view name. Fails with `Malformed` if a field is missing,
+/// or with `Memory` if memory allocation fails.
 pub(crate) fn read_peer_index(alloc: Global, octets: &[u8]) -> Result<Peers, WireFault>
     ensures { ParsesOrFails SpellsPeerIndex octets.now result }
 {

@@ -49,7 +49,7 @@ const BGP4MP_MESSAGE_AS4: u16 = 4;
 /// The BGP4MP subtype of a state change, with AS numbers of four octets (RFC 6396, section 4.4.4).
 const BGP4MP_STATE_CHANGE_AS4: u16 = 5;
 
-/// The kind of a BGP4MP record, by what it reports of a session.
+/// What a BGP4MP record reports of a BGP session: a state change or a message.
 #[derive(Clone, Copy)]
 pub(crate) enum SessionKind {
     /// A state change (RFC 6396, sections 4.4.1 and 4.4.4).
@@ -58,7 +58,7 @@ pub(crate) enum SessionKind {
     Message,
 }
 
-/// The format of the body of a BGP4MP or BGP4MP_ET record.
+/// The format of the body of a BGP4MP or BGP4MP_ET record, which its type and subtype determine.
 #[derive(Clone, Copy)]
 pub(crate) struct SessionFormat {
     /// The kind of the record.
@@ -69,7 +69,8 @@ pub(crate) struct SessionFormat {
     pub(crate) timed: bool,
 }
 
-/// The format of the body of a supported record.
+/// The format of the body of a record of a supported type and subtype, by which its parser is
+/// selected.
 #[derive(Clone, Copy)]
 pub(crate) enum BodyFormat {
     /// One peer and its route to a prefix of this family: TABLE_DUMP (RFC 6396, section 4.2).
@@ -83,7 +84,8 @@ pub(crate) enum BodyFormat {
     Session(SessionFormat),
 }
 
-/// The supported types and subtypes of records, each with its [`BodyFormat`].
+/// Tells the reader of headers which MRT types and subtypes are supported, each with the
+/// [`BodyFormat`] of its bodies. Records of others are skipped.
 pub(crate) struct SupportedTypes;
 
 impl RecordTypes for SupportedTypes {
@@ -105,9 +107,9 @@ impl RecordTypes for SupportedTypes {
     }
 }
 
-/// Returns the format of the body of a BGP4MP record of this subtype, or `None` if the subtype
-/// isn't supported. `timed` tells whether the body begins with microseconds, as those of BGP4MP_ET
-/// do.
+/// Returns the format of the body of a BGP4MP or BGP4MP_ET record of the subtype `subtype`, or
+/// `None` if the subtype isn't supported. `timed` is `true` for BGP4MP_ET, whose bodies begin with
+/// microseconds (RFC 6396, section 3).
 fn session_format(timed: bool, subtype: u16) -> Option<BodyFormat>
     ensures { result ≡ session_format timed subtype }
 {
