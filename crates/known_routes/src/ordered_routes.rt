@@ -23,7 +23,8 @@ const MOST_ORDERED: usize = 1 << 22;
 /// whose capacity divided by it, rounded down, is above the length is moved to a smaller block.
 const MOST_TIMES: usize = 4;
 
-/// A route with its hash, as [`hash_route`](crate::route_hash) returns it.
+/// A route with its 32-bit hash ([`hash_route`](crate::route_hash)), so that comparisons begin with
+/// the hash.
 #[derive(Drop)]
 pub(crate) struct HashedRoute {
     pub(crate) hash: u32,
@@ -40,7 +41,7 @@ pub(crate) struct OrderedRoutes {
     /// The runs (sorted lists of at most [`LONGEST_RUN`] routes), in order. None is empty, unless
     /// memory allocation failed.
     pub(crate) runs: Vec<Vec<HashedRoute>>,
-    /// The number of routes in all runs.
+    /// The number of routes in all runs together, at most [`MOST_ORDERED`].
     pub(crate) count: usize,
 }
 
@@ -123,7 +124,7 @@ fn split_off_half(
 }
 
 impl OrderedRoutes {
-    /// Returns an empty list. Allocates no memory.
+    /// Returns a list without routes. Allocates no memory.
     pub(crate) fn empty(alloc: Global) -> OrderedRoutes {
         OrderedRoutes {
             runs: Vec::new(alloc),

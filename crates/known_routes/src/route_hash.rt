@@ -8,16 +8,16 @@ use bgp_wire::Attrs;
 use ip_prefix::{Addr, Family};
 use mrt_events::{Peer, Route};
 
-/// The factor of each step of a hash: the odd number nearest to 2^64 divided by the golden ratio.
-/// The lower half of a product depends on the lowest bits most, and the upper half on the highest.
-/// An even factor would lose the highest bit.
+/// The factor by which each step of a hash of a route or a peer multiplies: the odd number nearest
+/// to 2^64 divided by the golden ratio. The lower half of a product depends on the lowest bits
+/// most, and the upper half on the highest. An even factor would lose the highest bit.
 const MULTIPLIER: u64 = 0x9e37_79b9_7f4a_7c15;
 
-/// The greatest number of 64 bits, which is the lower half of a product. With a bit less, that half
-/// would lose its highest bit.
+/// The number whose lowest 64 bits are set, which selects the lower half of a product of 128 bits.
+/// With a bit less, that half would lose its highest bit.
 const LOWER_HALF: u128 = 0xffff_ffff_ffff_ffff;
 
-/// The number that stands for an absent ORIGIN, above all its codes. One above it is that of an
+/// The number that is hashed for an absent ORIGIN, above all its codes. One above it is that of an
 /// ORIGIN of 0 with ATOMIC_AGGREGATE.
 const NO_ORIGIN: u32 = 3;
 
@@ -41,7 +41,8 @@ fn mix(hash: u64, number: u64) -> u64 {
     (product >> 64) as u64 ^ (product & LOWER_HALF) as u64
 }
 
-/// Returns the number whose low 32 bits are `low` and whose high 32 bits are `high`.
+/// Returns the number whose low 32 bits are `low` and whose high 32 bits are `high`, so that both
+/// are hashed in one step.
 #[inline]
 fn joined(low: u32, high: u32) -> u64 {
     u64::from(low) | u64::from(high) << 32

@@ -180,8 +180,8 @@ impl RouteInterner {
     }
 
     /// Adds `route`, which isn't in the table, with its hash and the number of octets that it takes
-    /// ([`route_size`]). Returns the index of its slot in the hash table, or `usize::MAX` if the
-    /// route is in no slot: in the overflow list for slots that are taken. Fails if memory
+    /// ([`route_size`]). Returns the index of its slot in the hash table, or `usize::MAX` if it is
+    /// in no slot: its slots were taken, so that it is in the overflow list. Fails if memory
     /// allocation fails; the route isn't added then.
     fn insert(&mut self, hash: u32, route: Rc<Route>, octets: u64) -> Result<usize, AllocError>
         ensures { sized_for self.new ≤ max (sized_for self.old) (route_count self.new) }

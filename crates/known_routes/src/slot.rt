@@ -12,16 +12,18 @@ use std::rc::Rc;
 /// eight slots. With one more, a row would begin in one line of the cache and end in the next.
 const ROW: usize = 4;
 
-/// The number of slots before the first row, which have no route. A large block begins 16 octets
-/// after the start of a page, the size of one slot, so that each row is in one line of the cache.
-/// With one more, none would be.
+/// The number of slots of a table before its first row (a bucket of four slots); they have no
+/// route. A large block begins 16 octets after the start of a page, the size of one slot, so that
+/// each row is in one line of the cache. With one more, none would be.
 const BEFORE_ROWS: usize = 3;
 
-/// The factor by which a hash is multiplied for its second row: the prime nearest to 2^32 divided
-/// by the golden ratio. An even factor would lose the highest bit of the hash.
+/// The factor by which a hash is multiplied to select the second of its two rows (buckets of four
+/// slots): the prime nearest to 2^32 divided by the golden ratio. An even factor would lose the
+/// highest bit of the hash.
 const SECOND_ROW: u32 = 0x9e37_79b1;
 
-/// The number of bits of a hash. With one more, only rows of the first half would be taken.
+/// The number of bits of the hash of a route. With one more, only rows (buckets of four slots) of
+/// the first half of a table would be taken.
 const HASH_BITS: u32 = 32;
 
 /// The tag (the octet for a slot that a search compares first) of a slot without a route. The

@@ -17,8 +17,8 @@ use std::alloc::{AllocError, Global};
 use std::mem;
 use std::rc::Rc;
 
-/// The number of slots of the first table, and the smallest number of a later one. The table grows
-/// when a route is added while three quarters of its slots are taken.
+/// The number of slots of the first hash table, and the smallest number of a later one. The table
+/// grows when a route is added while three quarters of its slots are taken.
 const MIN_SLOTS: usize = 1024;
 
 /// The largest number of slots of a table. A table of so many doesn't grow; a route whose rows
@@ -56,7 +56,8 @@ pub(crate) struct InternTable {
     pub(crate) taken: usize,
     /// The routes that found both rows of their hash full.
     overflow: OrderedRoutes,
-    /// The number of routes that replaced another in its slot.
+    /// The number of routes that replaced another in its slot, since they found both of their rows
+    /// full. It saturates.
     overwritten: usize,
     /// The number of octets that all routes of the table take ([`route_size`]), as far as callers
     /// added them. [`InternTable::put`] doesn't.
@@ -81,7 +82,8 @@ impl InternTable {
         }
     }
 
-    /// Returns a table of `count` slots without routes. Fails if memory allocation fails.
+    /// Returns a table of `count` slots, none of which has a route yet. Fails if memory allocation
+    /// fails.
     pub(crate) fn with_slots(alloc: Global, count: usize) -> Result<InternTable, AllocError>
         ensures { IfOk result (λ free. vec_len free.slots ≡ count) }
     {

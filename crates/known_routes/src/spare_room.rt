@@ -15,8 +15,9 @@ use std::rc::Rc;
 /// without spare capacity.
 const MOST_SPARE: u64 = 40;
 
-/// The ratio of the octets that a route takes to those that its spare capacity may take besides
-/// [`MOST_SPARE`]. With a number one above it, less spare capacity is left to a route.
+/// The divisor of the octets that a route takes, which gives the octets of spare capacity that it
+/// may have besides [`MOST_SPARE`]. With a number one above it, less spare capacity is left to a
+/// route.
 const SPARE_SHARE: u64 = 4;
 
 /// The number of octets in memory of an AS number of a path, or of a community.
@@ -47,7 +48,8 @@ fn has_much_spare(route: &Route, octets: u64) -> bool {
     spare > MOST_SPARE && spare - MOST_SPARE > octets / SPARE_SHARE
 }
 
-/// Returns a copy of the route without spare capacity. Fails if memory allocation fails.
+/// Returns a copy of the route in memory of its own, without spare capacity. Fails if memory
+/// allocation fails.
 #[inline(never)]
 fn copy_route(alloc: Global, route: &Route) -> Result<Rc<Route>, AllocError>
     ensures { IfOk result (λ copy. copy.value ≡ route.now) }

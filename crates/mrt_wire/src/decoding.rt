@@ -54,7 +54,7 @@ impl From<WireFault> for DecodeError {
 pub(crate) struct RawRecord<'a> {
     /// The format of the body, by the type and subtype of the record.
     pub(crate) form: BodyFormat,
-    /// The fields of the MRT common header (RFC 6396, section 2).
+    /// The parsed MRT common header: timestamp, type, subtype and length (RFC 6396, section 2).
     pub(crate) header: Header,
     /// The octets after the header, as many as the header states.
     pub(crate) body: &'a [u8],

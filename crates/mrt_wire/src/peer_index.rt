@@ -20,17 +20,20 @@ use ip_prefix::Family;
 use mrt_events::Peer;
 use std::alloc::Global;
 
-/// The Peer Type bit that is set if the peer has an IPv6 address (RFC 6396, section 4.3.1).
+/// The bit of a Peer Type octet that is set if the peer has an IPv6 address, and clear if it has an
+/// IPv4 address (RFC 6396, section 4.3.1).
 const IPV6_PEER: u8 = 0x01;
 
-/// The Peer Type bit that is set if the AS number has four octets (RFC 6396, section 4.3.1).
+/// The bit of a Peer Type octet that is set if the peer's AS number has four octets, and clear if
+/// it has two (RFC 6396, section 4.3.1).
 const AS4_PEER: u8 = 0x02;
 
-/// The size of the BGP ID of a collector or a peer, in octets.
+/// The size of the BGP ID of a collector or a peer in a PEER_INDEX_TABLE, in octets (RFC 6396,
+/// section 4.3.1).
 const ID_SIZE: usize = 4;
 
 /// The size of the smallest peer entry, in octets: a Peer Type, a BGP ID, an IPv4 address and an AS
-/// number of two octets.
+/// number of two octets. It bounds the number of peers that memory is reserved for.
 const SMALLEST_PEER: usize = 11;
 
 /// Returns the family of a peer's address, by the Peer Type octet `kind` (RFC 6396, section 4.3.1).

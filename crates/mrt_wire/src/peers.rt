@@ -14,8 +14,8 @@ use mrt_events::Peer;
 /// two peers share a slot, and the route of each overwrites the other's.
 pub(crate) const PEER_SLOTS: usize = 256;
 
-/// The multiplier of the hash of a peer: the odd number nearest to 2^32 divided by the golden
-/// ratio.
+/// The multiplier of the multiplicative hash of a peer: the odd number nearest to 2^32 divided by
+/// the golden ratio, which spreads similar peers.
 const MULTIPLIER: u32 = 0x9E37_79B9;
 
 /// The number of low bits of the 32-bit product that are no part of the hash of a peer, which has 8

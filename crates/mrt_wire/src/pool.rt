@@ -13,8 +13,9 @@ use mrt_events::Item;
 use std::alloc::Global;
 use std::mem;
 
-/// The largest number of octets of memory that is kept for routes of tables, if no record needs
-/// more than `MOST_ROOM`. The crate isn't built with constants whose sum exceeds it.
+/// The largest number of octets of memory that is kept between records for routes of tables, if no
+/// record needs more than `MOST_ROOM`, the bound on the counted routes of a pool. The build fails
+/// if the sum of the parts exceeds it.
 const MOST_OCTETS: usize = 1100 * 1024;
 
 /// The largest number of octets of memory that the slots of the route cache take, which keep the

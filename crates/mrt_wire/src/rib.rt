@@ -24,7 +24,8 @@ use std::rc::Rc;
 const SEQUENCE_SIZE: usize = 4;
 
 /// The size of the smallest RIB entry, in octets: a Peer Index, an Originated Time and an Attribute
-/// Length of 0 (RFC 6396, section 4.3.4).
+/// Length of 0 (RFC 6396, section 4.3.4). It bounds the number of entries that memory is reserved
+/// for.
 const SMALLEST_ENTRY: usize = 8;
 
 /// A parsed entry of a RIB record: the route of one peer to the record's prefix (RFC 6396, section
@@ -34,7 +35,7 @@ pub(crate) struct ParsedEntry {
     /// The route. Its time is the record's or the Originated Time, as
     /// [`TableContext::stamp`](TableContext) selects.
     pub(crate) route: Rc<Route>,
-    /// The Originated Time, in seconds since 1970.
+    /// The Originated Time (when the route was received), in seconds since 1970.
     pub(crate) originated: u32,
     /// The peer index: the position of the peer in the peer index table, counted from 0.
     pub(crate) index: u16,
@@ -43,9 +44,10 @@ pub(crate) struct ParsedEntry {
 /// What the items of a RIB record's entries depend on besides the octets of the entries.
 #[derive(Clone, Copy)]
 pub(crate) struct TableContext<'a> {
-    /// The peers of the peer index table, in the order of their peer indexes.
+    /// The peers of the last accepted peer index table, in the order of their peer indexes; empty
+    /// if there is no table.
     pub(crate) peers: &'a [Peer],
-    /// The family of the prefix of the record.
+    /// The address family of the prefix of the record.
     pub(crate) family: Family,
     /// The timestamp of the record, in seconds since 1970.
     pub(crate) seconds: u32,
@@ -80,7 +82,7 @@ pub(crate) fn route_time(stamp: Stamp, seconds: u32, originated: u32) -> u32
 /// The fields of a RIB entry, and `rest`, the octets after the entry (RFC 6396, section 4.3.4).
 #[derive(Clone, Copy)]
 struct EntryFields<'a> {
-    /// The path attributes, unparsed.
+    /// The path attributes, unparsed, without their length.
     attributes: &'a [u8],
     rest: &'a [u8],
     /// The Originated Time, in seconds since 1970.

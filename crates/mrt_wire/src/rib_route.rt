@@ -14,9 +14,9 @@ use std::rc::Rc;
 /// The path attributes of a table entry, unparsed, with what their parser has to know.
 #[derive(Clone, Copy)]
 pub(crate) struct RawAttrs<'a> {
-    /// The octets of the attributes (RFC 4271, section 4.3).
+    /// The octets of the path attributes, without their total length (RFC 4271, section 4.3).
     pub(crate) octets: &'a [u8],
-    /// The family of the prefix of the entry.
+    /// The address family of the prefix of the entry, which the next hop belongs to.
     pub(crate) family: Family,
     /// The width of AS numbers: two octets in TABLE_DUMP, and four in TABLE_DUMP_V2.
     pub(crate) width: AsWidth,

@@ -97,14 +97,15 @@ impl SpareRoutes {
 struct CachedRoute {
     /// The route, which events may share.
     route: Rc<Route>,
-    /// The path attributes, unparsed (RFC 4271, section 4.3).
+    /// The octets that the path attributes of `route` were parsed from, without their total length
+    /// (RFC 4271, section 4.3).
     octets: Vec<u8>,
     /// The family of the prefix that `octets` were parsed for.
     family: Family,
     /// The width of the AS numbers in `octets`.
     width: AsWidth,
-    /// Whether `route` was parsed from `octets`. It is `false` before the first entry, and after one that
-    /// couldn't be parsed.
+    /// Whether `route` was parsed from `octets`: `false` before the first entry, and after an entry
+    /// that couldn't be parsed.
     known: bool,
 }
 

@@ -16,12 +16,13 @@ use std::alloc::{AllocError, Global};
 use std::mem;
 use std::rc::Rc;
 
-/// The number of routes of a record, the first ones, that a pool keeps without counting their
-/// octets if their attributes are short ([`LONGEST_FIRST`]). Each further one is counted.
+/// The number of routes of a record, the first ones, whose memory a pool keeps for later records
+/// without counting their octets, if their attributes are short ([`LONGEST_FIRST`]). Each further
+/// one is counted.
 pub(crate) const FIRST_ROUTES: usize = 4;
 
-/// The largest size, in octets, of the attributes of a route that a pool keeps without counting its
-/// octets. A route with longer attributes is counted.
+/// The largest size, in octets, of the path attributes of a route whose memory a pool keeps for
+/// later records without counting its octets. A route with longer attributes is counted.
 const LONGEST_FIRST: usize = 1024;
 
 /// The largest number of octets of memory, with all its capacity, of a route that a pool keeps
@@ -30,8 +31,8 @@ const LONGEST_FIRST: usize = 1024;
 /// is proved with it.
 pub(crate) const LARGEST_FIRST: usize = 26 * 1024;
 
-/// The largest number of routes in a pool. A record has at most 65,535 entries, so none needs more;
-/// further entries would all be read into the last route.
+/// The largest number of routes in a pool, whose memory later records reuse. A record has at most
+/// 65,535 entries, so none needs more; further entries would all be parsed into the last route.
 pub(crate) const MOST_ROUTES: usize = 1 << 16;
 
 /// The number of octets of memory that the counted routes of a pool may take together, with all
@@ -40,8 +41,8 @@ pub(crate) const MOST_ROUTES: usize = 1 << 16;
 /// ones are dropped.
 pub(crate) const MOST_ROOM: u64 = 560 * 1024;
 
-/// The largest number of octets that an element of the list of routes takes: a pointer and a
-/// number, and as many octets again of the list's spare capacity.
+/// The largest number of octets of memory that an element of a pool's list of routes takes: a
+/// pointer and a number, and as many octets again of the list's spare capacity.
 pub(crate) const ELEMENT_OCTETS: u64 = 32;
 
 // What is dropped so wasn't needed while a quarter as many octets were read. To allocate it again
@@ -230,9 +231,10 @@ impl RoutePool {
         self.routes.shrink_to_fit();
     }
 
-    /// Returns the index of the route that the record is to use next, and adds a route without
-    /// attributes if the pool has no more. The route may have other owners. A record that uses
-    /// [`MOST_ROUTES`] gets the last index again. Fails if memory allocation fails.
+    /// Returns the index in the pool of the route that the record is to use next, and adds a route
+    /// without attributes if the pool has no more. The route may have other owners. A record with
+    /// more than [`MOST_ROUTES`] routes gets the last index again and again. Fails if memory
+    /// allocation fails.
     #[inline(always)]
     fn next_index(&mut self, alloc: Global) -> Result<usize, AllocError>
         ensures next { IfOk result (λ index. index ≡ self.old.used) }

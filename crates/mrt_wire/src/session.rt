@@ -23,10 +23,11 @@ use ip_prefix::{Addr, Family};
 use mrt_events::{Item, Items, Peer};
 use std::alloc::{AllocError, Global};
 
-/// The size of the Interface Index, in octets (RFC 6396, section 4.4.1).
+/// The size of the Interface Index among the session fields of a BGP4MP record, in octets (RFC
+/// 6396, section 4.4.1).
 const INTERFACE_SIZE: usize = 2;
 
-/// The number of microseconds in a second.
+/// The number of microseconds in a second: the microseconds of a BGP4MP_ET record are below it.
 const MICROS_PER_SECOND: u32 = 1_000_000;
 
 /// The largest size of a message with the session fields in front of it, in octets, after which the
@@ -45,7 +46,7 @@ pub(crate) struct SessionItems {
     pub(crate) micros: Option<u32>,
 }
 
-/// Returns the size of an address of `family`, in octets.
+/// Returns the size of an address of `family` in a record, in octets: 4 for IPv4, and 16 for IPv6.
 fn address_octets(family: Family) -> usize
     ensures { result ≡ octet_count family }
 {

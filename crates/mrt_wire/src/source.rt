@@ -27,7 +27,8 @@ use std::marker::Model;
 #[derive(Drop)]
 pub struct Source {
     alloc: Global,
-    /// The reader of headers and bodies, with the buffer of bodies and the offset in the input.
+    /// The reader of record headers and bodies, with the buffer of the current body, the offset in
+    /// the input and the limit.
     frames: FrameReader,
     /// The number of records read so far, faulty and unsupported ones included.
     number: u64,

@@ -22,20 +22,21 @@ use ip_prefix::{Addr, Family, Prefix, V4_OCTETS};
 use mrt_events::{Item, Items, Peer, SharedRanges, Stamp};
 use std::alloc::Global;
 
-/// The size of the View Number and the Sequence Number together, in octets (RFC 6396, section 4.2).
+/// The size of the View Number and the Sequence Number of a TABLE_DUMP body together, in octets
+/// (RFC 6396, section 4.2).
 const NUMBERS_SIZE: usize = 4;
 
-/// The size of the Status, in octets (RFC 6396, section 4.2).
+/// The size of the Status field of a TABLE_DUMP body, in octets (RFC 6396, section 4.2).
 const STATUS_SIZE: usize = 1;
 
 /// The fields of a TABLE_DUMP body that are used, the attributes unparsed (RFC 6396, section 4.2).
 #[derive(Clone, Copy)]
 struct EntryFields<'a> {
-    /// The path attributes, unparsed.
+    /// The path attributes, unparsed, without their length.
     attributes: &'a [u8],
     prefix: Prefix,
     peer: Peer,
-    /// The Originated Time, in seconds since 1970.
+    /// The Originated Time (when the route was received), in seconds since 1970.
     time: u32,
 }
 

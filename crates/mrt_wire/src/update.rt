@@ -22,7 +22,7 @@ use std::rc::Rc;
 struct AnnouncedPrefixes<'a, 'b> {
     /// The peer that sent the UPDATE.
     peer: &'a Peer,
-    /// The prefixes. There may be none.
+    /// The prefixes, which the one route is for. There may be none.
     prefixes: &'b Prefixes,
     /// The time of the route, in seconds since 1970.
     seconds: u32,

@@ -25,7 +25,7 @@ pub trait PrefixStore<R: Drop>: Sized + Drop {
     /// The keys: the prefixes that have memory for a route.
     ghost keys: { Self → Keys };
 
-    /// The routes by prefix, at some of the keys.
+    /// The routes by prefix: some of the keys have one.
     ghost routes: { Self → Routes R };
 
     /// Returns a store without keys and routes. Allocates no memory.
@@ -90,9 +90,9 @@ pub trait PrefixStore<R: Drop>: Sized + Drop {
     fn get(&self, prefix: &Prefix) -> Option<&R>
         ensures { option_copied result ≡ finite.get (routes self.now) prefix.now };
 
-    /// Returns the route at the longest prefix that contains `addr`, with that prefix, or `None` if
-    /// no prefix with a route contains it. By this route a router forwards (RFC 1812, section
-    /// 5.2.4.3).
+    /// Returns the route at the longest prefix that contains `addr`, of those that have a route,
+    /// with that prefix. Returns `None` if no prefix with a route contains it. By this route a
+    /// router forwards (RFC 1812, section 5.2.4.3).
     fn longest(&self, addr: &Addr) -> Option<(Prefix, &R)>
         ensures { IsLongestMatch (routes self.now) addr.now (option_map (λ p. (p.0, p.1.now)) result) };
 

@@ -30,11 +30,11 @@ use std::rc::Rc;
 #[cycle(tree)]
 #[derive(Drop)]
 pub(crate) enum Tree<K, R> {
-    /// No keys.
+    /// No node.
     Empty,
-    /// A key without a route and without keys below it.
+    /// A key (a prefix that the tree keeps) without a route and without keys below it.
     Bare(K),
-    /// A key with a route and without keys below it.
+    /// A key (a prefix that the tree keeps) with this route and without keys below it.
     Leaf(K, R),
     /// A branch, whose prefix isn't a key but covers keys on both sides: its mark, which is whether
     /// some key below it has a route, its prefix, and its children. Walks over the routes skip a

@@ -7,13 +7,13 @@ use crate::tree::Tree;
 use ip_prefix::Prefix;
 use prefix_store::{PackedPrefix, V4Prefix};
 
-/// The greatest number of bits of a prefix that a descent reads. Nodes whose prefixes have as many
-/// bits or more aren't passed.
+/// The greatest number of leading bits of a prefix that a descent (a walk that reads nodes into the
+/// processor's cache) reads. It doesn't go on below nodes whose prefixes have as many bits or more.
 const MOST_BITS: u8 = 64;
 
-/// The greatest number of nodes that a descent passes: more than lie above the prefixes of the
-/// Internet's tables. A node below these isn't prefetched, and the call after the descent waits for
-/// it.
+/// The greatest number of nodes that a descent (a walk that reads nodes into the processor's cache)
+/// passes: more than lie above the prefixes of the Internet's tables. A node below these isn't read
+/// in advance, and the call after the descent waits for it.
 const MOST_NODES: u8 = 32;
 
 /// A walk down a tree towards a prefix, which reads nodes so that they are in the processor's
@@ -37,9 +37,9 @@ pub(crate) struct Descent<'a, R> {
 pub(crate) enum DescentNode<'a, R> {
     /// No subtree: the descent reads nothing.
     Ended,
-    /// A subtree of IPv4 prefixes.
+    /// A subtree of IPv4 prefixes, whose root is to be read next.
     V4(&'a Tree<V4Prefix, R>),
-    /// A subtree of IPv6 prefixes.
+    /// A subtree of IPv6 prefixes, whose root is to be read next.
     V6(&'a Tree<Prefix, R>),
 }
 

@@ -212,8 +212,9 @@ impl<R: Drop> Slot<R> {
         made
     }
 
-    /// Moves the route in the slot, if there is one, to the end of `taken`, whose spare capacity
-    /// must suffice for it. The node's prefix stays a key (one that the tree keeps).
+    /// Moves the route in the slot, if there is one, to the end of `taken`. Requires that `taken`
+    /// has spare capacity for it. The node's prefix stays a key (one that the tree keeps, with or
+    /// without a route).
     fn drain_route(&mut self, taken: &mut Vec<R>)
         requires { length taken.old.items < vec_capacity taken.old ⊎ is_filled self.old ≡ false }
         ensures taken { taken.new.items ≡ taken.old.items
