@@ -311,8 +311,8 @@ impl InternTable {
         self.slots.len() <= most
     }
 
-    /// Moves the routes to a new table, larger or smaller, of two and a third slots for each, but
-    /// at least [`MIN_SLOTS`] and at most [`MAX_SLOTS`]. Fails if memory allocation fails; the
+    /// Moves the routes to a new table, with more slots or fewer: two and a third for each route,
+    /// but at least [`MIN_SLOTS`] and at most [`MAX_SLOTS`]. Fails if memory allocation fails; the
     /// table is unchanged then, or has no slots and no routes.
     pub(crate) fn resize(&mut self, alloc: Global) -> Result<(), AllocError>
         ensures most { OnOk result (vec_len self.new.slots ≤ MAX_SLOTS) }

@@ -16,7 +16,7 @@ use std::rc::Rc;
 pub(crate) struct RawAttrs<'a> {
     /// The octets of the path attributes, without their total length (RFC 4271, section 4.3).
     pub(crate) octets: &'a [u8],
-    /// The address family of the prefix of the entry, which the next hop belongs to.
+    /// The address family of the prefix of the entry, by which the attributes are parsed.
     pub(crate) family: Family,
     /// The width of AS numbers: two octets in TABLE_DUMP, and four in TABLE_DUMP_V2.
     pub(crate) width: AsWidth,

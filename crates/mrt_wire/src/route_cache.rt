@@ -20,7 +20,8 @@ use std::marker::Model;
 use std::mem;
 use std::rc::Rc;
 
-/// The size of the value of ORIGIN, in octets (RFC 4271, section 4.3).
+/// The size of the value of the ORIGIN attribute, in octets, which is its length octet (RFC 4271,
+/// section 4.3).
 const ORIGIN_SIZE: u8 = 1;
 
 /// The largest size of the path attributes of a cached route, in octets. Attributes of one octet
@@ -41,8 +42,8 @@ pub(crate) const LARGEST_SLOT: usize = 1344;
 pub(crate) const MOST_SPARES: usize = 64;
 
 /// A ring of routes that replace cached routes which have other owners (such as an event), since
-/// those can't be overwritten. By the time that a route's turn comes again, its other owners have
-/// mostly dropped it.
+/// those can't be overwritten. By the time that a route is taken out of the ring again, its other
+/// owners have mostly dropped it.
 #[derive(Drop)]
 struct SpareRoutes {
     /// The routes of the ring, at most [`MOST_SPARES`].
@@ -100,9 +101,9 @@ struct CachedRoute {
     /// The octets that the path attributes of `route` were parsed from, without their total length
     /// (RFC 4271, section 4.3).
     octets: Vec<u8>,
-    /// The family of the prefix that `octets` were parsed for.
+    /// The address family of the prefix of the entry that `octets` were parsed for.
     family: Family,
-    /// The width of the AS numbers in `octets`.
+    /// The width of the AS numbers in `octets`, two or four octets.
     width: AsWidth,
     /// Whether `route` was parsed from `octets`: `false` before the first entry, and after an entry
     /// that couldn't be parsed.
@@ -314,11 +315,11 @@ impl RouteCache {
     }
 
     /// Returns a route with the path attributes `raw` of a table entry and the time `time`, in
-    /// seconds since 1970. `number` selects the slot, modulo [`PEER_SLOTS`]: it is the entry's peer
-    /// index, or a hash of its peer. If the slot's route was parsed from equal octets, it is
-    /// returned, and otherwise `raw` is parsed into it; a route that may be large isn't cached.
-    /// Fails with `Malformed` if the attributes are malformed, or with `Memory` if memory
-    /// allocation fails.
+    /// seconds since 1970. `number`, modulo [`PEER_SLOTS`], selects the slot: it is the entry's
+    /// peer index, or a hash of its peer. The slot's route is returned if it was parsed from equal
+    /// octets; otherwise `raw` is parsed into it, or outside the cache if it is longer than
+    /// [`LONGEST_CACHED`] or may make a large route. Fails with `Malformed` if the attributes are
+    /// malformed, or with `Memory` if memory allocation fails.
     #[inline(always)]
     pub(crate) fn get_or_parse(
         &mut self,

@@ -91,8 +91,8 @@ impl PooledRoute {
 pub(crate) struct RoutePool {
     /// The routes, at most [`MOST_ROUTES`].
     routes: Vec<PooledRoute>,
-    /// The number of routes that the current record has used, at most [`MOST_ROUTES`] - 1: the last
-    /// route is used for all further entries.
+    /// The number of routes that the current record has used, at most [`MOST_ROUTES`] - 1: further
+    /// entries are parsed into the last route.
     used: usize,
     /// The number of octets of memory counted for all routes together.
     room: u64,

@@ -98,16 +98,17 @@ pub trait PrefixStore<R: Drop>: Sized + Drop {
 
     /// Returns the route at the least prefix that is greater than `prefix`, with that prefix, or at
     /// the least prefix of all if `prefix` is `None`. Returns `None` if there is no such route.
-    /// `prefix` needn't be in the store, so a walk over all routes needs no state but the last
-    /// prefix.
+    /// Prefixes are ordered by family (IPv4 first), address and length. `prefix` needn't be in the
+    /// store, so a walk over all routes needs no state but the last prefix.
     fn after(&self, prefix: Option<&Prefix>) -> Option<(Prefix, &R)>
         ensures { option_map (λ p. (p.0, p.1.now)) result ≡
             slice_get (above (option_copied prefix.entry) (finite.entries (routes self.now))) 0 };
 
     /// Replaces the elements of `found` by the routes at the least prefixes that are greater than
     /// `prefix`, or at the least of all if `prefix` is `None`, with their prefixes, in ascending
-    /// order. Fills `found` up to its capacity; if it isn't full then, there are no more routes. A
-    /// walk so needs one call for many routes. Allocates no memory.
+    /// order (by family, address and length). Fills `found` up to its capacity; if it isn't full
+    /// then, there are no more routes. A walk so needs one call for many routes. Allocates no
+    /// memory.
     fn next_routes<'a>(&'a self, prefix: Option<&Prefix>, found: &mut Vec<(Prefix, &'a R)>)
         ensures found { dereferenced found.new.items ≡ take (vec_capacity found.old)
             (above (option_copied prefix.entry) (finite.entries (routes self.now))) }

@@ -77,9 +77,9 @@ fn discard_leaf<K: PackedPrefix, R: Drop>(tree: &mut Tree<K, R>, prefix: K, key:
     }
 }
 
-/// Replaces the root of a tree by its only child, after the child on the other side went. Does
-/// nothing if the root's prefix is a key (one that the tree keeps), or if the root has no children
-/// or two.
+/// Replaces the root of a tree by its only child, after the child on the other side was removed.
+/// Does nothing if the root's prefix is a key (one that the tree keeps), or if the root has no
+/// children or two.
 fn replace_by_only_child<K: PackedPrefix, R: Drop>(tree: &mut Tree<K, R>)
     requires shaped { IsRadixTreeBelowRoot (shape_of K.network tree.old) }
     requires marked { HasCorrectMarks tree.old }

@@ -91,7 +91,7 @@ impl<K: PackedPrefix, R: Drop> Tree<K, R> {
 
 /// Swaps the route at the prefix `key` in the child `below` and `route`, as [`Tree::put`] does, and
 /// then sets the parent's mark `routed` (whether a key in that subtree has a route) to that of the
-/// child. Expects that the parent has no routes elsewhere. Returns `true` if the tree didn't keep
+/// child, so the parent is to have no routes elsewhere. Returns `true` if the tree didn't keep
 /// `key` before. Fails if memory allocation fails; `routed`, `below` and `route` are unchanged
 /// then.
 #[cycle(put)]
@@ -240,9 +240,10 @@ fn insert_outside<K: PackedPrefix, R: Drop>(
     }
 }
 
-/// Makes the tree keep `prefix`, the prefix of the branch at its root, with the route of `route` or
-/// without one. Leaves `None` in `route`, and returns `true`, which means that the tree didn't keep
-/// `prefix` before. Fails if memory allocation fails; the tree and `route` are unchanged then.
+/// Makes the tree keep `prefix`, the prefix of the branch (a node whose prefix the tree doesn't
+/// keep) at its root, with the route of `route` or without one. Leaves `None` in `route`, and
+/// returns `true`, which means that the tree didn't keep `prefix` before. Fails if memory
+/// allocation fails; the tree and `route` are unchanged then.
 fn put_at_fork<K: PackedPrefix, R: Drop>(
     tree: &mut Tree<K, R>,
     prefix: K,

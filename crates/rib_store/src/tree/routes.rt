@@ -134,8 +134,8 @@ impl<K: PackedPrefix, R: Drop> Tree<K, R> {
 
 /// Swaps the route at the prefix `key` in the child `below` and `route`, as [`Tree::exchange`]
 /// does, and then sets the parent's mark `routed` (whether a key in that subtree has a route) to
-/// that of the child. Requires that `below` keeps `key`. Expects that the parent has no routes
-/// elsewhere.
+/// that of the child, so the parent is to have no routes elsewhere. Requires that `below` keeps
+/// `key`, with or without a route.
 #[cycle(exchange)]
 #[inline(never)]
 fn exchange_and_update_mark<K: PackedPrefix, R: Drop>(
