@@ -59,8 +59,8 @@ pub(crate) struct InternTable {
     /// The number of routes that replaced another in its slot, since they found both of their rows
     /// full. It saturates.
     overwritten: usize,
-    /// The number of octets that all routes of the table take ([`route_size`]), as far as callers
-    /// added them. [`InternTable::put`] doesn't.
+    /// The number of octets that all routes of the table take ([`route_size`]). Whoever calls
+    /// [`InternTable::put`] adds those of the route.
     pub(crate) held_octets: u64,
     ghost counted: { taken ≡ count_by is_taken slots.items },
     ghost tagged: { AreTagged slots.items tags.items },
@@ -162,9 +162,9 @@ impl InternTable {
     }
 
     /// Puts a route with the hash `hash` into a free slot of its two rows, and returns the index of
-    /// the slot. If they are full, the route replaces the first one of the first row, or goes to
-    /// the overflow list; the result is [`IN_OVERFLOW`] then. A table without slots drops it, with
-    /// that result too. Its octets aren't added to `held_octets`, which is the caller's part. Fails
+    /// the slot. If they are full, the route takes the first slot of the first row from another
+    /// route, or else goes to the overflow list, for which [`IN_OVERFLOW`] is returned. A table
+    /// without slots drops it, and returns that too. Doesn't add its octets to `held_octets`. Fails
     /// if memory allocation fails; the route is dropped then.
     pub(crate) fn put(&mut self, hash: u32, route: Rc<Route>) -> Result<usize, AllocError>
         ensures slots { vec_len self.new.slots ≡ vec_len self.old.slots }
@@ -245,8 +245,8 @@ impl InternTable {
         Ok(())
     }
 
-    /// Moves the routes of `others` into this table, which is expected to have none. Fails if
-    /// memory allocation fails; the routes that weren't moved are dropped then.
+    /// Moves the routes of `others` into this table, which the caller has made without routes.
+    /// Fails if memory allocation fails; the routes that weren't moved are dropped then.
     fn move_from(&mut self, mut others: InternTable) -> Result<(), AllocError>
         ensures { vec_len self.new.slots ≡ vec_len self.old.slots }
     {

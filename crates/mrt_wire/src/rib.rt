@@ -112,9 +112,8 @@ fn split_entry_fields(octets: &[u8]) -> Option<EntryFields<'_>>
 }
 
 /// Parses the RIB entry at the start of `octets`, and returns it with the octets after it (RFC
-/// 6396, section 4.3.4). The route's memory is that of an earlier record in `pool`, if there is
-/// one. Fails with `Malformed` if no well-formed entry is there, or with `Memory` if memory
-/// allocation fails.
+/// 6396, section 4.3.4). The route reuses memory of earlier records in `pool`. Fails with
+/// `Malformed` if no well-formed entry is there, or with `Memory` if memory allocation fails.
 #[inline]
 fn read_entry<'a>(
     alloc: Global,
@@ -182,9 +181,9 @@ impl EntryItems {
 }
 
 /// Parses a big-endian 16-bit count and as many RIB entries at the start of `octets` into
-/// announcements of `prefix`, and ignores the octets after them. `pool` has the memory of earlier
-/// records. Fails with `Malformed` if an entry is missing or malformed, or with `Memory` if memory
-/// allocation fails.
+/// announcements of `prefix`, and ignores the octets after them. The routes reuse memory of earlier
+/// records in `pool`. Fails with `Malformed` if an entry is missing or malformed, or with `Memory`
+/// if memory allocation fails.
 fn read_entries(
     alloc: Global,
     pool: &mut Pool,
@@ -214,9 +213,9 @@ fn read_entries(
 }
 
 /// Parses the body of a RIB_IPV4_UNICAST or RIB_IPV6_UNICAST record into announcements of its
-/// prefix (RFC 6396, section 4.3.2). `pool` has the memory of earlier records. An entry of an
-/// unknown peer makes no announcement and is no error here. Fails with `Malformed` if the body has
-/// another form, or with `Memory` if memory allocation fails.
+/// prefix (RFC 6396, section 4.3.2). The routes reuse memory of earlier records in `pool`. An entry
+/// of an unknown peer makes no announcement and is no error here: the result tells it. Fails with
+/// `Malformed` if the body has another form, or with `Memory` if memory allocation fails.
 pub(crate) fn read_rib(
     alloc: Global,
     pool: &mut Pool,

@@ -72,9 +72,10 @@ fn split_family(octets: &[u8]) -> Option<ValueAndRest<'_, Family>>
 }
 
 /// Parses the session fields at the start of `octets`, from the Peer AS Number to the Local IP
-/// Address, with AS numbers of `width` (RFC 6396, section 4.4.1). Sets `peer` to the address and AS
-/// number of the peer, and returns the octets after the fields. Returns `None` if a field is
-/// missing or the address family is unknown; `peer` is unspecified then.
+/// Address (RFC 6396, section 4.4.1), with AS numbers of two or four octets as `width` states. Sets
+/// `peer` to the address and AS number of the peer, and returns the octets after the fields.
+/// Returns `None` if a field is missing or the address family is unknown; `peer` is unspecified
+/// then.
 fn fill_session_peer<'a>(peer: &mut Peer, width: AsWidth, octets: &'a [u8]) -> Option<&'a [u8]>
     ensures some { IfSome result (λ rest.
         Begins (SpellsSessionPeer width) peer.new rest.now octets.now) }
@@ -90,11 +91,11 @@ fn fill_session_peer<'a>(peer: &mut Peer, width: AsWidth, octets: &'a [u8]) -> O
     Some(rest)
 }
 
-/// Parses the session fields and the BGP message of a BGP4MP record into the items of the message:
-/// the withdrawals and announcements of an UPDATE, or none for another type (RFC 6396, sections
-/// 4.4.2 and 4.4.3). Routes get the time `seconds`, since 1970; `pool` has the memory that they are
-/// parsed into. AS numbers have `width`. Fails with `Malformed` if the octets have another form, or
-/// with `Memory` if memory allocation fails.
+/// Parses the session fields and the BGP message of a BGP4MP record into the withdrawals and
+/// announcements of the message if it is an UPDATE, or else into no items (RFC 6396, sections 4.4.2
+/// and 4.4.3). AS numbers have two or four octets, as `width` states. Routes get the time
+/// `seconds`, since 1970, and the memory in `pool`. Fails with `Malformed` if the octets have
+/// another form, or with `Memory` if memory allocation fails.
 #[inline(never)]
 fn read_peer_message(
     alloc: Global,
@@ -139,9 +140,9 @@ fn split_micros(timed: bool, octets: &[u8]) -> Option<ValueAndRest<'_, Option<u3
 }
 
 /// Parses the session fields and the two states of a state change into one item, and ignores the
-/// octets after them (RFC 6396, sections 4.4.1 and 4.4.4). AS numbers have `width`. Fails with
-/// `Malformed` if a field is missing or the address family is unknown, or with `Memory` if memory
-/// allocation fails.
+/// octets after them (RFC 6396, sections 4.4.1 and 4.4.4). AS numbers have two or four octets, as
+/// `width` states. Fails with `Malformed` if a field is missing or the address family is unknown,
+/// or with `Memory` if memory allocation fails.
 fn read_state_change(alloc: Global, width: AsWidth, octets: &[u8]) -> Result<Items, WireFault>
     ensures { (seconds : ℕ) → ParsesOrFails (SpellsMapped (SpellsSessionContent SessionKind.StateChange width)
         (session_items seconds)) octets.now result }
@@ -155,9 +156,9 @@ fn read_state_change(alloc: Global, width: AsWidth, octets: &[u8]) -> Result<Ite
 }
 
 /// Parses the body of a BGP4MP or BGP4MP_ET record, without its microseconds, into items: a state
-/// change, or the withdrawals and announcements of an UPDATE. Routes get the time `seconds`, since
-/// 1970; `pool` has the memory that messages are parsed into. Fails with `Malformed` if the octets
-/// have another form than `form`, or with `Memory` if memory allocation fails.
+/// change, or the withdrawals and announcements of an UPDATE. `form` states which, and the width of
+/// AS numbers. Routes get the time `seconds`, since 1970, and the memory in `pool`. Fails with
+/// `Malformed` if the octets have another form, or with `Memory` if memory allocation fails.
 #[inline(always)]
 fn read_session_content(
     alloc: Global,
@@ -182,9 +183,9 @@ fn read_session_content(
 }
 
 /// Parses the body of a BGP4MP or BGP4MP_ET record, whose format is `form`, into items and
-/// microseconds. Its routes get the time `seconds`, the timestamp of the record; `pool` has the
-/// memory that messages are parsed into. Fails with `Malformed` if the body has another form, or
-/// with `Memory` if memory allocation fails.
+/// microseconds. Its routes get the time `seconds`, the timestamp of the record, since 1970, and
+/// the memory in `pool`, which earlier records used. Fails with `Malformed` if the body has another
+/// form, or with `Memory` if memory allocation fails.
 #[inline(always)]
 pub(crate) fn read_session(
     alloc: Global,

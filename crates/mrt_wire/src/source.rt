@@ -22,8 +22,8 @@ use std::marker::Model;
 
 /// A reader of the events of an input of MRT records (RFC 6396). The caller holds the input, and
 /// passes the same one to each call of [`Source::next`]. In contracts, its value is a
-/// `SourceState`: the peers, the number of records, the offset and limit, the stamp and the phase.
-/// The rest doesn't show.
+/// `SourceState`: the peers, the number of records, the offset and limit, which time routes of
+/// tables get, and the phase. The rest doesn't show.
 #[derive(Drop)]
 pub struct Source {
     alloc: Global,
@@ -83,8 +83,8 @@ impl Source {
         }
     }
 
-    /// Returns the number of octets read from the input so far, which is the offset of the next
-    /// record. It is at most the limit given to [`Source::new`].
+    /// Returns the number of octets read from the input so far: after a record, the offset of the
+    /// next one. It is at most the limit given to [`Source::new`].
     pub fn offset(&self) -> u64
         ensures offset { result ≡ self.now.offset }
         ensures within { self.now.offset ≤ self.now.limit }

@@ -95,10 +95,10 @@ pub(crate) struct TimeChoice {
     pub(crate) stamp: Stamp,
 }
 
-/// Parses a TABLE_DUMP body for a prefix of `family` into one announcement (RFC 6396, section 4.2):
-/// what [`read_table_dump`] does, compiled for each family. `pool` has the memory of earlier
-/// records; `choice` selects the time of the route. Fails with `Malformed` if the body has another
-/// form, or with `Memory` if memory allocation fails.
+/// Parses a TABLE_DUMP body for a prefix of `family` into one announcement (RFC 6396, section 4.2),
+/// as [`read_table_dump`] does, which has it compiled for each family. The route reuses memory of
+/// earlier records in `pool`; `choice` selects its time. Fails with `Malformed` if the body has
+/// another form, or with `Memory` if memory allocation fails.
 // Inlined, so that the compiler makes code for each family.
 #[inline(always)]
 fn read_table_dump_of(
@@ -130,9 +130,8 @@ fn read_table_dump_of(
 }
 
 /// Parses a TABLE_DUMP body for a prefix of `family` into one announcement (RFC 6396, section 4.2).
-/// `pool` has the memory of earlier records, which the route reuses; `choice` selects the time of
-/// the route. Fails with `Malformed` if the body has another form, or with `Memory` if memory
-/// allocation fails.
+/// The route reuses memory of earlier records in `pool`; `choice` selects its time. Fails with
+/// `Malformed` if the body has another form, or with `Memory` if memory allocation fails.
 pub(crate) fn read_table_dump(
     alloc: Global,
     pool: &mut Pool,
