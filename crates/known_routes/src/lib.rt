@@ -1,6 +1,7 @@
-//! A table that interns routes: of routes that are equal, one is kept and returned for the others,
-//! so that equal routes take memory once. `rib_player` looks up the routes of each event in it.
-//! Read `routes.rt` first, then the hash table in `slots.rt`, and its slots in `slot.rt`.
+//! A table that interns routes: of routes that are equal, it keeps one shared `Rc` and returns it
+//! for the others, so that equal routes take memory once. `rib_player`, which applies BGP events to
+//! routing tables, looks up the routes of each event in it. Read `routes.rt` first, then the hash
+//! table in `slots.rt`, and its slots in `slot.rt`.
 #![tactic(auto)]
 
 mod ordered_routes;

@@ -1,6 +1,6 @@
 //! A sorted list of routes: the overflow of the hash table of `slots.rt`, for routes whose slots
-//! are all taken. A search takes logarithmic time, even if all routes have one hash. Read
-//! [`OrderedRoutes`] first.
+//! are all taken. It is cut into runs, short sorted lists. A search takes logarithmic time, even if
+//! all routes have one hash. Read [`OrderedRoutes`] first.
 
 ghost use Rattle.std.specs.Prelude.{◌≡◌, ◌≤◌, ◌<◌, IfSome, length, vec_len};
 
@@ -10,38 +10,44 @@ use std::alloc::{AllocError, Global};
 use std::cmp::Ordering;
 use std::rc::Rc;
 
-/// The largest number of routes in a run. A full run is split into two before it takes one more.
+/// The largest number of routes in a run, one of the short lists that the sorted list is cut into.
+/// A full run is split into two before it takes one more.
 const LONGEST_RUN: usize = 64;
 
-/// The largest number of routes in the overflow. Each further one is put into a slot of the hash
-/// table in place of the route that is there, which isn't found any more.
+/// The largest number of routes in the sorted list, the overflow of the hash table. Each further
+/// one is put into a slot of the hash table in place of the route that is there, which isn't found
+/// any more.
 const MOST_ORDERED: usize = 1 << 22;
 
-/// The largest ratio of the capacity of a list to its length after routes were removed. A list
+/// The largest ratio of the capacity of a vector to its length after routes were removed. A vector
 /// whose capacity divided by it, rounded down, is above the length is moved to a smaller block.
 const MOST_TIMES: usize = 4;
 
-/// A route with its hash, as [`hash_route`](crate::route_hash) returns it.
+/// A route with its 32-bit hash ([`hash_route`](crate::route_hash)), so that comparisons begin with
+/// the hash.
 #[derive(Drop)]
 pub(crate) struct HashedRoute {
     pub(crate) hash: u32,
     pub(crate) route: Rc<Route>,
 }
 
-/// A list of routes in ascending order of their hashes and, for equal hashes, of
-/// [`compare_routes`]. It is cut into runs, sorted lists of at most [`LONGEST_RUN`] routes.
+/// A list of routes, sorted in ascending order of their hashes and, for equal hashes, of
+/// [`compare_routes`]. It is cut into runs, sorted lists of at most [`LONGEST_RUN`] routes each. It
+/// holds the routes that found no free slot in the hash table.
 #[derive(Drop)]
 pub(crate) struct OrderedRoutes {
     // A search halves first the runs and then one run, and a route that comes or goes moves one run
     // alone.
-    /// The runs, in order. None is empty, unless memory allocation failed.
+    /// The runs (sorted lists of at most [`LONGEST_RUN`] routes), in order. None is empty, unless
+    /// memory allocation failed.
     pub(crate) runs: Vec<Vec<HashedRoute>>,
-    /// The number of routes in all runs.
+    /// The number of routes in all runs together, at most [`MOST_ORDERED`].
     pub(crate) count: usize,
 }
 
 impl HashedRoute {
-    /// Compares this route with `route`, whose hash is `hash`: by hash, then by [`compare_routes`].
+    /// Compares this route with `route`, whose hash is `hash`: by hash, and if those are equal by
+    /// [`compare_routes`], an arbitrary total order.
     #[inline]
     fn compare_to(&self, hash: u32, route: &Route) -> Ordering {
         if self.hash != hash {
@@ -50,22 +56,22 @@ impl HashedRoute {
         compare_routes(&self.route, route)
     }
 
-    /// Returns `true` if nothing else owns the route.
+    /// Returns `true` if nothing else owns the route: no other `Rc` shares it.
     fn is_only_owner(&self) -> bool {
         Rc::strong_count(&self.route) == 1
     }
 }
 
-/// Returns the index of the first route of the run that isn't less than `route`, whose hash is
-/// `hash`. It is the length of the run if all are less.
+/// Returns the index in `run`, a sorted list, of the first route that isn't less than `route`,
+/// whose hash is `hash`. It is the length of the run if all are less.
 fn find_index(run: &[HashedRoute], hash: u32, route: &Route) -> usize
     ensures { result ≤ length run.now }
 {
     run.partition_point(|hashed| hashed.compare_to(hash, route) == Ordering::Less)
 }
 
-/// Returns `true` if the first route of the run is greater than `route`, whose hash is `hash`.
-/// Returns `false` if the run is empty.
+/// Returns `true` if the first route of `run`, a sorted list, is greater than `route`, whose hash
+/// is `hash`. Returns `false` if the run is empty.
 #[inline]
 fn starts_after(run: &[HashedRoute], hash: u32, route: &Route) -> bool {
     match run.first() {
@@ -74,8 +80,8 @@ fn starts_after(run: &[HashedRoute], hash: u32, route: &Route) -> bool {
     }
 }
 
-/// Shrinks the capacity of the list to its length if it is far more ([`MOST_TIMES`]). If memory
-/// allocation for the smaller block fails, the list is unchanged.
+/// Shrinks the capacity of the vector to its length if the capacity is far more ([`MOST_TIMES`]).
+/// If memory allocation for the smaller block fails, the vector is unchanged.
 fn shrink_if_sparse<T: Drop>(list: &mut Vec<T>)
     ensures { list.new.items ≡ list.old.items }
 {
@@ -84,8 +90,8 @@ fn shrink_if_sparse<T: Drop>(list: &mut Vec<T>)
     }
 }
 
-/// Removes the routes of the run that have no other owner, and returns the number of octets that
-/// they took ([`route_size`]).
+/// Removes the routes of the sorted list `run` that have no owner but it, and returns the number of
+/// octets that they took ([`route_size`]), or 0 if there were none.
 fn remove_unowned_from(run: &mut Vec<HashedRoute>) -> u64 {
     let mut octets = 0u64;
     'routes: for hashed in run.iter() {
@@ -100,8 +106,8 @@ fn remove_unowned_from(run: &mut Vec<HashedRoute>) -> u64 {
     octets
 }
 
-/// Removes the second half of the run and returns it, in order. Fails if memory allocation fails;
-/// the run is unchanged then.
+/// Removes the second half of the sorted list `run` and returns it, in order. Fails if memory
+/// allocation fails; the run is unchanged then.
 fn split_off_half(
     alloc: Global,
     run: &mut Vec<HashedRoute>,
@@ -118,7 +124,7 @@ fn split_off_half(
 }
 
 impl OrderedRoutes {
-    /// Returns an empty list. Allocates no memory.
+    /// Returns a list without routes. Allocates no memory.
     pub(crate) fn empty(alloc: Global) -> OrderedRoutes {
         OrderedRoutes {
             runs: Vec::new(alloc),
@@ -126,20 +132,23 @@ impl OrderedRoutes {
         }
     }
 
-    /// Returns `true` if the list has as many routes as it may have ([`MOST_ORDERED`]).
+    /// Returns `true` if the list has as many routes as it may have ([`MOST_ORDERED`]), so that the
+    /// caller is to add none.
     pub(crate) fn is_full(&self) -> bool {
         self.count >= MOST_ORDERED
     }
 
-    /// Returns the index of the run that `route`, whose hash is `hash`, belongs to: the last one
-    /// whose first route isn't greater, or 0 if there is none.
+    /// Returns the index of the run (one of the sorted lists in `runs`) in which `route`, whose
+    /// hash is `hash`, is or would be: the last one whose first route isn't greater, or 0 if there
+    /// is none.
     fn find_run(&self, hash: u32, route: &Route) -> usize {
         self.runs
             .partition_point(|run| !starts_after(run, hash, route))
             .saturating_sub(1)
     }
 
-    /// Returns a route of this hash that equals `route`, or `None` if there is none.
+    /// Returns a route of the list with the hash `hash` that equals `route`, or `None` if there is
+    /// none.
     pub(crate) fn find_route(&self, hash: u32, route: &Route) -> Option<&Rc<Route>>
         ensures { IfSome result (λ known. known.now.value ≡ route.now) }
     {
@@ -151,8 +160,8 @@ impl OrderedRoutes {
         None
     }
 
-    /// Splits the run at the index into two. Fails if memory allocation fails; the runs are
-    /// unchanged then.
+    /// Splits the run (one of the sorted lists in `runs`) at the index `index` into two halves.
+    /// Fails if memory allocation fails; the runs hold the same routes then.
     fn split_run(&mut self, index: usize) -> Result<(), AllocError>
         requires { index < vec_len self.old.runs }
     {
@@ -162,8 +171,9 @@ impl OrderedRoutes {
         Ok(())
     }
 
-    /// Returns the index of the run that `route`, whose hash is `hash`, is to be inserted into, and
-    /// splits a full run before. Fails if memory allocation fails; the runs are unchanged then.
+    /// Returns the index of the run (one of the sorted lists in `runs`) that `route`, whose hash is
+    /// `hash`, is to be inserted into, and splits the run before if it is full. Fails if memory
+    /// allocation fails; the runs hold the same routes then.
     fn make_room_for(&mut self, hash: u32, route: &Route) -> Result<usize, AllocError> {
         let index = self.find_run(hash, route);
         if index >= self.runs.len() || self.runs[index].len() < LONGEST_RUN {
@@ -173,8 +183,8 @@ impl OrderedRoutes {
         Ok(self.find_run(hash, route))
     }
 
-    /// Inserts a route, whose hash is `hash`, in order. Fails if memory allocation fails; the route
-    /// is dropped then.
+    /// Inserts a route, whose hash is `hash`, at its place in the order. Fails if memory allocation
+    /// fails; the route is dropped then.
     pub(crate) fn insert_route(&mut self, hash: u32, route: Rc<Route>) -> Result<(), AllocError> {
         if self.runs.is_empty() {
             let first = Vec::new(*self.runs.allocator());
@@ -189,8 +199,8 @@ impl OrderedRoutes {
         Ok(())
     }
 
-    /// Removes `route` itself, not one that equals it, and returns `true` if it was found. Its hash
-    /// is `hash`.
+    /// Removes `route`, whose hash is `hash`: this very `Rc`, not another one of an equal route.
+    /// Returns `true` if it was found, and `false` if the list is unchanged.
     pub(crate) fn remove_route(&mut self, hash: u32, route: &Rc<Route>) -> bool {
         let index = self.find_run(hash, route);
         if index >= self.runs.len() {
@@ -211,9 +221,9 @@ impl OrderedRoutes {
         true
     }
 
-    /// Removes the routes that have no other owner, and returns the number of octets that they
-    /// took. Shrinks lists whose capacity is far more than their length, unless memory allocation
-    /// for a smaller block fails.
+    /// Removes the routes that have no owner but this list, and returns the number of octets that
+    /// they took ([`route_size`]). Shrinks vectors whose capacity is far more than their length,
+    /// unless memory allocation for a smaller block fails.
     pub(crate) fn remove_unowned(&mut self) -> u64 {
         let mut octets = 0u64;
         let mut count = 0usize;

@@ -8,45 +8,48 @@ use bgp_wire::Attrs;
 use ip_prefix::{Addr, Family};
 use mrt_events::{Peer, Route};
 
-/// The factor of each step of a hash: the odd number nearest to 2^64 divided by the golden ratio.
-/// The lower half of a product depends on the lowest bits most, and the upper half on the highest.
-/// An even factor would lose the highest bit.
+/// The factor by which each step of a hash of a route or a peer multiplies: the odd number nearest
+/// to 2^64 divided by the golden ratio. The lower half of a product depends on the lowest bits
+/// most, and the upper half on the highest. An even factor would lose the highest bit.
 const MULTIPLIER: u64 = 0x9e37_79b9_7f4a_7c15;
 
-/// The greatest number of 64 bits, which is the lower half of a product. With a bit less, that half
-/// would lose its highest bit.
+/// The number whose lowest 64 bits are set, which selects the lower half of a product of 128 bits.
+/// With a bit less, that half would lose its highest bit.
 const LOWER_HALF: u128 = 0xffff_ffff_ffff_ffff;
 
-/// The number that stands for an absent ORIGIN, above all its codes. One above it is that of an
+/// The number that is hashed for an absent ORIGIN, above all its codes. One above it is that of an
 /// ORIGIN of 0 with ATOMIC_AGGREGATE.
 const NO_ORIGIN: u32 = 3;
 
-/// The number of bits of a list's mark. With one less, a mark and the length of a list would share
-/// a bit.
+/// The number of bits of a list's mark, a number that tells lists of AS numbers and of communities
+/// apart. With one less, a mark and the length of a list would share a bit.
 const MARK_BITS: u32 = 3;
 
-/// The mark of a list of communities, above those of segments, which are the numbers of their
-/// kinds. One above it would do as well.
+/// The mark that is hashed with a list of communities, above those of path segments, which are the
+/// numbers of their kinds. One above it would do as well.
 const COMMUNITIES: u64 = 4;
 
-/// The number of lowest bits of a hash that are dropped, so that 32 are left. With one more, half
-/// of all slots would never be taken.
+/// The number of lowest bits of a 64-bit hash that are dropped, so that 32 are left. With one more,
+/// half of all slots of the hash table would never be taken.
 const LOWEST_BITS: u32 = 32;
 
-/// Returns `hash` with `number` mixed in.
+/// Returns a hash of `hash`, that of what came before, and `number`: one step of a multiplicative
+/// hash.
 #[inline]
 fn mix(hash: u64, number: u64) -> u64 {
     let product = u128::from(hash ^ number).wrapping_mul(u128::from(MULTIPLIER));
     (product >> 64) as u64 ^ (product & LOWER_HALF) as u64
 }
 
-/// Returns the number whose low 32 bits are `low` and whose high 32 bits are `high`.
+/// Returns the number whose low 32 bits are `low` and whose high 32 bits are `high`, so that both
+/// are hashed in one step.
 #[inline]
 fn joined(low: u32, high: u32) -> u64 {
     u64::from(low) | u64::from(high) << 32
 }
 
-/// Returns the four octets of the address from the index `index` on, as a big-endian number.
+/// Returns the four octets of the address from the octet at `index` on, counted from 0, as a
+/// big-endian number. Requires that the address has these octets.
 #[inline]
 fn be_u32_at(addr: &Addr, index: usize) -> u32
     requires { index + 4 ≤ octet_count addr.now.family }
@@ -59,7 +62,7 @@ fn be_u32_at(addr: &Addr, index: usize) -> u32
     ])
 }
 
-/// Returns `hash` with all octets of the address mixed in.
+/// Returns a hash of `hash`, that of what came before, and of all octets of the address.
 #[inline]
 fn mix_address(hash: u64, addr: &Addr) -> u64 {
     match addr.family() {
@@ -71,7 +74,8 @@ fn mix_address(hash: u64, addr: &Addr) -> u64 {
     }
 }
 
-/// Returns `hash` with the mark of the list, its length and then each of its numbers mixed in.
+/// Returns a hash of `hash`, that of what came before, and of a list: its mark, its length and each
+/// of its numbers. The mark tells what list it is: the kind of a path segment, or [`COMMUNITIES`].
 #[inline]
 fn mix_numbers(hash: u64, mark: u64, numbers: &[u32]) -> u64 {
     let mut hash = mix(hash, (numbers.len() as u64) << MARK_BITS | mark);
@@ -85,8 +89,9 @@ fn mix_numbers(hash: u64, mark: u64, numbers: &[u32]) -> u64 {
     }
 }
 
-/// Returns bits for ORIGIN (0 and 1), ATOMIC_AGGREGATE (2), and whether NEXT_HOP, LOCAL_PREF,
-/// MULTI_EXIT_DISC and AGGREGATOR are present (3 to 6).
+/// Returns a number, to be hashed, with bits for the value of ORIGIN (0 and 1), for
+/// ATOMIC_AGGREGATE (2), and for whether NEXT_HOP, LOCAL_PREF, MULTI_EXIT_DISC and AGGREGATOR are
+/// present (3 to 6).
 #[inline]
 fn attribute_bits(attrs: &Attrs) -> u32 {
     attrs.origin.map_or(NO_ORIGIN, |origin| origin as u32)
@@ -97,7 +102,8 @@ fn attribute_bits(attrs: &Attrs) -> u32 {
         | u32::from(attrs.aggregator.is_some()) << 6
 }
 
-/// Returns the hash of the route, which depends on its time and all its attributes.
+/// Returns the hash of the route, from its time and all its attributes. Equal routes have equal
+/// hashes, in every execution of the program.
 pub(crate) fn hash_route(route: &Route) -> u32 {
     let attrs = &route.attrs;
     let numbers = joined(attrs.local_pref.unwrap_or(0), attrs.med.unwrap_or(0));
@@ -118,8 +124,9 @@ pub(crate) fn hash_route(route: &Route) -> u32 {
     (hash >> LOWEST_BITS) as u32
 }
 
-/// Returns the hash of the peer, by its address and AS number. The highest bits depend on all bits
-/// of the peer.
+/// Returns a hash of the peer's address and AS number, for callers that look up peers in a table by
+/// it. They should use the highest bits, which depend on all bits of the peer. Equal peers have
+/// equal hashes.
 #[inline]
 pub fn peer_hash(peer: &Peer) -> u64 {
     mix_address(u64::from(peer.asn) << 32, &peer.addr)

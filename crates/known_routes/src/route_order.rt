@@ -1,21 +1,23 @@
-//! A total order of routes, by their times and all their attributes. It is for searches in
-//! `ordered_routes.rt` alone, and doesn't tell which route a router would prefer. Read
+//! A total order of routes, by their times and all their attributes, for searches in the sorted
+//! lists of `ordered_routes.rt` alone: it doesn't tell which route a router would prefer. Read
 //! [`compare_routes`] first.
 
 use bgp_wire::{Aggregator, Attrs, Origin, Segment};
 use mrt_events::Route;
 use std::cmp::Ordering;
 
-/// The number that stands for an absent ORIGIN, above all its codes. One above it would do as well.
+/// The number that stands for an absent ORIGIN in comparisons, above all its codes. One above it
+/// would do as well.
 const NO_ORIGIN: u64 = 3;
 
-/// Compares two lists of numbers lexicographically.
+/// Compares two lists, of AS numbers or of communities, lexicographically.
 #[inline]
 fn compare_numbers(one: &[u32], other: &[u32]) -> Ordering {
     one.cmp(&other)
 }
 
-/// Compares two segments: by kind, then by AS numbers.
+/// Compares two segments of AS paths: by the numbers of their kinds, then by their AS numbers
+/// lexicographically.
 fn compare_segments(one: &Segment, other: &Segment) -> Ordering {
     match (one.kind as u64).cmp(&(other.kind as u64)) {
         Ordering::Equal => { compare_numbers(one.numbers.as_slice(), other.numbers.as_slice()) }
@@ -23,7 +25,8 @@ fn compare_segments(one: &Segment, other: &Segment) -> Ordering {
     }
 }
 
-/// Compares two paths: by the number of segments, then segment by segment.
+/// Compares two AS paths: by the number of segments, then segment by segment
+/// ([`compare_segments`]).
 fn compare_paths(ones: &[Segment], others: &[Segment]) -> Ordering {
     let counts = ones.len().cmp(&others.len());
     if counts != Ordering::Equal {
@@ -38,7 +41,7 @@ fn compare_paths(ones: &[Segment], others: &[Segment]) -> Ordering {
     Ordering::Equal
 }
 
-/// Compares two aggregators: by address, then by AS number.
+/// Compares two AGGREGATOR attributes: by address, then by AS number.
 fn compare_aggregators(one: &Aggregator, other: &Aggregator) -> Ordering {
     match one.addr.cmp(&other.addr) {
         Ordering::Equal => one.asn.cmp(&other.asn),
@@ -46,7 +49,8 @@ fn compare_aggregators(one: &Aggregator, other: &Aggregator) -> Ordering {
     }
 }
 
-/// Compares two optional aggregators, of which `None` is the least.
+/// Compares two optional AGGREGATOR attributes: by address, then by AS number. `None` is less than
+/// any other.
 fn compare_optional_aggregators(one: &Option<Aggregator>, other: &Option<Aggregator>) -> Ordering {
     match (one, other) {
         (Some(one), Some(other)) => compare_aggregators(one, other),
@@ -54,14 +58,16 @@ fn compare_optional_aggregators(one: &Option<Aggregator>, other: &Option<Aggrega
     }
 }
 
-/// Compares two optional origins by their codes. `None` is the greatest.
+/// Compares two optional ORIGIN attributes by their codes: 0 for IGP, 1 for EGP, 2 for INCOMPLETE.
+/// `None` is greater than any other.
 fn compare_origins(one: Option<Origin>, other: Option<Origin>) -> Ordering {
     let one = one.map_or(NO_ORIGIN, |origin| origin as u64);
     let other = other.map_or(NO_ORIGIN, |origin| origin as u64);
     one.cmp(&other)
 }
 
-/// Compares the attributes of two routes, except for paths and communities.
+/// Compares the attributes of two routes, except for AS paths and communities: by next hop,
+/// MULTI_EXIT_DISC, LOCAL_PREF, ORIGIN, ATOMIC_AGGREGATE and AGGREGATOR, in this order.
 fn compare_short_attributes(one: &Attrs, other: &Attrs) -> Ordering {
     one.next_hop
         .cmp(&other.next_hop)
@@ -72,7 +78,8 @@ fn compare_short_attributes(one: &Attrs, other: &Attrs) -> Ordering {
         .then(compare_optional_aggregators(&one.aggregator, &other.aggregator))
 }
 
-/// Compares two routes by time and by all attributes: `Equal` is returned for equal routes only.
+/// Compares two routes by time, the short attributes, the communities and the AS path, in an order
+/// that serves searches only. Returns `Equal` for equal routes only.
 #[inline(never)]
 pub(crate) fn compare_routes(one: &Route, other: &Route) -> Ordering {
     // It isn't inlined, since few routes have the same hash.

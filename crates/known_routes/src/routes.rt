@@ -1,6 +1,6 @@
-//! The table that interns routes. The player looks up the routes of an event by
-//! [`RouteInterner::intern`], and calls [`RouteInterner::release`] for the routes of steps that it
-//! drops. Read [`RouteInterner`] first, then `slots.rt`.
+//! The table that interns routes, which is to share one `Rc` among equal routes. `rib_player` looks
+//! up the routes of an event by [`RouteInterner::intern`], and calls [`RouteInterner::release`] for
+//! the routes of events that it can no longer undo. Read [`RouteInterner`] first, then `slots.rt`.
 
 ghost use Rattle.std.specs.Prelude.{◌≡◌, ◌≤◌, ◌+◌, ◌*◌, IfOk, IfSome, vec_len};
 ghost use Rattle.known_routes.specs.declared.routes.TheConstants.{LASTS};
@@ -14,53 +14,61 @@ use mrt_events::{Peer, Route, route_size, same_route};
 use std::alloc::{AllocError, Global};
 use std::rc::Rc;
 
-/// The largest number of AS numbers, segments and communities of a route that is looked up for each
-/// item, however many owners it has. One with one more is looked up only while it has few.
+/// The largest number of AS numbers, segments and communities of a route that
+/// [`RouteInterner::intern_if_cheap`] always looks up. A route with one more is looked up only if
+/// it has few owners ([`LOOKED_FOR_OWNERS`]).
 const MOST_NUMBERS: usize = 1024;
 
-/// The largest number of owners of a longer route that is looked up for each item, one of which is
-/// the item. So it is at few items, and looking it up at each takes a few times as long as it took
-/// to make it. With one owner more it may be at many items, and is kept as it came.
+/// The largest number of owners (`Rc`s) with which a route of more than [`MOST_NUMBERS`] numbers is
+/// still looked up. With so few owners it is in few items of its event, so that all look-ups take a
+/// few times as long as it took to parse the route. With one owner more it may be in many items,
+/// and is used as it is.
 const LOOKED_FOR_OWNERS: usize = 4;
 
-/// The number of hashes of peers for which the slot of the last route is noted. Of more peers, some
-/// share a hash, and the slot of one replaces the slot of another.
+/// The number of groups that peers are in, by their hashes; for each group the hash table's slot of
+/// the last route is noted. Of more peers, some share a group, and the slot of one replaces the
+/// slot of another.
 const LASTS: usize = 4096;
 
-/// The number of lowest bits of a peer's hash that are dropped for an index below [`LASTS`]. With
-/// one more, only half of these are used.
+/// The number of lowest bits of a peer's 64-bit hash that are dropped to get an index below
+/// [`LASTS`]. With one more, only half of the indices would be used.
 const LOWEST_BITS: u32 = 52;
 
-/// The largest number of owners of a route that may soon have none but this table: one that goes,
-/// this table, a source, and an item of an event. With one more, some other owner is left.
+/// The largest number of owners (`Rc`s) of a route that may soon have none but the table: the one
+/// that is about to go, the table, the reader's memory for routes, and an item of an event. With
+/// one more, some other owner is left.
 const FEW_OWNERS: usize = 4;
 
-/// The ratio of the octets of all routes here to those that routes without another owner may take,
-/// which is a quarter of what the others take. With one octet more, these routes are dropped.
+/// The divisor that bounds the octets of released routes, those that may have no owner but the
+/// table: a fifth of the octets of all routes, which is a quarter of what the others take. With one
+/// octet more, such routes are removed.
 const RELEASED_SHARE: u64 = 5;
 
 /// The number of octets that are added to those of all routes before they are divided by
-/// [`RELEASED_SHARE`], so that all routes aren't gone over for a few: a mebibyte more may be held.
-/// It grows by an octet with four of these.
+/// [`RELEASED_SHARE`], so that a large table isn't searched for a few released routes: about a
+/// mebibyte more of these may be held. With four octets more here, it is one octet more.
 const RELEASED_ROOM: u64 = 4 << 20;
 
-/// A table that interns routes: of an equal route that comes later, the one here is used instead,
-/// so that it takes no memory of its own. Which routes are here is unspecified, and any may be
-/// dropped at any time.
+/// A table that interns routes: for a route that equals one in the table, it returns the `Rc` that
+/// the table holds, so that equal routes take memory once. It is a cache: which routes it holds is
+/// unspecified, and it may drop any at any time, which costs memory only.
 #[derive(Drop)]
 pub struct RouteInterner {
     alloc: Global,
-    /// The routes, by their hashes.
+    /// The hash table of the routes.
     routes: InternTable,
-    /// The number of routes in slots when the last play began, or when the table last grew since.
+    /// The number of routes in slots of the hash table when [`RouteInterner::begin_play`] was last
+    /// called, or when the table last grew since.
     stood: usize,
-    /// The number of octets of routes that may have lost their last other owner since all routes
-    /// were last gone over.
+    /// The number of octets of released routes: those that may have lost their last owner besides
+    /// the table since all routes were last checked for that.
     released_octets: u64,
-    /// The number of octets of the routes that were added since the last play began.
+    /// The number of octets of the routes that were added since [`RouteInterner::begin_play`] was
+    /// last called.
     added_octets: u64,
-    /// For each of [`LASTS`] hashes of peers, the index of the slot that the last route of such a
-    /// peer is in. Empty before the table first grows.
+    /// For each of [`LASTS`] groups of peers, by their hashes, the index in the hash table of the
+    /// slot with the last route of such a peer. An index of a slot without a route, or one out of
+    /// bounds, stands for none. Empty before the table first grows.
     last_slots: Vec<u32>,
     ghost bounded: { vec_len routes.slots ≤ MAX_SLOTS },
     ghost few: { vec_len last_slots ≤ LASTS },
@@ -71,7 +79,7 @@ impl RouteInterner {
     ghost use Rattle.std.specs.Prelude.{max};
     ghost use Rattle.known_routes.specs.Known.{route_count, sized_for};
 
-    /// Returns an empty table. Allocates no memory.
+    /// Returns a table without routes. Allocates no memory.
     pub fn new(alloc: Global) -> Self
         ensures { sized_for result ≡ 0 }
     {
@@ -85,9 +93,10 @@ impl RouteInterner {
         }
     }
 
-    /// Returns a route of the table that equals `route`, or else adds `route` and returns it. The
-    /// last route of the peer is compared first. A new route with much spare capacity is added as a
-    /// copy without it. Fails if memory allocation fails; nothing is added then.
+    /// Returns the table's route that equals `route`, or else adds `route` to the table and returns
+    /// it. `peer` is where the route comes from: its last route is compared first, since peers
+    /// often repeat one. If a new route's vectors have much unused capacity, a copy without it is
+    /// added and returned. Fails if memory allocation fails; `route` isn't added then.
     pub fn intern(&mut self, peer: &Peer, route: &Rc<Route>) -> Result<Rc<Route>, AllocError>
         ensures value { IfOk result (λ known. known.value ≡ route.now.value) }
         ensures stood { sized_for self.new ≤ max (sized_for self.old) (route_count self.new) }
@@ -109,8 +118,10 @@ impl RouteInterner {
         Ok(kept)
     }
 
-    /// Returns what [`RouteInterner::intern`] returns, or `route` itself without a look-up if it is
-    /// long and has many owners. Fails if memory allocation fails; nothing is added then.
+    /// Returns the table's route that equals `route`, or else adds `route`, as
+    /// [`RouteInterner::intern`] does. But a route that is long and has many owners is returned
+    /// itself, without a look-up, so that the look-ups for all items of an event take bounded time.
+    /// Fails if memory allocation fails; `route` isn't added then.
     pub fn intern_if_cheap(
         &mut self,
         peer: &Peer,
@@ -127,8 +138,9 @@ impl RouteInterner {
         route.clone()
     }
 
-    /// Returns the last route of a peer, if it equals `route` and its slot is noted. `last` is the
-    /// index for the peer in `last_slots`.
+    /// Returns the last route of a peer, if its slot in the hash table is noted and it equals
+    /// `route`, or else `None`. `last` is the index of the peer's group in `last_slots`, by its
+    /// hash; another peer of the group may have replaced the slot.
     #[inline]
     fn last_route_if_equal(&self, last: usize, route: &Route) -> Option<&Rc<Route>>
         ensures { IfSome result (λ known. known.now.value ≡ route.now) }
@@ -140,8 +152,9 @@ impl RouteInterner {
         }
     }
 
-    /// Notes the index of the slot that the last route of a peer is in. `last` is the index for the
-    /// peer in `last_slots`; if that is empty, nothing is noted.
+    /// Notes `index`, the index of the slot of the hash table with the last route of a peer, for
+    /// the next look-up. `last` is the index of the peer's group in `last_slots`, by its hash. If
+    /// that is out of bounds, nothing is noted.
     fn set_last_slot(&mut self, last: usize, index: usize)
         ensures routes { route_count self.new ≡ route_count self.old }
         ensures stood { sized_for self.new ≡ sized_for self.old }
@@ -151,8 +164,9 @@ impl RouteInterner {
         }
     }
 
-    /// Moves the routes to a larger table, and allocates `last_slots` if that is empty. Fails if memory
-    /// allocation fails; the table is unchanged then, or has no routes if they were moved already.
+    /// Moves the routes to a hash table with a number of slots that fits their number, and
+    /// allocates `last_slots` if that is empty. Fails if memory allocation fails; the hash table is
+    /// unchanged then, or empty if the routes were being moved already.
     fn grow(&mut self) -> Result<(), AllocError>
         ensures { sized_for self.new ≤ max (sized_for self.old) (route_count self.new) }
     {
@@ -165,9 +179,10 @@ impl RouteInterner {
         Ok(())
     }
 
-    /// Adds a route that isn't here, with its hash and the number of octets that it takes, and
-    /// returns the index of its slot, or `usize::MAX` if it is in none. Fails if memory allocation
-    /// fails; the route isn't added then.
+    /// Adds `route`, which isn't in the table, with its hash and the number of octets that it takes
+    /// ([`route_size`]). Returns the index of its slot in the hash table, or `usize::MAX` if it is
+    /// in no slot: its slots were taken, so that it is in the overflow list. Fails if memory
+    /// allocation fails; the route isn't added then.
     fn insert(&mut self, hash: u32, route: Rc<Route>, octets: u64) -> Result<usize, AllocError>
         ensures { sized_for self.new ≤ max (sized_for self.old) (route_count self.new) }
     {
@@ -181,8 +196,10 @@ impl RouteInterner {
         Ok(index)
     }
 
-    /// Tells the table that an owner of the route is about to go. If one other owner is left, the
-    /// route is removed from the table; if few are, its octets count as released.
+    /// Tells the table that an owner of the route (an `Rc`) is about to be dropped. If one other
+    /// owner is left, which may be the table, the route is removed from the table; if few are left,
+    /// its octets count as released, so that [`RouteInterner::sweep_if_due`] searches for such
+    /// routes.
     pub fn release(&mut self, route: &Rc<Route>)
         ensures { sized_for self.new ≡ sized_for self.old }
     {
@@ -196,8 +213,9 @@ impl RouteInterner {
         }
     }
 
-    /// Counts as released all routes that were added since the last play began. The caller calls it
-    /// when routes that it looked up aren't used.
+    /// Counts as released all routes that were added since [`RouteInterner::begin_play`] was last
+    /// called, as they may have no owner but the table. For callers that don't use the routes that
+    /// they looked up, such as for an event that is refused.
     pub fn release_added(&mut self)
         ensures { sized_for self.new ≡ sized_for self.old }
     {
@@ -205,8 +223,9 @@ impl RouteInterner {
         self.added_octets = 0;
     }
 
-    /// Removes the routes that have no other owner, if the octets of released routes are more than
-    /// the share that may be held: a quarter of what other routes take, and a mebibyte.
+    /// Removes the routes that have no owner but the table, if enough octets were released: more
+    /// than a quarter of what the other routes take, and a mebibyte. So the cost of checking all
+    /// routes stays small.
     pub fn sweep_if_due(&mut self)
         ensures { sized_for self.new ≡ sized_for self.old }
     {
@@ -217,8 +236,10 @@ impl RouteInterner {
         }
     }
 
-    /// Prepares the table for a play: removes routes as [`RouteInterner::sweep_if_due`] does, and
-    /// moves the rest to a smaller table if it has too many slots for them.
+    /// Prepares the table for the look-ups of a next event: removes routes without another owner if
+    /// that is due ([`RouteInterner::sweep_if_due`]), and moves the others to a smaller hash table
+    /// if it has too many slots for them. If memory allocation for that fails, all routes are
+    /// removed instead.
     pub fn begin_play(&mut self)
         ensures { sized_for self.new ≡ route_count self.new }
     {
@@ -233,8 +254,9 @@ impl RouteInterner {
     }
 }
 
-/// Returns `true` if the path and the communities have at most [`MOST_NUMBERS`] numbers and
-/// segments, so that the route is looked up for each item.
+/// Returns `true` if the AS path and the communities have at most [`MOST_NUMBERS`] AS numbers,
+/// segments and communities together, so that a look-up takes little time whatever owners the route
+/// has.
 fn is_short(route: &Route) -> bool {
     let attrs = &route.attrs;
     let mut numbers = attrs.communities.as_slice().len();

@@ -1,6 +1,6 @@
 //! The slots of the hash table of `slots.rt`, which calls the searches here. A row is a bucket of
-//! four slots, and a hash has two rows. Each slot has a tag, an octet of the hash of its route,
-//! which a search compares first. Read [`Slot`] first, then [`find_in_row`].
+//! four slots, and a hash has two rows, in which its route may be. Each slot has a tag, an octet of
+//! the hash of its route, which a search compares first. Read [`Slot`] first, then [`find_in_row`].
 
 ghost use Rattle.std.specs.Prelude.{◌≡◌, true, IfSome};
 ghost use Rattle.known_routes.specs.InternTable.{is_taken, is_tagged};
@@ -8,26 +8,29 @@ ghost use Rattle.known_routes.specs.InternTable.{is_taken, is_tagged};
 use mrt_events::{Route, route_size, same_route};
 use std::rc::Rc;
 
-/// The number of slots in a row. A route may be in two rows, so in eight slots. With one more, a
-/// row would begin in one line of the cache and end in the next.
+/// The number of slots in a row, a bucket of the hash table. A route may be in two rows, so in
+/// eight slots. With one more, a row would begin in one line of the cache and end in the next.
 const ROW: usize = 4;
 
-/// The number of slots before the first row, which have no route. A large block begins 16 octets
-/// after the start of a page, the size of one slot, so that each row is in one line of the cache.
-/// With one more, none would be.
+/// The number of slots of a table before its first row (a bucket of four slots); they have no
+/// route. A large block begins 16 octets after the start of a page, the size of one slot, so that
+/// each row is in one line of the cache. With one more, none would be.
 const BEFORE_ROWS: usize = 3;
 
-/// The factor by which a hash is multiplied for its second row: the prime nearest to 2^32 divided
-/// by the golden ratio. An even factor would lose the highest bit of the hash.
+/// The factor by which a hash is multiplied to select the second of its two rows (buckets of four
+/// slots): the prime nearest to 2^32 divided by the golden ratio. An even factor would lose the
+/// highest bit of the hash.
 const SECOND_ROW: u32 = 0x9e37_79b1;
 
-/// The number of bits of a hash. With one more, only rows of the first half would be taken.
+/// The number of bits of the hash of a route. With one more, only rows (buckets of four slots) of
+/// the first half of a table would be taken.
 const HASH_BITS: u32 = 32;
 
-/// The tag of a slot without a route. The numbers above it are tags of slots with a route.
+/// The tag (the octet for a slot that a search compares first) of a slot without a route. The
+/// numbers above it are tags of slots with a route.
 pub(crate) const FREE: u8 = 0;
 
-/// A slot of the hash table.
+/// A slot of the hash table of routes: room for one route.
 #[derive(Drop)]
 pub(crate) enum Slot {
     /// No route.
@@ -36,7 +39,7 @@ pub(crate) enum Slot {
     Taken(u32, Rc<Route>),
 }
 
-/// Returns `true` if the slot has a route.
+/// Returns `true` if the slot of the hash table has a route.
 #[inline]
 pub(crate) fn is_taken(slot: &Slot) -> bool
     ensures { result ≡ is_taken slot.now }
@@ -44,7 +47,8 @@ pub(crate) fn is_taken(slot: &Slot) -> bool
     matches!(slot, Slot::Taken(_, _))
 }
 
-/// Returns `true` if the slot has a route that nothing else owns.
+/// Returns `true` if the slot has a route that nothing else owns: no other `Rc` shares it. Returns
+/// `false` if it has none.
 pub(crate) fn is_only_owner(slot: &Slot) -> bool {
     matches!(slot, Slot::Taken(_, route) if Rc::strong_count(route) == 1)
 }
@@ -58,8 +62,8 @@ pub(crate) fn route_size_at(slot: &Slot) -> u64 {
     }
 }
 
-/// Returns the tag of a slot whose route has the hash `hash`: the lowest octet of the hash, or 1 if
-/// that is 0. It is never [`FREE`].
+/// Returns the tag of a slot whose route has the hash `hash`, an octet that searches compare before
+/// the whole hash: the lowest octet of the hash, or 1 if that is 0. So it is never [`FREE`].
 #[inline]
 pub(crate) fn tag_of(hash: u32) -> u8
     ensures { is_tagged result ≡ true }
@@ -69,15 +73,15 @@ pub(crate) fn tag_of(hash: u32) -> u8
     hash.to_le_bytes()[0].max(FREE + 1)
 }
 
-/// Returns `true` if `tag` is the tag of the slot at the index. Returns `false` if the index is out
-/// of bounds.
+/// Returns `true` if the slot at the index `index` has the tag `tag` (an octet of the hash of its
+/// route, or [`FREE`]). Returns `false` if the index is out of bounds.
 #[inline]
 fn has_tag(tags: &[u8], index: usize, tag: u8) -> bool {
     tags.get(index).is_some_and(|other| *other == tag)
 }
 
-/// Returns the index of the first slot of the row of `hash` in a table of `count` slots. The index
-/// is out of bounds if the table has no slots.
+/// Returns the index of the first slot of the row (a bucket of four slots) that the hash `hash`
+/// selects in a table of `count` slots. The index is out of bounds if the table has no slots.
 #[inline]
 fn row_start(hash: u32, count: usize) -> usize {
     let rows = (count.saturating_sub(BEFORE_ROWS) / ROW) as u64;
@@ -85,8 +89,9 @@ fn row_start(hash: u32, count: usize) -> usize {
     row.wrapping_mul(ROW).wrapping_add(BEFORE_ROWS)
 }
 
-/// Returns the indices of the first slots of the two rows of `hash` in a table of `count` slots.
-/// They are out of bounds if the table has no slots.
+/// Returns the indices of the first slots of the two rows (buckets of four slots) in which a route
+/// with the hash `hash` may be, in a table of `count` slots. They are out of bounds if the table
+/// has no slots.
 #[inline]
 pub(crate) fn row_starts(hash: u32, count: usize) -> [usize; 2] {
     [
@@ -95,9 +100,9 @@ pub(crate) fn row_starts(hash: u32, count: usize) -> [usize; 2] {
     ]
 }
 
-/// Returns a route of this hash that equals `route`, with the index of its slot, from the row whose
-/// first slot is at the index `start`. Returns `None` if the row has none. `tags` has the tag of
-/// each slot.
+/// Returns a route with the hash `hash` that equals `route`, and the index of its slot, from the
+/// row of four slots whose first one has the index `start`. Returns `None` if the row has none, or
+/// is out of bounds. `tags` has the tag ([`tag_of`] or [`FREE`]) of each of `slots`.
 #[inline]
 pub(crate) fn find_in_row<'a>(
     tags: &[u8],
@@ -121,23 +126,25 @@ pub(crate) fn find_in_row<'a>(
     None
 }
 
-/// Returns `true` if the last slot of the row whose first slot is at the index `start` is free.
-/// Returns `false` if it is out of bounds.
+/// Returns `true` if the last slot of the row of four slots whose first one has the index `start`
+/// is free, so that the row isn't full. Returns `false` if it is out of bounds. `tags` has the tag
+/// ([`tag_of`] or [`FREE`]) of each slot.
 #[inline]
 pub(crate) fn ends_with_free_slot(tags: &[u8], start: usize) -> bool {
     has_tag(tags, start.saturating_add(ROW - 1), FREE)
 }
 
-/// Returns the index of the first free slot of the row whose first slot is at the index `start`, or
-/// `None` if it has none. `tags` has the tag of each slot.
+/// Returns the index of the first free slot of the row of four slots whose first one has the index
+/// `start`, or `None` if it has none. `tags` has the tag ([`tag_of`] or [`FREE`]) of each slot.
 #[inline]
 fn find_free_in_row(tags: &[u8], start: usize) -> Option<usize> {
     (start..start.saturating_add(ROW)).find(|index| has_tag(tags, *index, FREE))
 }
 
-/// Returns the index of the slot that a route of this hash is to be put into: the first free one of
-/// its two rows, or the first slot of its first row if both are full. `tags` has the tag of each
-/// slot; if it is empty, the index is out of bounds.
+/// Returns the index of the slot that a route with the hash `hash` is to be put into: the first
+/// free one of its two rows (buckets of four slots), or the first slot of its first row if both are
+/// full. `tags` has the tag ([`tag_of`] or [`FREE`]) of each slot; if it is empty, the index is out
+/// of bounds.
 #[inline]
 pub(crate) fn slot_for(tags: &[u8], hash: u32) -> usize {
     let [first, second] = row_starts(hash, tags.len());
@@ -146,8 +153,9 @@ pub(crate) fn slot_for(tags: &[u8], hash: u32) -> usize {
         .unwrap_or(first)
 }
 
-/// Returns the index of the slot that has `route` itself, not one that equals it, in the row whose
-/// first slot is at the index `start`. Returns `None` if the row doesn't have it.
+/// Returns the index of the slot that has `route`, this very `Rc` and not another one of an equal
+/// route, in the row of four slots whose first one has the index `start`. Returns `None` if the row
+/// doesn't have it.
 #[inline]
 fn index_in_row(slots: &[Slot], start: usize, route: &Rc<Route>) -> Option<usize> {
     (start..start.saturating_add(ROW)).find(|index| {
@@ -155,8 +163,9 @@ fn index_in_row(slots: &[Slot], start: usize, route: &Rc<Route>) -> Option<usize
     })
 }
 
-/// Returns the index of the slot that has `route` itself, not one that equals it, in the two rows
-/// of its hash. Returns `None` if they don't have it.
+/// Returns the index of the slot that has `route`, this very `Rc` and not another one of an equal
+/// route. Searches the two rows of `hash`, the hash of the route. Returns `None` if they don't have
+/// it.
 pub(crate) fn index_of(slots: &[Slot], hash: u32, route: &Rc<Route>) -> Option<usize> {
     let [first, second] = row_starts(hash, slots.len());
     index_in_row(slots, first, route).or_else(|| index_in_row(slots, second, route))

@@ -1,6 +1,6 @@
-//! A hash table of routes. Each route is in a slot of one of the two rows of its hash, or in an
-//! overflow if these were full. `routes.rt` looks up and adds routes by it. Read [`InternTable`]
-//! first, then `slot.rt`.
+//! A hash table of routes. Each route is in a slot of one of the two rows (buckets of four slots)
+//! of its hash, or in an overflow, a sorted list, if these were full. `routes.rt` looks up and adds
+//! routes by it. Read [`InternTable`] first, then `slot.rt`.
 
 ghost use Rattle.std.specs.Prelude.{◌≡◌, ◌<◌, ◌≤◌, ◌+◌, ◌*◌, true, IfOk, IfSome, OnOk, OnErr, IsTrue, slice_index_or, vec_len, count_by};
 ghost use Rattle.known_routes.specs.InternTable.{is_taken, is_tagged, AreTagged};
@@ -17,52 +17,58 @@ use std::alloc::{AllocError, Global};
 use std::mem;
 use std::rc::Rc;
 
-/// The number of slots of the first table, and the smallest number of a later one. The table grows
-/// when a route is added while three quarters of its slots are taken.
+/// The number of slots of the first hash table, and the smallest number of a later one. The table
+/// grows when a route is added while three quarters of its slots are taken.
 const MIN_SLOTS: usize = 1024;
 
-/// The largest number of slots. A table of so many doesn't grow; a route whose rows are full goes
-/// to the overflow, where a search takes longer.
+/// The largest number of slots of a table. A table of so many doesn't grow; a route whose rows
+/// (buckets of four slots) are full goes to the overflow list, where a search takes longer.
 pub(crate) const MAX_SLOTS: usize = 1 << 24;
 
-/// The largest number of slots for each route, besides [`MIN_SLOTS`]. If a play begins with one
-/// more than that, the routes move to a smaller table.
+/// The largest number of slots for each route in a slot, besides [`MIN_SLOTS`]. If the table has
+/// one more than that when the next event begins, the routes move to a smaller table.
 const MOST_TIMES: usize = 3;
 
-/// The ratio of the routes in slots to those that may be in the overflow before searches go on
-/// there after a row with a free slot. With one route more there, they do.
+/// The ratio of the routes in slots to those that may be in the overflow list before a search that
+/// found a free slot in its row goes on in the overflow. With one route more there, it does.
 const CROWDED_SHARE: usize = 16;
 
-/// The ratio of the routes in slots to those that may replace another because both of their rows
-/// are full. Of routes with random hashes, fewer do. One more goes to the overflow, where a search
-/// takes longer.
+/// The ratio of the routes in slots to those that may replace another route because both rows
+/// (buckets of four slots) of their hash are full. Of routes with random hashes, fewer do. One more
+/// goes to the overflow list, where a search takes longer.
 const OVERWRITTEN_SHARE: usize = 12;
 
-/// The index of a route in the overflow, which is in no slot. No number is above it.
+/// Stands in place of a slot's index for a route that is in the overflow list, in no slot. No
+/// number is above it.
 const IN_OVERFLOW: usize = usize::MAX;
 
-/// A hash table of routes, with an overflow for those whose rows are full.
+/// A hash table of routes, each an `Rc` under a 32-bit hash, whose callers intern routes by it:
+/// equal routes share one `Rc`. It has slots in rows of four, and an overflow, a sorted list, for
+/// routes whose rows are full. Some routes may be replaced by others, and aren't found any more.
 #[derive(Drop)]
 pub(crate) struct InternTable {
-    /// The slots.
+    /// The slots. A table may have none.
     pub(crate) slots: Vec<Slot>,
-    /// The tag of each slot: [`tag_of`] the hash of its route, or [`FREE`] if it has no route.
+    /// An octet for each slot, which a search compares first: [`tag_of`] the hash of its route, or
+    /// [`FREE`] if it has no route.
     pub(crate) tags: Vec<u8>,
     /// The number of slots that have a route.
     pub(crate) taken: usize,
-    /// The overflow: routes that found both of their rows full.
+    /// The routes that found both rows of their hash full.
     overflow: OrderedRoutes,
-    /// The number of routes that replaced another in its slot.
+    /// The number of routes that replaced another in its slot, since they found both of their rows
+    /// full. It saturates.
     overwritten: usize,
-    /// The number of octets that all routes of the table take ([`route_size`]), as far as they were
-    /// counted.
+    /// The number of octets that all routes of the table take ([`route_size`]). Whoever calls
+    /// [`InternTable::put`] adds those of the route.
     pub(crate) held_octets: u64,
     ghost counted: { taken ≡ count_by is_taken slots.items },
     ghost tagged: { AreTagged slots.items tags.items },
 }
 
 impl InternTable {
-    /// Returns a table without slots. Allocates no memory.
+    /// Returns a table without slots and routes, which can't take any ([`InternTable::put`] drops
+    /// them). Allocates no memory.
     pub(crate) fn empty(alloc: Global) -> InternTable
         ensures { vec_len result.slots ≡ 0 }
     {
@@ -76,7 +82,8 @@ impl InternTable {
         }
     }
 
-    /// Returns a table of `count` slots without routes. Fails if memory allocation fails.
+    /// Returns a table of `count` slots, none of which has a route yet. Fails if memory allocation
+    /// fails.
     pub(crate) fn with_slots(alloc: Global, count: usize) -> Result<InternTable, AllocError>
         ensures { IfOk result (λ free. vec_len free.slots ≡ count) }
     {
@@ -96,24 +103,25 @@ impl InternTable {
         })
     }
 
-    /// Returns `true` if the overflow has so many routes that a search goes on there after a row
-    /// with a free slot ([`CROWDED_SHARE`]).
+    /// Returns `true` if the overflow list has so many routes for those in slots
+    /// ([`CROWDED_SHARE`]) that a search has to go on there even after a row with a free slot.
     #[inline]
     fn is_overflow_crowded(&self) -> bool {
         self.overflow.count > self.taken / CROWDED_SHARE
     }
 
-    /// Returns `true` if a search ends after the row whose first slot is at the index `row`: its
-    /// last slot is free, and few routes are in the overflow.
+    /// Returns `true` if a search that didn't find its route in the row whose first slot has the
+    /// index `row` ends there: the row has a free slot, so that the route would be in it, and few
+    /// routes are in the overflow list.
     #[inline]
     fn ends_search(&self, row: usize) -> bool {
         // Rows are filled from the front.
         ends_with_free_slot(&self.tags, row) && !self.is_overflow_crowded()
     }
 
-    /// Returns a route of this hash that equals `route`, with the index of its slot, or with
-    /// [`IN_OVERFLOW`] if it is in the overflow. Returns `None` if none is found. One that was put
-    /// while a row was full may not be found once that row has a free slot.
+    /// Returns a route with the hash `hash` that equals `route`, and the index of its slot, or
+    /// [`IN_OVERFLOW`] if it is in the overflow list. Returns `None` if none is found: a route that
+    /// was put while its rows were full may not be found once these have a free slot.
     #[inline]
     pub(crate) fn find_route(&self, hash: u32, route: &Route) -> Option<(usize, &Rc<Route>)>
         ensures { IfSome result (λ found. found.1.now.value ≡ route.now) }
@@ -134,14 +142,15 @@ impl InternTable {
         Some((IN_OVERFLOW, self.overflow.find_route(hash, route)?))
     }
 
-    /// Returns `true` if a route whose rows are full is to replace another: if few did so far
-    /// ([`OVERWRITTEN_SHARE`]), or if the overflow is full.
+    /// Returns `true` if a route whose rows are full is to replace another route in its slot: if
+    /// few did so far ([`OVERWRITTEN_SHARE`]), or if the overflow list is full. Returns `false` if
+    /// it is to go to the overflow.
     fn may_overwrite(&self) -> bool {
         self.overwritten < self.taken / OVERWRITTEN_SHARE || self.overflow.is_full()
     }
 
-    /// Adds a route of this hash to the overflow, and returns [`IN_OVERFLOW`]. Fails if memory
-    /// allocation fails; the route is dropped then.
+    /// Adds a route with the hash `hash` to the overflow list, and returns [`IN_OVERFLOW`]. Fails
+    /// if memory allocation fails; the route is dropped then.
     #[inline(never)]
     fn put_into_overflow(&mut self, hash: u32, route: Rc<Route>) -> Result<usize, AllocError>
         ensures slots { vec_len self.new.slots ≡ vec_len self.old.slots }
@@ -152,11 +161,11 @@ impl InternTable {
         Ok(IN_OVERFLOW)
     }
 
-    /// Puts a route of this hash into a free slot of its two rows, and returns the index of the
-    /// slot. If they are full, the route replaces the first one of the first row
-    /// ([`InternTable::may_overwrite`]), or else goes to the overflow, at [`IN_OVERFLOW`]. A table
-    /// without slots drops it. Its octets aren't added to `held_octets`. Fails if memory allocation fails;
-    /// the route is dropped then.
+    /// Puts a route with the hash `hash` into a free slot of its two rows, and returns the index of
+    /// the slot. If they are full, the route takes the first slot of the first row from another
+    /// route, or else goes to the overflow list, for which [`IN_OVERFLOW`] is returned. A table
+    /// without slots drops it, and returns that too. Doesn't add its octets to `held_octets`. Fails
+    /// if memory allocation fails; the route is dropped then.
     pub(crate) fn put(&mut self, hash: u32, route: Rc<Route>) -> Result<usize, AllocError>
         ensures slots { vec_len self.new.slots ≡ vec_len self.old.slots }
         ensures taken { self.old.taken ≤ self.new.taken }
@@ -185,8 +194,8 @@ impl InternTable {
         Ok(index)
     }
 
-    /// Removes the route of the slot at the index. Does nothing if the slot has no route, or if the
-    /// index is out of bounds.
+    /// Removes the route of the slot at the index `index`, and subtracts its octets from
+    /// `held_octets`. Does nothing if the slot has no route, or if the index is out of bounds.
     pub(crate) fn clear_slot(&mut self, index: usize)
         ensures { vec_len self.new.slots ≡ vec_len self.old.slots }
     {
@@ -200,8 +209,8 @@ impl InternTable {
         }
     }
 
-    /// Removes `route` itself, not one that equals it. Does nothing if it isn't found. Its hash is
-    /// `hash`.
+    /// Removes `route`, whose hash is `hash`, from the table: this very `Rc`, not another one of an
+    /// equal route. Does nothing if it isn't found. Subtracts its octets from `held_octets`.
     pub(crate) fn remove_route(&mut self, hash: u32, route: &Rc<Route>)
         ensures { vec_len self.new.slots ≡ vec_len self.old.slots }
     {
@@ -212,8 +221,9 @@ impl InternTable {
         }
     }
 
-    /// Puts the routes of a run of another table's overflow into this table. Fails if memory
-    /// allocation fails; the routes that weren't put are dropped then.
+    /// Puts the routes of one of the sorted lists that another table's overflow is cut into (a run)
+    /// into this table. Fails if memory allocation fails; the routes that weren't put are dropped
+    /// then.
     fn put_run(&mut self, run: Vec<HashedRoute>) -> Result<(), AllocError>
         ensures { vec_len self.new.slots ≡ vec_len self.old.slots }
     {
@@ -223,8 +233,9 @@ impl InternTable {
         Ok(())
     }
 
-    /// Puts the routes of another table's overflow into this table. Fails if memory allocation
-    /// fails; the routes that weren't put are dropped then.
+    /// Puts the routes of another table's overflow list into this table, each into a slot if there
+    /// is a free one. Fails if memory allocation fails; the routes that weren't put are dropped
+    /// then.
     fn put_runs(&mut self, overflow: OrderedRoutes) -> Result<(), AllocError>
         ensures { vec_len self.new.slots ≡ vec_len self.old.slots }
     {
@@ -234,8 +245,8 @@ impl InternTable {
         Ok(())
     }
 
-    /// Moves the routes of another table into this one, which must have none. Fails if memory
-    /// allocation fails; the routes that weren't moved are dropped then.
+    /// Moves the routes of `others` into this table, which the caller has made without routes.
+    /// Fails if memory allocation fails; the routes that weren't moved are dropped then.
     fn move_from(&mut self, mut others: InternTable) -> Result<(), AllocError>
         ensures { vec_len self.new.slots ≡ vec_len self.old.slots }
     {
@@ -261,7 +272,7 @@ impl InternTable {
         self.put_runs(overflow)
     }
 
-    /// Returns a table of [`MIN_SLOTS`] slots with the routes of this one. Fails if memory
+    /// Moves the routes to a table of [`MIN_SLOTS`] slots, and returns it. Fails if memory
     /// allocation fails; the routes are dropped then.
     fn move_to_smallest(self, alloc: Global) -> Result<InternTable, AllocError>
         ensures { IfOk result (λ fewest. vec_len fewest.slots ≡ MIN_SLOTS) }
@@ -271,8 +282,9 @@ impl InternTable {
         Ok(fewest)
     }
 
-    /// Removes the routes that have no other owner. Allocates no memory but for smaller blocks of
-    /// the overflow, and keeps the larger ones if that fails.
+    /// Removes the routes that have no owner (`Rc`) but this table. Moves lists of the overflow to
+    /// smaller blocks, and keeps the larger ones if memory allocation for that fails; allocates no
+    /// memory otherwise.
     pub(crate) fn sweep(&mut self)
         ensures { vec_len self.new.slots ≡ vec_len self.old.slots }
     {
@@ -285,7 +297,9 @@ impl InternTable {
         self.held_octets = self.held_octets.saturating_sub(octets);
     }
 
-    /// Returns `true` if there aren't too many slots for the routes in them ([`MOST_TIMES`]).
+    /// Returns `true` if the table has few enough slots for the routes in them: at most
+    /// [`MOST_TIMES`] for each, and [`MIN_SLOTS`]. Returns `false` if it is to be replaced by a
+    /// smaller one.
     pub(crate) fn is_small_enough(&self) -> bool
         ensures { IsTrue result →
             vec_len self.now.slots ≤ MOST_TIMES * self.now.taken + MIN_SLOTS }
@@ -297,9 +311,9 @@ impl InternTable {
         self.slots.len() <= most
     }
 
-    /// Moves the routes to a new table of two and a third slots for each, but at least
-    /// [`MIN_SLOTS`] and at most [`MAX_SLOTS`]. Fails if memory allocation fails; the table is
-    /// unchanged then, or has no slots and no routes.
+    /// Moves the routes to a new table, with more slots or fewer: two and a third for each route,
+    /// but at least [`MIN_SLOTS`] and at most [`MAX_SLOTS`]. Fails if memory allocation fails; the
+    /// table is unchanged then, or has no slots and no routes.
     pub(crate) fn resize(&mut self, alloc: Global) -> Result<(), AllocError>
         ensures most { OnOk result (vec_len self.new.slots ≤ MAX_SLOTS) }
         ensures fitting { OnOk result

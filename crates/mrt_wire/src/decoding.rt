@@ -1,6 +1,6 @@
 //! Parsing one MRT record into its event, or finding its fault. [`Source`](crate::Source) calls
-//! [`decode_record`] for each record whose type and subtype are supported (`record_types.rt`). Read that
-//! first; it calls the parser of each record type.
+//! [`decode_record`] for each record whose type and subtype are supported (`record_types.rt`). Read
+//! that first; it calls the parser of each record type.
 
 ghost use Rattle.std.specs.Prelude.{◌≡◌};
 ghost use Rattle.mrt_wire.specs.declared.decoding.DecodeError.TheVariants.{Memory};
@@ -21,12 +21,12 @@ use mrt_events::{Event, Items, Peer, Stamp, Tag, Time};
 use mrt_frames::{Header, RecordKind};
 use std::alloc::{AllocError, Global};
 
-/// The reason why a record yields no event.
+/// The reason why a record yields no event: a fault of the record, or a lack of memory.
 #[derive(Clone, Copy)]
 pub(crate) enum DecodeError {
-    /// The record has this fault.
+    /// The record has this fault, which the source reports before it reads on.
     Fault(RecordKind),
-    /// Memory allocation failed.
+    /// Memory allocation failed, which makes the source fail.
     Memory,
 }
 
@@ -52,16 +52,16 @@ impl From<WireFault> for DecodeError {
 /// A record of a supported type and subtype, whose body isn't parsed yet.
 #[derive(Clone, Copy)]
 pub(crate) struct RawRecord<'a> {
-    /// The form of the body, by the type and subtype of the record.
+    /// The format of the body, by the type and subtype of the record.
     pub(crate) form: BodyFormat,
-    /// The fields of the MRT common header (RFC 6396, section 2).
+    /// The parsed MRT common header: timestamp, type, subtype and length (RFC 6396, section 2).
     pub(crate) header: Header,
     /// The octets after the header, as many as the header states.
     pub(crate) body: &'a [u8],
 }
 
-/// Returns the peers of `index` in the order of their peer indexes, or an empty slice if there is
-/// no peer index table.
+/// Returns the peers of the peer index table `index`, in which a peer's position is its peer index,
+/// or an empty slice if there is no table.
 fn peers_in(index: &Option<Peers>) -> &[Peer]
     ensures { result.now ≡ peers_in index.now }
 {
@@ -71,9 +71,10 @@ fn peers_in(index: &Option<Peers>) -> &[Peer]
     }
 }
 
-/// Returns the fault of the entries of a RIB record, or `None` if they have none. It is `NoIndex`
-/// if no peer index table was accepted before the record. Otherwise it is `PeerIndex` with
-/// `unknown`, the first peer index among the entries that isn't in the table, if there is one.
+/// Returns the fault of a RIB record by the peer indexes of its entries, or `None` if it has none.
+/// It is `NoIndex` if `index` is `None`: no peer index table was accepted before the record.
+/// Otherwise it is `PeerIndex` with `unknown`, the first peer index among the entries that isn't in
+/// the table, unless that is `None`.
 fn entries_fault(index: &Option<Peers>, unknown: Option<u16>) -> Option<RecordKind>
     ensures { result ≡ entries_fault index.now unknown }
 {
@@ -84,8 +85,8 @@ fn entries_fault(index: &Option<Peers>, unknown: Option<u16>) -> Option<RecordKi
     Some(RecordKind::PeerIndex(number))
 }
 
-/// Returns the tag of the event of a BGP4MP record: `Bgp4mpEt` if the record has microseconds
-/// (RFC 6396, section 3), or else `Bgp4mp`.
+/// Returns the tag (the record type that an event states) of a BGP4MP or BGP4MP_ET record:
+/// `Bgp4mpEt` if it has microseconds (RFC 6396, section 3), or `Bgp4mp` if `micros` is `None`.
 fn session_tag(micros: Option<u32>) -> Tag
     ensures { result ≡ session_tag micros }
 {
@@ -95,8 +96,10 @@ fn session_tag(micros: Option<u32>) -> Tag
     }
 }
 
-/// Parses a record into its event. The peers of a PEER_INDEX_TABLE replace `index`, those of the
-/// last table accepted before. Fails with the fault of the record, or with `Memory` if memory
+/// Parses a record into its event. `pool` is memory that records are parsed into one after the
+/// other; `stamp` selects which time the routes of table entries get: that of the record, or of the
+/// entry. `index` has the peers of the last accepted PEER_INDEX_TABLE, and those of this record
+/// replace it if it is one. Fails with the fault of the record, or with `Memory` if memory
 /// allocation fails; `index` is unchanged then.
 #[inline(always)]
 pub(crate) fn decode_record(

@@ -1,6 +1,6 @@
 //! Parsers of the fields that the bodies of MRT records are made of (RFC 6396, section 4). The
-//! parsers of each record type call them, one field after the other. All numbers are big-endian.
-//! Read [`ValueAndRest`] first.
+//! parsers of each record type call them, one field after the other: each returns the octets after
+//! its field (the rest). All numbers are big-endian. Read [`ValueAndRest`] first.
 
 ghost use Rattle.std.specs.Prelude.{◌≡◌, ℕ, List, length, IfSome, IfNone};
 ghost use Rattle.ip_prefix.specs.Sequences.{Begins};
@@ -15,14 +15,16 @@ use byteorder::{BigEndian, ByteOrder};
 use ip_prefix::{Addr, Family};
 use mrt_events::Peer;
 
-/// A value parsed from the start of a slice, and the octets after it.
+/// A value parsed from the start of a slice of octets, and `rest`, the octets after it, for the
+/// parser of the next field.
 #[derive(Clone, Copy)]
 pub(crate) struct ValueAndRest<'a, T> {
     pub(crate) value: T,
     pub(crate) rest: &'a [u8],
 }
 
-/// Parses the octet at the start of `octets`, or returns `None` if `octets` is empty.
+/// Returns the octet at the start of `octets`, a number from 0 to 255, and the octets after it, or
+/// `None` if `octets` is empty.
 #[inline]
 pub(crate) fn split_octet(octets: &[u8]) -> Option<ValueAndRest<'_, u8>>
     ensures { FindsValue SpellsOctet octets.now result }
@@ -32,7 +34,8 @@ pub(crate) fn split_octet(octets: &[u8]) -> Option<ValueAndRest<'_, u8>>
     Some(ValueAndRest { value, rest })
 }
 
-/// Returns the octets after the first `size` octets, or `None` if `octets` is shorter than `size`.
+/// Returns the octets after the first `size` octets, for a field that isn't needed. Returns `None`
+/// if `octets` has fewer than `size`.
 #[inline]
 pub(crate) fn skip(size: usize, octets: &[u8]) -> Option<&[u8]>
     ensures some { IfSome result (λ rest. (value : List ℕ)
@@ -43,8 +46,8 @@ pub(crate) fn skip(size: usize, octets: &[u8]) -> Option<&[u8]>
     Some(rest)
 }
 
-/// Parses the big-endian 16-bit number at the start of `octets`, or returns `None` if `octets` has
-/// fewer than two octets.
+/// Parses the big-endian 16-bit number at the start of `octets`. Returns it with the octets after
+/// it, or `None` if `octets` has fewer than two octets.
 #[inline]
 pub(crate) fn split_u16(octets: &[u8]) -> Option<ValueAndRest<'_, u16>>
     ensures { FindsValue SpellsShort octets.now result }
@@ -57,8 +60,8 @@ pub(crate) fn split_u16(octets: &[u8]) -> Option<ValueAndRest<'_, u16>>
     Some(ValueAndRest { value, rest })
 }
 
-/// Parses the big-endian 32-bit number at the start of `octets`, or returns `None` if `octets` has
-/// fewer than four octets.
+/// Parses the big-endian 32-bit number at the start of `octets`. Returns it with the octets after
+/// it, or `None` if `octets` has fewer than four octets.
 #[inline]
 pub(crate) fn split_u32(octets: &[u8]) -> Option<ValueAndRest<'_, u32>>
     ensures { FindsValue SpellsU32 octets.now result }
@@ -71,8 +74,8 @@ pub(crate) fn split_u32(octets: &[u8]) -> Option<ValueAndRest<'_, u32>>
     Some(ValueAndRest { value, rest })
 }
 
-/// Parses the big-endian AS number at the start of `octets`, which takes two or four octets, by
-/// `width`. Returns `None` if `octets` has fewer.
+/// Parses the big-endian AS number at the start of `octets`, of two or four octets as `width`
+/// states. Returns it with the octets after it, or `None` if `octets` has fewer.
 #[inline]
 pub(crate) fn split_asn(width: AsWidth, octets: &[u8]) -> Option<ValueAndRest<'_, u32>>
     ensures { FindsValue (SpellsAsn width) octets.now result }
@@ -87,9 +90,9 @@ pub(crate) fn split_asn(width: AsWidth, octets: &[u8]) -> Option<ValueAndRest<'_
     }
 }
 
-/// Splits off a field that begins with its length, a big-endian 16-bit number of octets. Returns
-/// the octets of the field without the length, and the octets after the field. Returns `None` if
-/// `octets` is shorter than the length and the field.
+/// Splits off a field that begins with its length in octets, a big-endian 16-bit number. Returns
+/// first the octets of the field without the length, and second the octets after the field. Returns
+/// `None` if `octets` is shorter than the length and the field.
 #[inline]
 pub(crate) fn split_length_prefixed(octets: &[u8]) -> Option<(&[u8], &[u8])>
     ensures some { IfSome result (λ found. Begins AreSized found.0.now found.1.now octets.now) }
@@ -99,9 +102,9 @@ pub(crate) fn split_length_prefixed(octets: &[u8]) -> Option<(&[u8], &[u8])>
     number.rest.split_at_checked(usize::from(number.value))
 }
 
-/// Parses the address of `family` at the start of `octets` into `addr`, and returns the octets
-/// after it. An IPv4 address takes 4 octets, an IPv6 address 16. If `octets` has fewer, returns
-/// `None` and leaves `addr` unchanged.
+/// Parses the address of `family` at the start of `octets` into `addr`, in place so that it isn't
+/// copied, and returns the octets after it. An IPv4 address takes 4 octets, an IPv6 address 16. If
+/// `octets` has fewer, returns `None` and leaves `addr` unchanged.
 #[inline]
 pub(crate) fn fill_address<'a>(
     addr: &mut Addr,
@@ -127,7 +130,8 @@ pub(crate) fn fill_address<'a>(
 }
 
 /// Parses the peer at the start of `octets`: its address, of `family`, and then its AS number, of
-/// `width`. Returns `None` if `octets` is too short for them.
+/// two or four octets as `width` states. Returns the peer with the octets after it, or `None` if
+/// `octets` is too short.
 #[inline(always)]
 pub(crate) fn split_address_and_asn(
     family: Family,

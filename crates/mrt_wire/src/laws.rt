@@ -15,28 +15,34 @@ ghost use Rattle.mrt_wire.specs.Results.{Frame, PeerTable, Splits};
 ghost use Rattle.mrt_frames.specs.Taken.{IsOctets};
 ghost use Rattle.mrt_wire.specs.Answered.{SplitsOneWay};
 
-/// Proves that a record body of one type and subtype has at most one content.
+/// States that the body of a record of a given type and subtype can be parsed in at most one way:
+/// what it holds (a routing table entry, the peers or entries of a table, or a BGP message or state
+/// change) is determined by its octets.
 pub fn law_one_content()
     ensures { (kind subtype : ℕ) (body : List ℕ) (a b : Content) →
         IsBody kind subtype a body → IsBody kind subtype b body → a ≡ b }
 {}
 
-/// Proves that every list of octets has a split into frames and a rest that begins with no record.
-/// The statement is a double negation, since it names no split.
+/// States that every input can be split into whole records, each with its event or its fault, and
+/// the octets after the last whole record. It is stated as a double negation (there is no input
+/// without such a split), since it constructs none.
 pub fn law_no_octets_without_a_split()
     ensures { (stamp : Stamp) (index : PeerTable) (octets : List ℕ) → IsOctets octets →
         ((frames : List Frame) (rest : List ℕ) → Splits stamp index octets frames rest → ⊥) → ⊥ }
 {}
 
-/// Proves that a list of octets splits in at most one way into frames and a rest that begins with
-/// no record.
+/// States that an input can be split in at most one way into whole records, each with its event or
+/// its fault, and the octets after the last whole record. So what a reader is to return is
+/// determined by the octets of the input, the time that routes of tables get, and the peers known
+/// before.
 pub fn law_one_split()
     ensures { (stamp : Stamp) (index : PeerTable) (octets : List ℕ) → SplitsOneWay stamp index octets }
 {}
 
-/// Proves the values of the constants that the definitions name: MRT types and subtypes, the sizes
-/// of fields in octets (RFC 6396, sections 2 to 4), the greatest length of a body that is read, and
-/// the microseconds of a second.
+/// States the values of the constants of the code that the contracts name: MRT types and subtypes,
+/// bits of a Peer Type, the sizes of fields in octets (RFC 6396, sections 2 to 4), the greatest
+/// length of a body that is read, and the microseconds of a second. So a reader of the contracts
+/// needn't look them up in the code.
 pub fn law_mrt_constants()
     ensures sizes { (HEADER_SIZE ≡ 12) × (LONGEST_BODY ≡ 16777216) }
     ensures types { (TABLE_DUMP ≡ 12) × (TABLE_DUMP_V2 ≡ 13) × (BGP4MP ≡ 16)

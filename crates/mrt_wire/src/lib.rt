@@ -1,7 +1,8 @@
 //! A parser of MRT files (RFC 6396): it reads one record after the other from an input, and returns
-//! an event or a fault for each. `bgpdump_lines` and `bgpdump_tool` call [`Source::next`]. Read
-//! `source.rt` first, then `decoding.rt`, which parses one record, and then the parser of each
-//! record type: `peer_index.rt`, `rib.rt`, `table_dump.rt` and `session.rt`.
+//! for each an event (its time, its type and what it says of peers and routes) or a fault.
+//! `bgpdump_lines` and `bgpdump_tool` call [`Source::next`]. Read `source.rt` first, then
+//! `decoding.rt`, which parses one record, and then the parser of each record type:
+//! `peer_index.rt`, `rib.rt`, `table_dump.rt` and `session.rt`.
 #![tactic(auto)]
 
 mod decoding;

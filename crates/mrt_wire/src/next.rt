@@ -1,28 +1,34 @@
-//! What [`Source::next`](crate::Source::next) returns, and the phases of a source. Callers match on
-//! [`Next`]; contracts of `source.rt` name [`Phase`]. Read [`Next`] first.
+//! What [`Source::next`](crate::Source::next), the reader of the next MRT record, returns, and the
+//! phases of a source. Callers match on [`Next`]; contracts of `source.rt` name [`Phase`]. Read
+//! [`Next`] first.
 
 use mrt_events::Event;
 use mrt_frames::RecordFault;
 
-/// What a source returns of the next record of its input: an event, a fault, or the end.
+/// What [`Source::next`](crate::Source::next) returns of the next MRT record of its input: the
+/// event that the record tells, the fault that it has, or the end of the input.
 #[derive(Debug, Drop)]
 pub enum Next {
-    /// The event of an accepted record.
+    /// The event of an accepted record: its time, its type, and what it says of peers and routes.
     Event(Event),
-    /// The fault of a record, with the number and the offset of that record.
+    /// A fault of a record that was skipped, with the number of the record and the offset of its
+    /// header. The source reads on after it.
     Bad(RecordFault),
-    /// The end of what the source reads: it reads no more records.
+    /// The end of the input, or of what can be read of it: the source reads no more records.
     End,
 }
 
-/// Whether a source still reads its input.
+/// Whether a [`Source`](crate::Source), a reader of MRT records, still reads its input.
 #[derive(Clone, Copy, Debug, PartialEq, Eq)]
 pub enum Phase {
-    /// The source reads its input.
+    /// The source reads its input: the next call of [`Source::next`](crate::Source::next) reads a
+    /// record.
     Reading,
     /// The source has met the end of its input, a record that is cut there, or a header that states
-    /// a length above 16,777,216 octets. It returns [`Next::End`] from now on.
+    /// a length above 16,777,216 octets. [`Source::next`](crate::Source::next) returns
+    /// [`Next::End`] from now on.
     Ended,
-    /// The source has returned an error. It returns `SourceFault::Spent` from now on.
+    /// The source has returned an error. [`Source::next`](crate::Source::next) fails with
+    /// `SourceFault::Spent` from now on.
     Spent,
 }

@@ -20,20 +20,24 @@ use ip_prefix::Family;
 use mrt_events::Peer;
 use std::alloc::Global;
 
-/// The Peer Type bit that is set if the peer has an IPv6 address (RFC 6396, section 4.3.1).
+/// The bit of a Peer Type octet that is set if the peer has an IPv6 address, and clear if it has an
+/// IPv4 address (RFC 6396, section 4.3.1).
 const IPV6_PEER: u8 = 0x01;
 
-/// The Peer Type bit that is set if the AS number has four octets (RFC 6396, section 4.3.1).
+/// The bit of a Peer Type octet that is set if the peer's AS number has four octets, and clear if
+/// it has two (RFC 6396, section 4.3.1).
 const AS4_PEER: u8 = 0x02;
 
-/// The size of the BGP ID of a collector or a peer, in octets.
+/// The size of the BGP ID of a collector or a peer in a PEER_INDEX_TABLE, in octets (RFC 6396,
+/// section 4.3.1).
 const ID_SIZE: usize = 4;
 
 /// The size of the smallest peer entry, in octets: a Peer Type, a BGP ID, an IPv4 address and an AS
-/// number of two octets.
+/// number of two octets. It bounds the number of peers that memory is reserved for.
 const SMALLEST_PEER: usize = 11;
 
-/// Returns the family of a peer's address, by its Peer Type (RFC 6396, section 4.3.1).
+/// Returns the family of a peer's address, by the Peer Type octet `kind` (RFC 6396, section 4.3.1).
+/// Other bits of it are ignored.
 fn peer_family(kind: u8) -> Family
     ensures { result ≡ peer_family kind }
 {
@@ -44,7 +48,8 @@ fn peer_family(kind: u8) -> Family
     }
 }
 
-/// Returns the width of a peer's AS number, by its Peer Type (RFC 6396, section 4.3.1).
+/// Returns the width of a peer's AS number, by the Peer Type octet `kind` (RFC 6396, section
+/// 4.3.1). Other bits of it are ignored.
 fn peer_width(kind: u8) -> AsWidth
     ensures { result ≡ peer_width kind }
 {
@@ -56,7 +61,8 @@ fn peer_width(kind: u8) -> AsWidth
 }
 
 /// Parses the peer entry at the start of `octets`, ignoring its BGP ID (RFC 6396, section 4.3.1).
-/// Returns `None` if `octets` is shorter than the entry.
+/// Returns the peer with the octets after the entry, or `None` if `octets` is shorter than the
+/// entry.
 fn split_peer(octets: &[u8]) -> Option<ValueAndRest<'_, Peer>>
     ensures { FindsValue SpellsPeer octets.now result }
 {
@@ -66,9 +72,9 @@ fn split_peer(octets: &[u8]) -> Option<ValueAndRest<'_, Peer>>
     split_address_and_asn(family, width, after_id)
 }
 
-/// Parses a 16-bit count and as many peer entries at the start of `octets`, and ignores the octets
-/// after them. Fails with `Malformed` if there are fewer entries than the count states, or with
-/// `Memory` if memory allocation fails.
+/// Parses a big-endian 16-bit count and as many peer entries at the start of `octets`, and ignores
+/// the octets after them. Fails with `Malformed` if there are fewer entries than the count states,
+/// or with `Memory` if memory allocation fails.
 fn read_peers(alloc: Global, octets: &[u8]) -> Result<Peers, WireFault>
     ensures { ParsesOrFails (SpellsFront (SpellsCounted SpellsPeer)) octets.now result }
 {
@@ -88,8 +94,8 @@ fn read_peers(alloc: Global, octets: &[u8]) -> Result<Peers, WireFault>
 }
 
 /// Parses the body of a PEER_INDEX_TABLE record into its peers (RFC 6396, section 4.3.1), and
-/// ignores the collector's BGP ID and the view name. Fails with `Malformed` if the body has another
-/// form, or with `Memory` if memory allocation fails.
+/// ignores the collector's BGP ID and the view name. Fails with `Malformed` if a field is missing,
+/// or with `Memory` if memory allocation fails.
 pub(crate) fn read_peer_index(alloc: Global, octets: &[u8]) -> Result<Peers, WireFault>
     ensures { ParsesOrFails SpellsPeerIndex octets.now result }
 {

@@ -1,6 +1,6 @@
-//! The peers of a peer index table, and the hash that selects the slot of `route_cache.rt` in which
-//! the routes of a peer are cached. `table_dump.rt` calls [`peer_hash`]; an entry of a RIB record
-//! gets its slot by its peer index instead. Read [`Peers`] first.
+//! The peers of a peer index table, and the hash of a peer that selects the slot of the cache of
+//! `route_cache.rt` in which the peer's last route is. `table_dump.rt` calls [`peer_hash`]; an
+//! entry of a RIB record gets its slot by its peer index instead. Read [`Peers`] first.
 
 ghost use Rattle.std.specs.Prelude.{◌<◌};
 ghost use Rattle.mrt_wire.specs.declared.peers.TheConstants.{PEER_SLOTS};
@@ -9,18 +9,20 @@ use bgp_paths::ListOf;
 use ip_prefix::{Addr, Family, V4_OCTETS};
 use mrt_events::Peer;
 
-/// The number of slots that peers are spread over. With one more peer, two peers share a slot, and
-/// the route of each overwrites the other's.
+/// The number of slots of the cache of parsed routes
+/// ([`RouteCache`](crate::route_cache::RouteCache)) that peers are spread over. With one more peer,
+/// two peers share a slot, and the route of each overwrites the other's.
 pub(crate) const PEER_SLOTS: usize = 256;
 
-/// The multiplier of the hash of a peer: the odd number nearest to 2^32 divided by the golden
-/// ratio.
+/// The multiplier of the multiplicative hash of a peer: the odd number nearest to 2^32 divided by
+/// the golden ratio, which spreads similar peers.
 const MULTIPLIER: u32 = 0x9E37_79B9;
 
-/// The number of low bits of the product that are no part of the hash of a peer.
+/// The number of low bits of the 32-bit product that are no part of the hash of a peer, which has 8
+/// bits.
 const LOWEST_BITS: u32 = 24;
 
-/// Returns a peer with address 0.0.0.0 and AS number 0, which a parser overwrites.
+/// Returns a peer with address 0.0.0.0 and AS number 0, for a parser to overwrite.
 #[inline]
 pub(crate) fn blank_peer() -> Peer {
     Peer {
@@ -29,7 +31,7 @@ pub(crate) fn blank_peer() -> Peer {
     }
 }
 
-/// Returns the last four octets of `addr` as a big-endian number.
+/// Returns the last four octets of `addr`, all of an IPv4 address, as a big-endian number.
 #[inline]
 fn last_octets(addr: &Addr) -> u32 {
     match addr.family() {
@@ -48,8 +50,9 @@ fn last_octets(addr: &Addr) -> u32 {
     }
 }
 
-/// Returns a hash of the last four octets of the peer's address and of its AS number: the index of
-/// its slot. Several peers may have one.
+/// Returns a hash of the last four octets of the peer's address and of its AS number, below
+/// [`PEER_SLOTS`]: the index of the slot of the cache in which its last route is. Several peers may
+/// have the same hash.
 #[inline]
 pub(crate) fn peer_hash(peer: &Peer) -> usize
     ensures { result < PEER_SLOTS }
@@ -59,5 +62,6 @@ pub(crate) fn peer_hash(peer: &Peer) -> usize
     (first.wrapping_mul(MULTIPLIER) >> LOWEST_BITS) as usize
 }
 
-/// The peers of a peer index table, in the order of their peer indexes.
+/// The peers of a peer index table (RFC 6396, section 4.3.1). The position of a peer, counted from
+/// 0, is its peer index.
 pub(crate) type Peers = ListOf<Peer>;

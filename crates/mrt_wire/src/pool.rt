@@ -1,4 +1,4 @@
-//! The memory that one record after the other is read into, so that reading mostly allocates
+//! The memory that one record after the other is parsed into, so that reading mostly allocates
 //! nothing, and the check that what is kept for routes of tables is bounded. A
 //! [`Source`](crate::Source) has one [`Pool`] and passes it to the parser of each record. Read
 //! [`Pool`] first.
@@ -13,42 +13,46 @@ use mrt_events::Item;
 use std::alloc::Global;
 use std::mem;
 
-/// The largest number of octets of memory that is kept for routes of tables, if no record needs
-/// more than `MOST_ROOM`. The crate isn't built with constants whose sum exceeds it.
+/// The largest number of octets of memory that is kept between records for routes of tables, if no
+/// record needs more than `MOST_ROOM`, the bound on the counted routes of a pool. The build fails
+/// if the sum of the parts exceeds it.
 const MOST_OCTETS: usize = 1100 * 1024;
 
-/// The largest number of octets of memory that the slots of the route cache take.
+/// The largest number of octets of memory that the slots of the route cache take, which keep the
+/// last route of each peer.
 const SLOTS_OCTETS: usize = PEER_SLOTS * LARGEST_SLOT;
 
-/// The largest number of octets of memory that the spare routes of the route cache take.
+/// The largest number of octets of memory that the spare routes of the route cache take, which
+/// replace routes with other owners.
 const SPARES_OCTETS: usize = MOST_SPARES * (LARGEST_SLOT + ELEMENT_OCTETS as usize);
 
-/// The largest number of octets of memory that the pool of routes takes for table entries that
-/// aren't cached.
+/// The largest number of octets of memory that the routes of table entries that aren't cached take.
 const ROUTES_OCTETS: usize = FIRST_ROUTES * (LARGEST_FIRST + ELEMENT_OCTETS as usize)
     + MOST_ROOM as usize;
 
 const _: () = prove!(SLOTS_OCTETS + SPARES_OCTETS + ROUTES_OCTETS <= MOST_OCTETS);
 
-/// The largest capacity of a vector of items that is kept, in items. A larger vector is dropped,
-/// and the next record allocates its own.
+/// The largest capacity of a vector of items (the parts of an event) that is kept for the next
+/// record, in items. A larger vector is dropped, and the next record allocates its own.
 const MOST_ITEMS: usize = 4096;
 
-/// The memory that records are read into, one after the other.
+/// The memory that records are parsed into, one after the other: routes, and the vectors of parts
+/// of messages and of events. Later records reuse it.
 #[derive(Drop)]
 pub(crate) struct Pool {
-    /// The routes of messages.
+    /// The routes of BGP messages.
     pub(crate) routes: RoutePool,
-    /// The routes of table entries.
+    /// The routes of table entries, with the octets that they were parsed from.
     pub(crate) read: RouteCache,
-    /// The parts that the last UPDATE was parsed into.
+    /// The parts that the last UPDATE was parsed into: its prefixes and path attributes.
     pub(crate) parts: UpdateParts,
-    /// A vector for the items of the next record. What it holds is no longer needed.
+    /// A vector for the items (announcements, withdrawals or a state change) of the next event.
+    /// What it holds is no longer needed.
     items: Vec<Item>,
 }
 
 impl Pool {
-    /// Returns a pool that keeps nothing, without allocating memory.
+    /// Returns a pool that keeps no memory yet, without allocating any.
     pub(crate) fn new(alloc: Global) -> Pool {
         Pool {
             routes: RoutePool::new(alloc),
@@ -58,16 +62,17 @@ impl Pool {
         }
     }
 
-    /// Frees the memory that is kept for messages: their routes, their parts and the vector of
-    /// items.
+    /// Frees the memory that is kept for BGP messages, so that a long message doesn't leave the
+    /// program large: their routes, the parts of an UPDATE, and the vector of items. Later messages
+    /// allocate their own.
     pub(crate) fn free_message_memory(&mut self, alloc: Global) {
         self.routes = RoutePool::new(alloc);
         self.parts = UpdateParts::empty(alloc);
         self.items = Vec::new(alloc);
     }
 
-    /// Begins a record of `octets` octets. The routes of the record before may be overwritten if
-    /// nobody else holds them.
+    /// Begins a record whose body has `octets` octets: the routes that earlier records were parsed
+    /// into may be overwritten if nobody else holds them.
     #[inline(always)]
     pub(crate) fn begin_record(&mut self, octets: usize)
         ensures used { (self.new.routes.used ≡ 0) × (self.new.read.routes.used ≡ 0) }
@@ -76,7 +81,8 @@ impl Pool {
         self.read.routes.begin_record(octets);
     }
 
-    /// Returns the vector for items, emptied, and keeps none until [`Pool::keep_items`] is called.
+    /// Returns the kept vector for the items of an event, empty but with its capacity. Later calls
+    /// return a vector without capacity until [`Pool::keep_items`] is called.
     #[inline(always)]
     pub(crate) fn take_items(&mut self, alloc: Global) -> Vec<Item>
         ensures items { result.items ≡ [] }
@@ -87,8 +93,9 @@ impl Pool {
         items
     }
 
-    /// Keeps the memory of a vector of items for the next record, if its capacity is at most
-    /// [`MOST_ITEMS`] and exceeds the capacity of the vector that is kept.
+    /// Keeps the memory of `items`, a vector of an event that is no longer needed, for the next
+    /// event, if its capacity is at most [`MOST_ITEMS`] and exceeds the capacity of the vector that
+    /// is kept. Otherwise drops it.
     #[inline(always)]
     pub(crate) fn keep_items(&mut self, items: Vec<Item>) {
         let most = items.capacity();

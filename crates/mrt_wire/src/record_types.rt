@@ -9,47 +9,55 @@ use bgp_wire::AsWidth;
 use ip_prefix::Family;
 use mrt_frames::RecordTypes;
 
-/// The MRT type of TABLE_DUMP records (RFC 6396, section 4.2). Their subtypes are address family
-/// numbers.
+/// The MRT type of TABLE_DUMP records, each of one table entry (RFC 6396, section 4.2). Their
+/// subtypes are address family numbers.
 const TABLE_DUMP: u16 = 12;
 
-/// The TABLE_DUMP subtype of an IPv4 prefix.
+/// The subtype of TABLE_DUMP records of an IPv4 prefix (RFC 6396, section 4.2).
 const AFI_IPV4: u16 = 1;
 
-/// The TABLE_DUMP subtype of an IPv6 prefix.
+/// The subtype of TABLE_DUMP records of an IPv6 prefix (RFC 6396, section 4.2).
 const AFI_IPV6: u16 = 2;
 
 /// The MRT type of TABLE_DUMP_V2 records (RFC 6396, section 4.3).
 const TABLE_DUMP_V2: u16 = 13;
 
-/// The TABLE_DUMP_V2 subtype of the peers of a table (RFC 6396, section 4.3.1).
+/// The subtype of TABLE_DUMP_V2 records that list the peers of a table (RFC 6396, section 4.3.1).
 const PEER_INDEX_TABLE: u16 = 1;
 
-/// The TABLE_DUMP_V2 subtype of the entries for an IPv4 prefix (RFC 6396, section 4.3.2).
+/// The subtype of TABLE_DUMP_V2 records of all entries of a table for one IPv4 prefix (RFC 6396,
+/// section 4.3.2).
 const RIB_IPV4_UNICAST: u16 = 2;
 
-/// The TABLE_DUMP_V2 subtype of the entries for an IPv6 prefix (RFC 6396, section 4.3.2).
+/// The subtype of TABLE_DUMP_V2 records of all entries of a table for one IPv6 prefix (RFC 6396,
+/// section 4.3.2).
 const RIB_IPV6_UNICAST: u16 = 4;
 
-/// The MRT type of BGP4MP records (RFC 6396, section 4.4).
+/// The MRT type of BGP4MP records, of state changes and messages of BGP sessions (RFC 6396, section
+/// 4.4).
 const BGP4MP: u16 = 16;
 
-/// The MRT type of BGP4MP records whose bodies begin with microseconds (RFC 6396, section 3).
+/// The MRT type of records that are as BGP4MP records, but whose bodies begin with microseconds
+/// (RFC 6396, section 3).
 const BGP4MP_ET: u16 = 17;
 
-/// The BGP4MP subtype of a state change, with AS numbers of two octets (RFC 6396, section 4.4.1).
+/// The subtype of BGP4MP records of a state change of a session, with AS numbers of two octets (RFC
+/// 6396, section 4.4.1).
 const BGP4MP_STATE_CHANGE: u16 = 0;
 
-/// The BGP4MP subtype of a message, with AS numbers of two octets (RFC 6396, section 4.4.2).
+/// The subtype of BGP4MP records of a BGP message, with AS numbers of two octets (RFC 6396, section
+/// 4.4.2).
 const BGP4MP_MESSAGE: u16 = 1;
 
-/// The BGP4MP subtype of a message, with AS numbers of four octets (RFC 6396, section 4.4.3).
+/// The subtype of BGP4MP records of a BGP message, with AS numbers of four octets (RFC 6396,
+/// section 4.4.3).
 const BGP4MP_MESSAGE_AS4: u16 = 4;
 
-/// The BGP4MP subtype of a state change, with AS numbers of four octets (RFC 6396, section 4.4.4).
+/// The subtype of BGP4MP records of a state change of a session, with AS numbers of four octets
+/// (RFC 6396, section 4.4.4).
 const BGP4MP_STATE_CHANGE_AS4: u16 = 5;
 
-/// The kind of a BGP4MP record, by what it reports of a session.
+/// What a BGP4MP record reports of a BGP session: a state change or a message.
 #[derive(Clone, Copy)]
 pub(crate) enum SessionKind {
     /// A state change (RFC 6396, sections 4.4.1 and 4.4.4).
@@ -58,18 +66,20 @@ pub(crate) enum SessionKind {
     Message,
 }
 
-/// The format of the body of a BGP4MP or BGP4MP_ET record.
+/// The format of the body of a BGP4MP or BGP4MP_ET record, which its type and subtype determine.
 #[derive(Clone, Copy)]
 pub(crate) struct SessionFormat {
-    /// The kind of the record.
+    /// What the record reports: a state change or a BGP message.
     pub(crate) kind: SessionKind,
-    /// The width of AS numbers, both in the session fields and in the paths of an UPDATE.
+    /// The width of AS numbers, two or four octets, both in the session fields and in the paths of
+    /// an UPDATE.
     pub(crate) width: AsWidth,
     /// Whether the body begins with microseconds, as those of BGP4MP_ET do (RFC 6396, section 3).
     pub(crate) timed: bool,
 }
 
-/// The format of the body of a supported record.
+/// The format of the body of a record of a supported type and subtype, by which its parser is
+/// selected.
 #[derive(Clone, Copy)]
 pub(crate) enum BodyFormat {
     /// One peer and its route to a prefix of this family: TABLE_DUMP (RFC 6396, section 4.2).
@@ -83,7 +93,8 @@ pub(crate) enum BodyFormat {
     Session(SessionFormat),
 }
 
-/// The supported types and subtypes of records, each with its [`BodyFormat`].
+/// Tells the reader of headers which MRT types and subtypes are supported, each with the
+/// [`BodyFormat`] of its bodies. Records of others are skipped.
 pub(crate) struct SupportedTypes;
 
 impl RecordTypes for SupportedTypes {
@@ -105,9 +116,9 @@ impl RecordTypes for SupportedTypes {
     }
 }
 
-/// Returns the format of the body of a BGP4MP record of this subtype, or `None` if the subtype
-/// isn't supported. `timed` tells whether the body begins with microseconds, as those of BGP4MP_ET
-/// do.
+/// Returns the format of the body of a BGP4MP or BGP4MP_ET record of the subtype `subtype`, or
+/// `None` if the subtype isn't supported. `timed` is `true` for BGP4MP_ET, whose bodies begin with
+/// microseconds (RFC 6396, section 3).
 fn session_format(timed: bool, subtype: u16) -> Option<BodyFormat>
     ensures { result ≡ session_format timed subtype }
 {

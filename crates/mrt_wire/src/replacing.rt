@@ -1,4 +1,4 @@
-//! Moving or copying the attributes of a message into a route whose memory is reused.
+//! Moving or copying the path attributes of a message into a route whose memory is reused.
 //! `route_pool.rt` calls [`assign_attrs`]; read that first.
 
 ghost use Rattle.std.specs.Prelude.{◌≡◌, true, OnOk};
@@ -7,8 +7,9 @@ use bgp_wire::{Attrs, clone_attrs_from};
 use std::alloc::{AllocError, Global};
 use std::mem;
 
-/// Sets `attrs` to the value of `others`. `others` gets the path and the communities that `attrs`
-/// had, so that their memory is reused; its other fields are unchanged.
+/// Sets `attrs` to the value of `others`. `others` gets the AS path and the communities that
+/// `attrs` had, so that the next message is parsed into their memory; its other fields are
+/// unchanged.
 #[inline(always)]
 fn move_attrs(attrs: &mut Attrs, others: &mut Attrs)
     ensures { attrs.new ≡ others.old }
@@ -25,9 +26,9 @@ fn move_attrs(attrs: &mut Attrs, others: &mut Attrs)
     attrs.atomic = others.atomic;
 }
 
-/// Sets `attrs` to the value of `others`, which is copied and left as it is if `keep_attrs`, and is
-/// unspecified afterwards if not. On error, which means that memory allocation fails, `attrs` is
-/// unspecified.
+/// Sets `attrs` to the value of `others`. If `keep_attrs` is `true`, `others` is copied and left as
+/// it is; otherwise it is moved, and holds unspecified attributes afterwards. Fails if memory
+/// allocation for the copy fails; `attrs` is unspecified then.
 #[inline(always)]
 pub(crate) fn assign_attrs(
     alloc: Global,

@@ -24,44 +24,51 @@ use std::rc::Rc;
 const SEQUENCE_SIZE: usize = 4;
 
 /// The size of the smallest RIB entry, in octets: a Peer Index, an Originated Time and an Attribute
-/// Length of 0 (RFC 6396, section 4.3.4).
+/// Length of 0 (RFC 6396, section 4.3.4). It bounds the number of entries that memory is reserved
+/// for.
 const SMALLEST_ENTRY: usize = 8;
 
-/// A parsed RIB entry (RFC 6396, section 4.3.4).
+/// A parsed entry of a RIB record: the route of one peer to the record's prefix (RFC 6396, section
+/// 4.3.4).
 #[derive(Drop)]
 pub(crate) struct ParsedEntry {
-    /// The route, whose time is the one that the stamp of the [`TableContext`] selects.
+    /// The route. Its time is the record's or the Originated Time, as
+    /// [`TableContext::stamp`](TableContext) selects.
     pub(crate) route: Rc<Route>,
-    /// The Originated Time, in seconds since 1970.
+    /// The Originated Time (when the route was received), in seconds since 1970.
     pub(crate) originated: u32,
-    /// The peer index.
+    /// The peer index: the position of the peer in the peer index table, counted from 0.
     pub(crate) index: u16,
 }
 
-/// The context of the entries of a RIB record: what their items depend on besides their octets.
+/// What the items of a RIB record's entries depend on besides the octets of the entries.
 #[derive(Clone, Copy)]
 pub(crate) struct TableContext<'a> {
-    /// The peers of the peer index table, in the order of their peer indexes.
+    /// The peers of the last accepted peer index table, in the order of their peer indexes; empty
+    /// if there is no table.
     pub(crate) peers: &'a [Peer],
-    /// The family of the prefix of the record.
+    /// The address family of the prefix of the record.
     pub(crate) family: Family,
     /// The timestamp of the record, in seconds since 1970.
     pub(crate) seconds: u32,
-    /// The choice of the time that the routes get.
+    /// Which time the routes get: the timestamp of the record, or the Originated Time of the entry.
     pub(crate) stamp: Stamp,
 }
 
-/// The items of the entries of a RIB record.
+/// What the entries of a RIB record were parsed into: the items of the event, and an entry of an
+/// unknown peer.
 #[derive(Drop)]
 pub(crate) struct EntryItems {
     /// The announcements of the entries whose peer index is in the peer index table.
     pub(crate) items: Vec<Item>,
-    /// The first peer index among the entries that isn't in the peer index table.
+    /// The first peer index among the entries that isn't in the peer index table, or `None` if all
+    /// are.
     pub(crate) unknown: Option<u16>,
 }
 
-/// Returns the time of the route of a table entry, in seconds since 1970: `seconds`, the timestamp
-/// of the record, or `originated`, the Originated Time of the entry, as `stamp` chooses.
+/// Returns the time that the route of a table entry gets, in seconds since 1970: `seconds`, the
+/// timestamp of the record, if `stamp` is `Dump`, or `originated`, the Originated Time of the
+/// entry, if it is `Change`.
 #[inline]
 pub(crate) fn route_time(stamp: Stamp, seconds: u32, originated: u32) -> u32
     ensures { result ≡ entry_time stamp seconds originated }
@@ -72,20 +79,21 @@ pub(crate) fn route_time(stamp: Stamp, seconds: u32, originated: u32) -> u32
     }
 }
 
-/// The fields of a RIB entry, and the octets after the entry.
+/// The fields of a RIB entry, and `rest`, the octets after the entry (RFC 6396, section 4.3.4).
 #[derive(Clone, Copy)]
 struct EntryFields<'a> {
-    /// The path attributes, unparsed.
+    /// The path attributes, unparsed, without their length.
     attributes: &'a [u8],
     rest: &'a [u8],
     /// The Originated Time, in seconds since 1970.
     time: u32,
-    /// The peer index.
+    /// The peer index: the position of the peer in the peer index table, counted from 0.
     index: u16,
 }
 
 /// Splits the RIB entry at the start of `octets` into its fields, without parsing the attributes
-/// (RFC 6396, section 4.3.4). Returns `None` if `octets` is shorter than the entry.
+/// (RFC 6396, section 4.3.4). The octets after the entry are in `rest`. Returns `None` if `octets`
+/// is shorter than the entry.
 #[inline]
 fn split_entry_fields(octets: &[u8]) -> Option<EntryFields<'_>>
     ensures some { IfSome result (λ f.
@@ -104,8 +112,8 @@ fn split_entry_fields(octets: &[u8]) -> Option<EntryFields<'_>>
 }
 
 /// Parses the RIB entry at the start of `octets`, and returns it with the octets after it (RFC
-/// 6396, section 4.3.4). Fails with `Malformed` if no well-formed entry is there, or with `Memory`
-/// if memory allocation fails.
+/// 6396, section 4.3.4). The route reuses memory of earlier records in `pool`. Fails with
+/// `Malformed` if no well-formed entry is there, or with `Memory` if memory allocation fails.
 #[inline]
 fn read_entry<'a>(
     alloc: Global,
@@ -136,7 +144,8 @@ fn read_entry<'a>(
     Ok((entry, framed.rest))
 }
 
-/// Returns the peer whose peer index is `number`, or `None` if there is no such peer.
+/// Returns the peer at the position `number` of `peers`, counted from 0: that with this peer index,
+/// or `None` if there is no such peer.
 #[inline]
 fn peer_by_index(peers: &[Peer], number: u16) -> Option<Peer>
     ensures { result ≡ slice_get peers.now number }
@@ -145,9 +154,10 @@ fn peer_by_index(peers: &[Peer], number: u16) -> Option<Peer>
 }
 
 impl EntryItems {
-    /// Appends the announcement of `prefix` with the route of `entry`. If the peer index of `entry`
-    /// is unknown, appends nothing and sets `unknown` to it, unless `unknown` is set. On error,
-    /// which means that memory allocation fails, `self` is unspecified.
+    /// Appends the announcement of `prefix` with the route of `entry` by its peer. If the peer
+    /// index of `entry` isn't in the table of `context`, appends nothing and sets `unknown` to it,
+    /// unless `unknown` is set already. Fails if memory allocation fails; `self` is unspecified
+    /// then.
     fn add(
         &mut self,
         context: TableContext<'_>,
@@ -170,9 +180,10 @@ impl EntryItems {
     }
 }
 
-/// Parses a 16-bit count and as many RIB entries at the start of `octets` into announcements of
-/// `prefix`, and ignores the octets after them. Fails with `Malformed` if an entry is missing or
-/// malformed, or with `Memory` if memory allocation fails.
+/// Parses a big-endian 16-bit count and as many RIB entries at the start of `octets` into
+/// announcements of `prefix`, and ignores the octets after them. The routes reuse memory of earlier
+/// records in `pool`. Fails with `Malformed` if an entry is missing or malformed, or with `Memory`
+/// if memory allocation fails.
 fn read_entries(
     alloc: Global,
     pool: &mut Pool,
@@ -201,9 +212,10 @@ fn read_entries(
     Ok(parsed)
 }
 
-/// Parses the body of a RIB_IPV4_UNICAST or RIB_IPV6_UNICAST record into announcements (RFC 6396,
-/// section 4.3.2). An unknown peer index is no error here. Fails with `Malformed` if the body has
-/// another form, or with `Memory` if memory allocation fails.
+/// Parses the body of a RIB_IPV4_UNICAST or RIB_IPV6_UNICAST record into announcements of its
+/// prefix (RFC 6396, section 4.3.2). The routes reuse memory of earlier records in `pool`. An entry
+/// of an unknown peer makes no announcement and is no error here: the result tells it. Fails with
+/// `Malformed` if the body has another form, or with `Memory` if memory allocation fails.
 pub(crate) fn read_rib(
     alloc: Global,
     pool: &mut Pool,

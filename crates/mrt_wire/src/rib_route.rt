@@ -11,32 +11,33 @@ use mrt_events::Route;
 use std::alloc::{AllocError, Global};
 use std::rc::Rc;
 
-/// The path attributes of a table entry, unparsed.
+/// The path attributes of a table entry, unparsed, with what their parser has to know.
 #[derive(Clone, Copy)]
 pub(crate) struct RawAttrs<'a> {
-    /// The octets of the attributes (RFC 4271, section 4.3).
+    /// The octets of the path attributes, without their total length (RFC 4271, section 4.3).
     pub(crate) octets: &'a [u8],
-    /// The family of the prefix of the entry.
+    /// The address family of the prefix of the entry, by which the attributes are parsed.
     pub(crate) family: Family,
     /// The width of AS numbers: two octets in TABLE_DUMP, and four in TABLE_DUMP_V2.
     pub(crate) width: AsWidth,
 }
 
-/// Returns a route without attributes and with time 0.
+/// Returns a route without attributes and with time 0, for a parser to fill. Allocates no memory.
 #[inline(always)]
 pub(crate) fn blank_route(alloc: Global) -> Route {
     let attrs = Attrs::empty(alloc);
     Route { attrs, time: 0 }
 }
 
-/// Allocates a shared route without attributes and with time 0. Fails if memory allocation fails.
+/// Allocates a shared route (an `Rc`) without attributes and with time 0, for a parser to fill.
+/// Fails if memory allocation fails.
 pub(crate) fn new_route(alloc: Global) -> Result<Rc<Route>, AllocError> {
     Ok(Rc::new(alloc, blank_route(alloc))?)
 }
 
-/// Parses the path attributes of a table entry into `route`, and sets its time, in seconds since
-/// 1970. Fails with `Malformed` if the attributes are malformed, or with `Memory` if memory
-/// allocation fails; `route` is unspecified then.
+/// Parses `raw`, the path attributes of a table entry, into `route` in place of what it holds, and
+/// sets its time to `time`, in seconds since 1970. Fails with `Malformed` if the attributes are
+/// malformed, or with `Memory` if memory allocation fails; `route` is unspecified then.
 #[inline(always)]
 pub(crate) fn fill_rib_route(
     route: &mut Route,
@@ -57,9 +58,9 @@ pub(crate) fn fill_rib_route(
     Ok(())
 }
 
-/// Parses the path attributes of a table entry into a new route with this time, in seconds since
-/// 1970. Fails with `Malformed` if the attributes are malformed, or with `Memory` if memory
-/// allocation fails.
+/// Parses `raw`, the path attributes of a table entry, into a new route with the time `time`, in
+/// seconds since 1970. Fails with `Malformed` if the attributes are malformed, or with `Memory` if
+/// memory allocation fails.
 #[inline(always)]
 fn read_rib_route(alloc: Global, raw: RawAttrs<'_>, time: u32) -> Result<Rc<Route>, WireFault>
     ensures read { IfOk result (λ route. IsRouteFrom raw.entry time route.value) }
@@ -70,10 +71,11 @@ fn read_rib_route(alloc: Global, raw: RawAttrs<'_>, time: u32) -> Result<Rc<Rout
     Ok(shared)
 }
 
-/// Parses the path attributes of a table entry into `shared`, and sets its time, in seconds since
-/// 1970. If the route has another owner, `shared` becomes a new route instead. Fails as
-/// [`fill_rib_route`] does; a route without another owner is unspecified then, and `shared` is
-/// unchanged if its route has one.
+/// Parses `raw`, the path attributes of a table entry, into the route of `shared`, with the time
+/// `time`, in seconds since 1970. If the route has another owner, `shared` becomes a new route
+/// instead. Fails with `Malformed` if the attributes are malformed, or with `Memory` if memory
+/// allocation fails; then `shared` is unchanged if its route has another owner, and its route is
+/// unspecified if not.
 #[inline(always)]
 pub(crate) fn fill_or_replace(
     shared: &mut Rc<Route>,

@@ -1,7 +1,7 @@
-//! A cache of the routes that table entries were parsed into, with the octets that each was parsed
-//! from. Peers mostly send the same attributes in record after record, which are parsed once.
-//! `rib.rt` and `table_dump.rt` call [`RouteCache::get_or_parse`] for each entry; read that first,
-//! then [`CachedRoute`].
+//! A cache of the routes that table entries were parsed into, each with the octets that it was
+//! parsed from. Peers mostly send the same attributes in record after record, which so are parsed
+//! once. `rib.rt` and `table_dump.rt` call [`RouteCache::get_or_parse`] for each entry; read that
+//! first, then [`CachedRoute`].
 
 ghost use Rattle.std.specs.Prelude.{◌≡◌, ◌≤◌, ◌<◌, IsTrue, IfOk, IfErr, IfSome, OnOk, vec_len};
 ghost use Rattle.bgp_wire.specs.Content.{SpellsRibAttrs};
@@ -20,39 +20,42 @@ use std::marker::Model;
 use std::mem;
 use std::rc::Rc;
 
-/// The size of the value of ORIGIN, in octets (RFC 4271, section 4.3).
+/// The size of the value of the ORIGIN attribute, in octets, which is its length octet (RFC 4271,
+/// section 4.3).
 const ORIGIN_SIZE: u8 = 1;
 
-/// The largest size of the attributes of a cached route, in octets. Attributes of one octet more
-/// are parsed for each entry, into a route of the pool.
+/// The largest size of the path attributes of a cached route, in octets. Attributes of one octet
+/// more are parsed for each entry, into a route whose memory later records reuse.
 const LONGEST_CACHED: usize = 192;
 
-/// The largest number of path segments of a cached route. A slot whose route has one segment more
-/// is emptied, so that the next entry there is parsed into new memory.
+/// The largest number of path segments of a cached route. A slot of the cache whose route has one
+/// segment more is emptied, so that the next entry there is parsed into new memory.
 const MOST_SEGMENTS: usize = 2;
 
-/// The largest number of octets of memory that a slot takes, with all capacity of its route. It was
-/// computed for the path that takes most, one of AS numbers of two octets. Nothing compares it at
-/// run time; the bound `MOST_OCTETS` of `pool.rt` is proved with it.
+/// The largest number of octets of memory that a slot of the cache takes, with all capacity of its
+/// route. It was computed for the path that takes most, one of AS numbers of two octets. Nothing
+/// compares it at run time; the bound `MOST_OCTETS` of `pool.rt` is proved with it.
 pub(crate) const LARGEST_SLOT: usize = 1344;
 
-/// The largest number of spare routes. A record with more entries whose routes have other owners
-/// allocates memory for the further ones.
+/// The largest number of spare routes, which replace cached routes that have other owners. A record
+/// with more entries whose routes have other owners allocates memory for the further ones.
 pub(crate) const MOST_SPARES: usize = 64;
 
-/// A ring of routes that are swapped for routes with other owners. By the time that a route's turn
-/// comes again, its other owners have mostly dropped it.
+/// A ring of routes that replace cached routes which have other owners (such as an event), since
+/// those can't be overwritten. By the time that a route is taken out of the ring again, its other
+/// owners have mostly dropped it.
 #[derive(Drop)]
 struct SpareRoutes {
+    /// The routes of the ring, at most [`MOST_SPARES`].
     routes: Vec<Rc<Route>>,
-    /// The index of the route that is swapped next.
+    /// The index of the route that is swapped out next.
     next: usize,
     ghost few: { vec_len routes ≤ MOST_SPARES },
     ghost within: { next < MOST_SPARES },
 }
 
 impl SpareRoutes {
-    /// Returns an empty ring, without allocating memory.
+    /// Returns a ring without routes, without allocating memory.
     fn new(alloc: Global) -> SpareRoutes {
         SpareRoutes {
             routes: Vec::new(alloc),
@@ -60,9 +63,10 @@ impl SpareRoutes {
         }
     }
 
-    /// Swaps `route` for the next route of the ring, which may have other owners too, or for a
-    /// blank one as long as the ring has fewer than [`MOST_SPARES`] routes. On error, which means
-    /// that memory allocation fails, `route` is unspecified.
+    /// Puts the route of `route` into the ring, and sets `route` to the oldest one there, which may
+    /// have other owners too, or to a new one without attributes as long as the ring has fewer than
+    /// [`MOST_SPARES`] routes. Fails if memory allocation fails; `route` holds an unspecified route
+    /// then.
     #[inline(always)]
     fn swap_route(&mut self, alloc: Global, route: &mut Rc<Route>) -> Result<(), AllocError> {
         match self.routes.get_mut(self.next) {
@@ -73,8 +77,9 @@ impl SpareRoutes {
         Ok(())
     }
 
-    /// Moves `route` to the end of the ring, and sets `route` to a new one without attributes. On
-    /// error, which means that memory allocation fails, `route` is unspecified.
+    /// Moves `route` to the end of the ring, and sets `route` to a new one without attributes.
+    /// Requires that the ring has fewer than [`MOST_SPARES`] routes. Fails if memory allocation
+    /// fails; `route` holds an unspecified route then.
     #[inline(never)]
     fn add_route(&mut self, alloc: Global, route: &mut Rc<Route>) -> Result<(), AllocError>
         requires { vec_len self.old.routes < MOST_SPARES }
@@ -86,19 +91,22 @@ impl SpareRoutes {
     }
 }
 
-/// A route of a table entry, with the octets that its attributes were parsed from. In contracts it
-/// is the route.
+/// A route of a table entry, with the octets that its attributes were parsed from, so that the next
+/// entry with these octets needn't be parsed. In contracts, its value is the route; the rest
+/// doesn't show.
 #[derive(Drop)]
 struct CachedRoute {
+    /// The route, which events may share.
     route: Rc<Route>,
-    /// The path attributes, unparsed (RFC 4271, section 4.3).
+    /// The octets that the path attributes of `route` were parsed from, without their total length
+    /// (RFC 4271, section 4.3).
     octets: Vec<u8>,
-    /// The family of the prefix that `octets` were parsed for.
+    /// The address family of the prefix of the entry that `octets` were parsed for.
     family: Family,
-    /// The width of the AS numbers in `octets`.
+    /// The width of the AS numbers in `octets`, two or four octets.
     width: AsWidth,
-    /// Whether `route` was parsed from `octets`. It is `false` before the first entry, and after one that
-    /// couldn't be parsed.
+    /// Whether `route` was parsed from `octets`: `false` before the first entry, and after an entry
+    /// that couldn't be parsed.
     known: bool,
 }
 
@@ -116,8 +124,8 @@ impl Model for CachedRoute {
 }
 
 impl CachedRoute {
-    /// Returns a route without attributes, which was parsed from no octets. Fails if memory
-    /// allocation fails.
+    /// Returns a route without attributes, which was parsed from no octets, so that the first entry
+    /// is parsed. Fails if memory allocation fails.
     fn new(alloc: Global) -> Result<CachedRoute, AllocError> {
         let route = new_route(alloc)?;
         Ok(CachedRoute {
@@ -129,8 +137,9 @@ impl CachedRoute {
         })
     }
 
-    /// Returns `true` if the attributes of the route were parsed from the octets of `raw`, for its
-    /// family and at its width.
+    /// Returns `true` if the route has the attributes of `raw`: if it was parsed from equal octets,
+    /// for a prefix of that family and with AS numbers of that width. Returns `false` if `raw` has
+    /// to be parsed.
     #[inline(always)]
     fn was_read_from(&self, raw: RawAttrs<'_>) -> bool
         ensures { IsTrue result → SpellsRibAttrs raw.entry.family raw.entry.width
@@ -142,8 +151,9 @@ impl CachedRoute {
             && self.octets.as_slice() == raw.octets
     }
 
-    /// Sets the time of the route, in seconds since 1970, and returns `true`. If the route has
-    /// another time and another owner, it is left as it is, and `false` is returned.
+    /// Sets the time of the route to `time`, in seconds since 1970, and returns `true`. If the
+    /// route has another time, and has another owner, for which it can't be changed, returns
+    /// `false` and leaves it as it is.
     #[inline(always)]
     fn try_set_time(&mut self, time: u32) -> bool
         ensures time { IsTrue result → self.new.time ≡ time }
@@ -161,10 +171,11 @@ impl CachedRoute {
         }
     }
 
-    /// Parses attributes into the route, sets its time, in seconds since 1970, and returns it. If
-    /// it has other owners, a route of `spares` or a new one replaces it first. Fails with
-    /// `Malformed` if the attributes are malformed, or with `Memory` if memory allocation fails;
-    /// the route isn't reused then until it was parsed anew.
+    /// Parses `raw`, the path attributes of a table entry, into the route, with the time `time`, in
+    /// seconds since 1970, and returns it. If the route has other owners, one of `spares` or a new
+    /// one takes its place first. Fails with `Malformed` if the attributes are malformed, or with
+    /// `Memory` if memory allocation fails; then [`CachedRoute::was_read_from`] is `false` until
+    /// other attributes are parsed.
     #[inline(always)]
     fn read(
         &mut self,
@@ -190,9 +201,10 @@ impl CachedRoute {
     }
 }
 
-/// Returns `true` if path attributes begin as routers mostly send them, in the order of their types
-/// (RFC 4271, section 5): with ORIGIN, and then an AS_PATH of one segment, whose AS numbers have
-/// this width. It is `false` for an empty AS_PATH, which has no segment.
+/// Returns `true` if the path attributes `octets` begin as routers mostly send them, in the order
+/// of their types (RFC 4271, section 5): with ORIGIN, and then an AS_PATH of one segment, as far as
+/// its length tells, with AS numbers of `width`. Such a route takes bounded memory and is cached.
+/// Returns `false` otherwise, also for an empty AS_PATH.
 #[inline(always)]
 fn has_usual_layout(octets: &[u8], width: AsWidth) -> bool {
     let (size, count) = match octets {
@@ -214,8 +226,10 @@ fn has_usual_layout(octets: &[u8], width: AsWidth) -> bool {
     usize::from(size) == usize::from(count) * width.octets() + 2
 }
 
-/// Returns `true` if path attributes begin with MP_REACH_NLRI (RFC 7606, section 5.1), with its
-/// length in one octet, and then as [`has_usual_layout`] tests it.
+/// Returns `true` if the path attributes `octets` begin with MP_REACH_NLRI, with its length in one
+/// octet, which some routers send first (RFC 7606, section 5.1), then ORIGIN, and then an AS_PATH
+/// of exactly one segment, with AS numbers of `width` ([`has_usual_layout`]). Such a route is
+/// cached too. Returns `false` otherwise.
 #[inline(never)]
 fn has_usual_layout_after_mp_reach(octets: &[u8], width: AsWidth) -> bool {
     match octets {
@@ -226,14 +240,16 @@ fn has_usual_layout_after_mp_reach(octets: &[u8], width: AsWidth) -> bool {
     }
 }
 
-/// The cached routes of table entries, each in a slot. A peer has one slot, by its peer index or
-/// its hash, which it may share with other peers.
+/// The last route of each peer of a table, so that the same attributes needn't be parsed again.
+/// Each route is in a slot, which the peer index of the peer or its hash selects; several peers may
+/// share a slot.
 #[derive(Drop)]
 pub(crate) struct RouteCache {
-    /// The slots, up to the last that was needed. An empty one is `None`.
+    /// The slots, up to the last that was needed. A slot without a route is `None`.
     slots: Vec<Option<CachedRoute>>,
+    /// Routes that take the place of cached routes which have other owners.
     spares: SpareRoutes,
-    /// The routes of entries that aren't cached.
+    /// The routes of entries that aren't cached, whose memory later records reuse.
     pub(crate) routes: RoutePool,
     ghost bounded: { vec_len slots ≤ PEER_SLOTS },
 }
@@ -248,7 +264,9 @@ impl RouteCache {
         }
     }
 
-    /// Adds empty slots until there is one with index `slot`. Fails if memory allocation fails.
+    /// Adds slots without routes until there is one with the index `slot`, which is required to be
+    /// below [`PEER_SLOTS`]. Fails if memory allocation fails; some of the slots may have been
+    /// added then.
     fn ensure_slot(&mut self, slot: usize) -> Result<(), AllocError>
         requires { slot < PEER_SLOTS }
         ensures { OnOk result (slot < vec_len self.new.slots) }
@@ -259,8 +277,8 @@ impl RouteCache {
         Ok(())
     }
 
-    /// Empties a slot, given by its index. Frees the memory of its route unless that has other
-    /// owners.
+    /// Removes the route of the slot with the index `slot`, which is required to be there. Frees
+    /// the memory of the route unless that has other owners.
     #[inline(never)]
     fn clear(&mut self, slot: usize)
         requires { slot < vec_len self.old.slots }
@@ -268,10 +286,11 @@ impl RouteCache {
         self.slots[slot] = None;
     }
 
-    /// Parses attributes into the slot with index `slot`, and returns their route, with this time,
-    /// in seconds since 1970. Fails with `Malformed` if the attributes are malformed, or with
-    /// `Memory` if memory allocation fails; the slot's route isn't reused then until it was parsed
-    /// anew.
+    /// Parses `raw`, the path attributes of a table entry, into the slot with the index `slot`,
+    /// which is required to be there, and returns the route, with the time `time`, in seconds since
+    /// 1970. Fails with `Malformed` if the attributes are malformed, or with `Memory` if memory
+    /// allocation fails; the slot's route isn't returned for other entries then until attributes
+    /// are parsed into it.
     #[inline(always)]
     fn read(
         &mut self,
@@ -295,11 +314,12 @@ impl RouteCache {
         }
     }
 
-    /// Returns a route with these attributes and this time, in seconds since 1970. `number` is the
-    /// peer index of the entry or a hash of its peer, which selects the slot. If the slot's route
-    /// was parsed from the same octets, nothing is parsed. A route that may take more memory than a
-    /// slot may is parsed into the pool. Fails with `Malformed` if the attributes are malformed, or
-    /// with `Memory` if memory allocation fails.
+    /// Returns a route with the path attributes `raw` of a table entry and the time `time`, in
+    /// seconds since 1970. `number`, modulo [`PEER_SLOTS`], selects the slot: it is the entry's
+    /// peer index, or a hash of its peer. The slot's route is returned if it was parsed from equal
+    /// octets; otherwise `raw` is parsed into it, or outside the cache if it is longer than
+    /// [`LONGEST_CACHED`] or may make a large route. Fails with `Malformed` if the attributes are
+    /// malformed, or with `Memory` if memory allocation fails.
     #[inline(always)]
     pub(crate) fn get_or_parse(
         &mut self,

@@ -1,6 +1,6 @@
-//! A pool of routes that records are read into. A route that nobody else holds any more is
-//! overwritten with one of a later record, so that reading mostly allocates nothing. `update.rt`
-//! calls [`RoutePool::make_route`] for each message, and `route_cache.rt` calls
+//! A pool of routes: routes whose memory later records reuse. A route that nobody else holds any
+//! more is overwritten with one of a later record, so that reading mostly allocates nothing.
+//! `update.rt` calls [`RoutePool::make_route`] for each message, and `route_cache.rt` calls
 //! [`RoutePool::rib_route`] for each table entry that it doesn't cache. Read [`RoutePool`] first.
 
 ghost use Rattle.std.specs.Prelude.{◌≡◌, ◌≤◌, ◌<◌, ◌+◌, ◌-◌, ◌*◌, min, max, true, IfOk, IfErr, vec_len};
@@ -16,82 +16,91 @@ use std::alloc::{AllocError, Global};
 use std::mem;
 use std::rc::Rc;
 
-/// The number of routes of a record, the first ones, that are kept without being counted if their
-/// attributes are short. Each further one is counted.
+/// The number of routes of a record, the first ones, whose memory a pool keeps for later records
+/// without counting their octets, if their attributes are short ([`LONGEST_FIRST`]). Each further
+/// one is counted.
 pub(crate) const FIRST_ROUTES: usize = 4;
 
-/// The largest size, in octets, of the attributes of a route that is kept without being counted. A
-/// route with longer attributes is counted.
+/// The largest size, in octets, of the path attributes of a route whose memory a pool keeps for
+/// later records without counting its octets. A route with longer attributes is counted.
 const LONGEST_FIRST: usize = 1024;
 
-/// The largest number of octets of memory that a route takes that is kept without being counted,
-/// with all its capacity. It was computed for the path that takes most, whose segments have one AS
+/// The largest number of octets of memory, with all its capacity, of a route that a pool keeps
+/// without counting it. It was computed for the path that takes most, whose segments have one AS
 /// number of two octets each. Nothing compares it at run time; the bound `MOST_OCTETS` of `pool.rt`
 /// is proved with it.
 pub(crate) const LARGEST_FIRST: usize = 26 * 1024;
 
-/// The largest number of routes in a pool. A record has at most 65,535 entries, so none needs more;
-/// further entries would all be read into the last route.
+/// The largest number of routes in a pool, whose memory later records reuse. A record has at most
+/// 65,535 entries, so none needs more; further entries would all be parsed into the last route.
 pub(crate) const MOST_ROUTES: usize = 1 << 16;
 
-/// The number of octets of memory that the counted routes may take together, with all their
-/// capacity. A record that needs more keeps what it needs, until enough octets of other records are
-/// read ([`LOWERING_RATE`]). Where the routes would take more than they may, the last ones are
-/// dropped.
+/// The number of octets of memory that the counted routes of a pool may take together, with all
+/// their capacity. A record that needs more keeps what it needs, until enough octets of other
+/// records are read ([`LOWERING_RATE`]). Where the routes would take more than they may, the last
+/// ones are dropped.
 pub(crate) const MOST_ROOM: u64 = 560 * 1024;
 
-/// The largest number of octets that an element of the list of routes takes: a pointer and a
-/// number, and as many octets again of the list's spare capacity.
+/// The largest number of octets of memory that an element of a pool's list of routes takes: a
+/// pointer and a number, and as many octets again of the list's spare capacity.
 pub(crate) const ELEMENT_OCTETS: u64 = 32;
 
 // What is dropped so wasn't needed while a quarter as many octets were read. To allocate it again
 // takes about as long as to read these.
-/// The number of octets by which the bound of a pool falls for each octet of a record, down to what
-/// that record needed and to [`MOST_ROOM`].
+/// The number of octets by which the bound of a pool (the octets that its counted routes may take)
+/// falls for each octet of a record, down to what that record needed and to [`MOST_ROOM`]. So what
+/// a larger record needed is freed later.
 const LOWERING_RATE: u64 = 4;
 
-/// Returns the largest number of octets of memory that a counted route takes, with its element in
-/// the list.
+/// Returns the largest number of octets of memory that the route takes, with all its capacity and
+/// its element in the pool's list: what is counted for it.
 #[inline]
 fn counted_room(route: &Route) -> u64 {
     max_route_size(route).saturating_add(ELEMENT_OCTETS)
 }
 
-/// A route of a pool, which the items of events may hold too.
+/// A route of a pool, whose memory a later record reuses once the pool is its only owner. The items
+/// of events may own it too.
 #[derive(Drop)]
 struct PooledRoute {
+    /// The route, which the items of events may own too.
     route: Rc<Route>,
-    /// The number of octets that are counted for the route, or 0 if it isn't counted.
+    /// The number of octets of memory that are counted for the route, or 0 if it isn't counted.
     room: u64,
 }
 
 impl PooledRoute {
-    /// Returns a route without attributes, which isn't counted. Fails if memory allocation fails.
+    /// Returns a new route without attributes, whose octets aren't counted. Fails if memory
+    /// allocation fails.
     fn blank(alloc: Global) -> Result<PooledRoute, AllocError> {
         let route = new_route(alloc)?;
         Ok(PooledRoute { route, room: 0 })
     }
 
-    /// Returns `true` if the route has an owner besides the pool.
+    /// Returns `true` if the route has an owner besides the pool, such as an event, so that it
+    /// can't be overwritten.
     fn has_other_owner(&self) -> bool {
         Rc::strong_count(&self.route) > 1
     }
 }
 
-/// A pool of routes, in the order in which a record uses them.
+/// Routes whose memory later records reuse, in the order in which a record uses them. Each record
+/// begins with the first route again. The memory of all routes together is bounded; the bound rises
+/// with a record that needs more, and falls again later.
 #[derive(Drop)]
 pub(crate) struct RoutePool {
+    /// The routes, at most [`MOST_ROUTES`].
     routes: Vec<PooledRoute>,
-    /// The number of routes that the current record has used, at most [`MOST_ROUTES`] - 1: the last
-    /// route is used for all further entries.
+    /// The number of routes that the current record has used, at most [`MOST_ROUTES`] - 1: further
+    /// entries are parsed into the last route.
     used: usize,
-    /// The number of octets counted for all routes together.
+    /// The number of octets of memory counted for all routes together.
     room: u64,
-    /// The number of octets counted for the routes that the current record has used.
+    /// The number of octets of memory counted for the routes that the current record has used.
     needed: u64,
-    /// The largest value that `room` may have.
+    /// The bound of the pool: the largest value that `room` may have.
     most: u64,
-    /// The size of the current record, in octets.
+    /// The size of the body of the current record, in octets.
     octets: u64,
     ghost counted: { used ≤ vec_len routes },
     ghost bounded: { vec_len routes ≤ MOST_ROUTES },
@@ -99,9 +108,9 @@ pub(crate) struct RoutePool {
     ghost fits: { room ≤ most },
 }
 
-/// Allocates a route with these attributes and this time, in seconds since 1970. `attrs` is copied
-/// and left as it is if `keep_attrs`; otherwise it is unspecified afterwards. Fails if memory
-/// allocation fails.
+/// Allocates a route with the attributes `attrs` and the time `time`, in seconds since 1970. If
+/// `keep_attrs` is `true`, `attrs` is copied and left as it is; otherwise it is moved, and is
+/// unspecified afterwards. Fails if memory allocation fails.
 #[inline(never)]
 fn allocate_route(
     alloc: Global,
@@ -119,7 +128,7 @@ fn allocate_route(
 }
 
 impl RoutePool {
-    /// Returns an empty pool, without allocating memory.
+    /// Returns a pool without routes, without allocating memory.
     pub(crate) fn new(alloc: Global) -> RoutePool {
         RoutePool {
             routes: Vec::new(alloc),
@@ -131,8 +140,9 @@ impl RoutePool {
         }
     }
 
-    /// Begins a record of `octets` octets, which may use all routes of the pool. Lowers the bound
-    /// of the pool if an earlier record raised it above [`MOST_ROOM`].
+    /// Begins a record whose body has `octets` octets: it may use all routes of the pool, from the
+    /// first on. Lowers the bound of the pool (the octets that its counted routes may take) if an
+    /// earlier record raised it above [`MOST_ROOM`].
     #[inline(always)]
     pub(crate) fn begin_record(&mut self, octets: usize)
         ensures used { self.new.used ≡ 0 }
@@ -149,9 +159,9 @@ impl RoutePool {
         self.octets = octets as u64;
     }
 
-    /// Lowers the bound of the pool by [`LOWERING_RATE`] octets for each octet of the last record,
-    /// but not below what that record needed, nor below [`MOST_ROOM`]. Drops routes that don't fit
-    /// any more.
+    /// Lowers the bound of the pool (the octets that its counted routes may take) by
+    /// [`LOWERING_RATE`] octets for each octet of the last record, but not below what that record
+    /// needed, nor below [`MOST_ROOM`]. Drops routes that don't fit any more, from the last on.
     #[inline(never)]
     fn lower(&mut self)
         ensures used { self.new.used ≡ self.old.used }
@@ -168,8 +178,9 @@ impl RoutePool {
         self.most = most;
     }
 
-    /// Drops routes that the current record hasn't used, from the last on, until the others take at
-    /// most `most` octets or none is left to drop. Sets `room` to at most `most` in any case.
+    /// Drops routes that the current record hasn't used yet, from the last on, until those left
+    /// take at most `most` octets (`room`, as counted), or until only used ones are left. Sets
+    /// `room`, the sum of counted octets, to at most `most` in any case.
     #[inline(never)]
     fn drop_unused(&mut self, most: u64)
         ensures used { self.new.used ≡ self.old.used }
@@ -187,8 +198,9 @@ impl RoutePool {
         self.routes.shrink_to_fit();
     }
 
-    /// Drops the pool's handles to routes that have other owners, if the last record needed more
-    /// than [`MOST_ROOM`]. So their memory is freed as soon as their other owners drop them.
+    /// Drops the pool's own `Rc`s of routes that have other owners, if the last record needed more
+    /// octets than [`MOST_ROOM`]. So the memory of these routes is freed as soon as their other
+    /// owners drop them, and isn't kept for reuse.
     #[inline(always)]
     pub(crate) fn release_held(&mut self)
         ensures most { self.new.most ≡ self.old.most }
@@ -199,8 +211,8 @@ impl RoutePool {
         }
     }
 
-    /// Drops the pool's handles to routes that have other owners. All routes that are left may be
-    /// used again.
+    /// Drops the pool's own `Rc`s of routes that have other owners, which can't be overwritten. The
+    /// routes that are left have no other owner, and all may be used again.
     #[inline(never)]
     fn remove_held(&mut self)
         ensures used { self.new.used ≡ 0 }
@@ -219,8 +231,10 @@ impl RoutePool {
         self.routes.shrink_to_fit();
     }
 
-    /// Returns the index of the route that the record uses next, and adds a blank route if the pool
-    /// has no more. The route may have other owners. Fails if memory allocation fails.
+    /// Returns the index in the pool of the route that the record is to use next, and adds a route
+    /// without attributes if the pool has no more. The route may have other owners. A record with
+    /// more than [`MOST_ROUTES`] routes gets the last index again and again. Fails if memory
+    /// allocation fails.
     #[inline(always)]
     fn next_index(&mut self, alloc: Global) -> Result<usize, AllocError>
         ensures next { IfOk result (λ index. index ≡ self.old.used) }
@@ -235,9 +249,10 @@ impl RoutePool {
         Ok(index)
     }
 
-    /// Counts the octets of the route at `index`, instead of those counted for it before, as needed
-    /// by the current record. Raises the bound of the pool to what the record needs, if that is
-    /// more. If all routes exceed the bound, drops routes that the record hasn't used.
+    /// Counts the octets of memory of the route at the index `index`, which is required to be
+    /// there, as needed by the current record, instead of those counted for it before. Raises the
+    /// bound of the pool to what the record needs, if that is more. If all routes together exceed
+    /// the bound, drops routes that the record hasn't used, from the last on.
     #[inline(never)]
     fn count(&mut self, index: usize)
         requires { index < vec_len self.old.routes }
@@ -256,9 +271,10 @@ impl RoutePool {
         self.most = most;
     }
 
-    /// Counts the octets of the route at `index`, unless it is one of the first [`FIRST_ROUTES`],
-    /// was read from at most [`LONGEST_FIRST`] octets, and isn't counted yet. `octets` is the size
-    /// of the attributes that it was read from.
+    /// Counts the octets of memory of the route at the index `index`, which is required to be
+    /// there, unless it is one of the first [`FIRST_ROUTES`], its attributes were parsed from at
+    /// most [`LONGEST_FIRST`] octets, and it isn't counted yet. `octets` is the number of octets
+    /// that the attributes were parsed from.
     #[inline(always)]
     fn keep(&mut self, index: usize, octets: usize)
         requires { index < vec_len self.old.routes }
@@ -268,10 +284,10 @@ impl RoutePool {
         }
     }
 
-    /// Parses the attributes of a table entry into the next route of the pool, sets its time, in
-    /// seconds since 1970, and returns it. If that route has other owners, a new one replaces it in
-    /// the pool. Fails with `Malformed` if the attributes are malformed, or with `Memory` if memory
-    /// allocation fails.
+    /// Parses `raw`, the path attributes of a table entry, into the next route of the pool, sets
+    /// its time to `time`, in seconds since 1970, and returns it. If that route has other owners, a
+    /// new one takes its place in the pool. Fails with `Malformed` if the attributes are malformed,
+    /// or with `Memory` if memory allocation fails.
     #[inline(never)]
     pub(crate) fn rib_route(
         &mut self,
@@ -290,10 +306,11 @@ impl RoutePool {
         Ok(route?)
     }
 
-    /// Returns a route with these attributes and this time, in seconds since 1970: the next one of
-    /// the pool, or, if that has other owners, a new one that replaces it. `attrs` is copied and
-    /// left as it is if `keep_attrs`; otherwise, or on error, it is unspecified afterwards. Fails
-    /// if memory allocation fails.
+    /// Returns a route with the attributes `attrs` and the time `time`, in seconds since 1970: the
+    /// next one of the pool, overwritten, or, if that has other owners, a new one that takes its
+    /// place. If `keep_attrs` is `true`, `attrs` is copied and left as it is; otherwise it is
+    /// moved, and is unspecified afterwards. Fails if memory allocation fails; `attrs` is
+    /// unspecified then unless `keep_attrs`.
     #[inline(always)]
     pub(crate) fn make_route(
         &mut self,

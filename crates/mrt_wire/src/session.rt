@@ -1,6 +1,6 @@
-//! Parsing BGP4MP and BGP4MP_ET records: the state changes and messages of a session (RFC 6396,
+//! Parsing BGP4MP and BGP4MP_ET records: the state changes and messages of a BGP session (RFC 6396,
 //! sections 3 and 4.4). `decode_record` calls [`read_session`]; read that first. `update.rt` turns
-//! an UPDATE into items.
+//! an UPDATE into withdrawals and announcements.
 
 ghost use Rattle.std.specs.Prelude.{◌≡◌, ◌∷◌, [], ℕ, List, IfOk, IfSome, IfNone};
 ghost use Rattle.ip_prefix.specs.Network.{octet_count};
@@ -23,27 +23,30 @@ use ip_prefix::{Addr, Family};
 use mrt_events::{Item, Items, Peer};
 use std::alloc::{AllocError, Global};
 
-/// The size of the Interface Index, in octets (RFC 6396, section 4.4.1).
+/// The size of the Interface Index among the session fields of a BGP4MP record, in octets (RFC
+/// 6396, section 4.4.1).
 const INTERFACE_SIZE: usize = 2;
 
-/// The number of microseconds in a second.
+/// The number of microseconds in a second: the microseconds of a BGP4MP_ET record are below it.
 const MICROS_PER_SECOND: u32 = 1_000_000;
 
 /// The largest size of a message with the session fields in front of it, in octets, after which the
-/// memory that it was parsed into is kept. After one octet more that memory is freed, and the next
-/// message allocates its own.
+/// memory that it was parsed into is kept for the next message. After one octet more that memory is
+/// freed, and the next message allocates its own.
 const LONGEST_KEPT: usize = 4096;
 
-/// What the body of a BGP4MP record was parsed into.
+/// What the body of a BGP4MP or BGP4MP_ET record was parsed into.
 #[derive(Debug, Drop)]
 pub(crate) struct SessionItems {
-    /// The state change, or the withdrawals and announcements of the UPDATE.
+    /// The state change, or the withdrawals and announcements of the UPDATE; empty for another
+    /// message.
     pub(crate) items: Items,
-    /// The microseconds of the timestamp, if the record is of type BGP4MP_ET (RFC 6396, section 3).
+    /// The microseconds of the timestamp, or `None` if the record is of type BGP4MP (RFC 6396,
+    /// section 3).
     pub(crate) micros: Option<u32>,
 }
 
-/// Returns the size of an address of `family`, in octets.
+/// Returns the size of an address of `family` in a record, in octets: 4 for IPv4, and 16 for IPv6.
 fn address_octets(family: Family) -> usize
     ensures { result ≡ octet_count family }
 {
@@ -54,7 +57,8 @@ fn address_octets(family: Family) -> usize
 }
 
 /// Parses the 16-bit address family at the start of `octets`, 1 for IPv4 or 2 for IPv6 (RFC 6396,
-/// section 4.4.1). Returns `None` for another number, or if `octets` has fewer than two octets.
+/// section 4.4.1). Returns it with the octets after it, or `None` for another number, or if
+/// `octets` has fewer than two octets.
 fn split_family(octets: &[u8]) -> Option<ValueAndRest<'_, Family>>
     ensures { FindsValue SpellsFamily octets.now result }
 {
@@ -68,8 +72,10 @@ fn split_family(octets: &[u8]) -> Option<ValueAndRest<'_, Family>>
 }
 
 /// Parses the session fields at the start of `octets`, from the Peer AS Number to the Local IP
-/// Address, sets `peer`, and returns the octets after them (RFC 6396, section 4.4.1). Returns
-/// `None` if a field is missing or the address family is unknown; `peer` is unspecified then.
+/// Address (RFC 6396, section 4.4.1), with AS numbers of two or four octets as `width` states. Sets
+/// `peer` to the address and AS number of the peer, and returns the octets after the fields.
+/// Returns `None` if a field is missing or the address family is unknown; `peer` is unspecified
+/// then.
 fn fill_session_peer<'a>(peer: &mut Peer, width: AsWidth, octets: &'a [u8]) -> Option<&'a [u8]>
     ensures some { IfSome result (λ rest.
         Begins (SpellsSessionPeer width) peer.new rest.now octets.now) }
@@ -85,10 +91,11 @@ fn fill_session_peer<'a>(peer: &mut Peer, width: AsWidth, octets: &'a [u8]) -> O
     Some(rest)
 }
 
-/// Parses the session fields and the BGP message of a BGP4MP record into the items of the message,
-/// none unless it is an UPDATE (RFC 6396, sections 4.4.2 and 4.4.3). Routes get the time `seconds`.
-/// Fails with `Malformed` if the octets have another form, or with `Memory` if memory allocation
-/// fails.
+/// Parses the session fields and the BGP message of a BGP4MP record into the withdrawals and
+/// announcements of the message if it is an UPDATE, or else into no items (RFC 6396, sections 4.4.2
+/// and 4.4.3). AS numbers have two or four octets, as `width` states. Routes get the time
+/// `seconds`, since 1970, and the memory in `pool`. Fails with `Malformed` if the octets have
+/// another form, or with `Memory` if memory allocation fails.
 #[inline(never)]
 fn read_peer_message(
     alloc: Global,
@@ -109,9 +116,10 @@ fn read_peer_message(
     }
 }
 
-/// Parses the microseconds at the start of the body of a BGP4MP_ET record, a 32-bit number (RFC
-/// 6396, section 3). If the body isn't `timed`, the value is `None` and the rest is all of
-/// `octets`. Returns `None` if the number is missing, or if it is 1,000,000 or more.
+/// Parses the microseconds at the start of the body of a BGP4MP_ET record, a big-endian 32-bit
+/// number (RFC 6396, section 3), and returns them with the octets after them. If `timed` is
+/// `false`, for a BGP4MP record without them, the value is `None` and `rest` is all of `octets`.
+/// Returns `None` if the number is missing, or if it is 1,000,000 or more.
 fn split_micros(timed: bool, octets: &[u8]) -> Option<ValueAndRest<'_, Option<u32>>>
     ensures { FindsValue (SpellsMicros timed) octets.now result }
 {
@@ -131,9 +139,10 @@ fn split_micros(timed: bool, octets: &[u8]) -> Option<ValueAndRest<'_, Option<u3
     })
 }
 
-/// Parses the session fields and the two states of a state change into an item, and ignores the
-/// octets after them (RFC 6396, sections 4.4.1 and 4.4.4). Fails with `Malformed` if a field is
-/// missing or the address family is unknown, or with `Memory` if memory allocation fails.
+/// Parses the session fields and the two states of a state change into one item, and ignores the
+/// octets after them (RFC 6396, sections 4.4.1 and 4.4.4). AS numbers have two or four octets, as
+/// `width` states. Fails with `Malformed` if a field is missing or the address family is unknown,
+/// or with `Memory` if memory allocation fails.
 fn read_state_change(alloc: Global, width: AsWidth, octets: &[u8]) -> Result<Items, WireFault>
     ensures { (seconds : ℕ) → ParsesOrFails (SpellsMapped (SpellsSessionContent SessionKind.StateChange width)
         (session_items seconds)) octets.now result }
@@ -146,9 +155,10 @@ fn read_state_change(alloc: Global, width: AsWidth, octets: &[u8]) -> Result<Ite
     Ok(Items::from_vec(items))
 }
 
-/// Parses the body of a BGP4MP record, after its microseconds, into items: a state change, or those
-/// of a message. Routes get the time `seconds`. Fails with `Malformed` if the octets have another
-/// form, or with `Memory` if memory allocation fails.
+/// Parses the body of a BGP4MP or BGP4MP_ET record, without its microseconds, into items: a state
+/// change, or the withdrawals and announcements of an UPDATE. `form` states which, and the width of
+/// AS numbers. Routes get the time `seconds`, since 1970, and the memory in `pool`. Fails with
+/// `Malformed` if the octets have another form, or with `Memory` if memory allocation fails.
 #[inline(always)]
 fn read_session_content(
     alloc: Global,
@@ -172,8 +182,9 @@ fn read_session_content(
     }
 }
 
-/// Parses the body of a BGP4MP or BGP4MP_ET record into items and microseconds. Its routes get the
-/// time `seconds`, the timestamp of the record. Fails with `Malformed` if the body has another
+/// Parses the body of a BGP4MP or BGP4MP_ET record, whose format is `form`, into items and
+/// microseconds. Its routes get the time `seconds`, the timestamp of the record, since 1970, and
+/// the memory in `pool`, which earlier records used. Fails with `Malformed` if the body has another
 /// form, or with `Memory` if memory allocation fails.
 #[inline(always)]
 pub(crate) fn read_session(

@@ -1,6 +1,6 @@
-//! The reader of MRT files. `bgpdump_lines` and `bgpdump_tool` make a [`Source`] and call
-//! [`Source::next`] until it returns the end or an error; read that first. `decoding.rt` parses
-//! each record.
+//! The reader of MRT files, one record after the other. `bgpdump_lines` and `bgpdump_tool` make a
+//! [`Source`] and call [`Source::next`] until it returns the end or an error; read that first.
+//! `decoding.rt` parses each record.
 
 ghost use Rattle.std.specs.Prelude.{◌≡◌, ◌≤◌, ◌+◌, ◌||◌, ◌↔◌, false, Ok, Err, IsTrue};
 ghost use Rattle.mrt_wire.specs.declared.next.Next.{Next};
@@ -20,22 +20,27 @@ use mrt_frames::{FrameReader, Input, NextRecord, RecordFault, RecordKind, Source
 use std::alloc::Global;
 use std::marker::Model;
 
-/// A reader of events from an input of MRT records (RFC 6396). The caller holds the input and
-/// passes it to each call of [`Source::next`]. In contracts a source is its `SourceState`.
+/// A reader of the events of an input of MRT records (RFC 6396). The caller holds the input, and
+/// passes the same one to each call of [`Source::next`]. In contracts, its value is a
+/// `SourceState`: the peers, the number of records, the offset and limit, which time routes of
+/// tables get, and the phase. The rest doesn't show.
 #[derive(Drop)]
 pub struct Source {
     alloc: Global,
-    /// The reader of headers and bodies, with the buffer of bodies and the offset in the input.
+    /// The reader of record headers and bodies, with the buffer of the current body, the offset in
+    /// the input and the limit.
     frames: FrameReader,
-    /// The number of records read, faulty and unsupported ones included.
+    /// The number of records read so far, faulty and unsupported ones included.
     number: u64,
-    /// The peers of the last accepted peer index table.
+    /// The peers of the last accepted peer index table, or `None` before the first.
     index: Option<Peers>,
-    /// The choice of the time that the routes of tables get.
+    /// Which time the routes of table entries get: the timestamp of the record, or the Originated
+    /// Time of the entry.
     stamp: Stamp,
+    /// Whether the source still reads, has met the end, or has failed.
     phase: Phase,
-    /// Memory that later records reuse, and routes that are overwritten once nobody else holds
-    /// them.
+    /// Memory that later records are parsed into, and routes that are overwritten once nobody else
+    /// holds them.
     pool: Pool,
 }
 
@@ -59,9 +64,11 @@ impl Model for Source {
 }
 
 impl Source {
-    /// Returns a source at the start of its input, which reads at most `limit` octets. `stamp`
-    /// chooses the time that the routes of table entries get. If the source would have to read more
-    /// octets, be it only to see the end, [`Source::next`] fails with `InputTooLong`.
+    /// Returns a source at the start of its input. `stamp` selects which time the routes of table
+    /// entries get: the timestamp of the record (`Dump`) or the Originated Time of the entry
+    /// (`Change`). `limit` is the greatest number of octets of the input to read: if the source
+    /// would have to read more, be it only to see the end, [`Source::next`] fails with
+    /// `InputTooLong`. Allocates no memory.
     pub fn new(alloc: Global, stamp: Stamp, limit: u64) -> Self
         ensures { result ≡ start_state stamp limit }
     {
@@ -76,7 +83,8 @@ impl Source {
         }
     }
 
-    /// Returns the number of octets read from the input so far.
+    /// Returns the number of octets read from the input so far: after a record, the offset of the
+    /// next one. It is at most the limit given to [`Source::new`].
     pub fn offset(&self) -> u64
         ensures offset { result ≡ self.now.offset }
         ensures within { self.now.offset ≤ self.now.limit }
@@ -84,8 +92,9 @@ impl Source {
         self.frames.taken()
     }
 
-    /// Returns `true` if [`Source::next`] may still read from the input, which is so in phase
-    /// [`Phase::Reading`] and in no other.
+    /// Returns `true` if the next call of [`Source::next`] may read from the input, so if the
+    /// source is in phase [`Phase::Reading`]. Returns `false` once it has met the end or has
+    /// failed.
     #[inline]
     pub fn is_reading(&self) -> bool
         ensures { IsTrue result ↔ (self.now.phase ≡ Phase.Reading) }
@@ -93,8 +102,8 @@ impl Source {
         self.phase == Phase::Reading
     }
 
-    /// Reuses the memory of a result of [`Source::next`] that the caller no longer needs. What
-    /// later calls return doesn't depend on it.
+    /// Takes back a result of [`Source::next`] that the caller no longer needs, so that later
+    /// records are parsed into its memory. What later calls return doesn't depend on it.
     #[inline(always)]
     pub fn recycle(&mut self, answer: Next)
         ensures { self.new ≡ self.old }
@@ -105,10 +114,10 @@ impl Source {
         }
     }
 
-    /// Reads the next record, and returns its event or its fault, or [`Next::End`] at the end of
-    /// the input. Fails with `Read` if the input fails, with `InputTooLong` if the limit is met, or
-    /// with `Memory` if memory allocation fails; each later call fails with `Spent`. Reads nothing
-    /// in phases [`Phase::Ended`] and [`Phase::Spent`].
+    /// Reads the next record from `input`, and returns its event or its fault, or [`Next::End`] at
+    /// the end of the input. Fails with `Read` if the input fails, with `InputTooLong` if the limit
+    /// given to [`Source::new`] is met, or with `Memory` if memory allocation fails; each later
+    /// call fails with `Spent`. Reads nothing once it has returned the end or an error.
     #[inline(always)]
     pub fn next<I: Input>(&mut self, input: &mut I) -> Result<Next, SourceFault>
         // One record is taken, and its event or fault is returned; or octets that begin with no
@@ -146,9 +155,9 @@ impl Source {
         }
     }
 
-    /// Reads the next record in phase `Reading`, and returns its event or its fault, or
-    /// [`Next::End`] at the end of the input. On error, the phase is still `Reading`;
-    /// [`Source::next`], which calls this, changes it.
+    /// Reads the next record, and returns its event or its fault, or [`Next::End`] at the end of
+    /// the input, for a source that still reads. On error, the phase is still `Reading`, which the
+    /// caller, [`Source::next`], changes.
     #[inline(always)]
     fn read<I: Input>(&mut self, input: &mut I) -> Result<Next, SourceFault>
         ensures next { IsNextCall self.old (spent_state self.new result)
@@ -189,8 +198,8 @@ impl Source {
     }
 }
 
-/// Returns [`Next::Bad`] with the fault `kind` of record `number`, counted from 1, whose header
-/// begins `offset` octets into the input.
+/// Returns [`Next::Bad`] with the fault `kind` of the record with the number `number`, counted from
+/// 1, whose header begins `offset` octets after the start of the input.
 #[inline(always)]
 fn fault_answer(number: u64, offset: u64, kind: RecordKind) -> Next
     ensures { result ≡ fault_answer number offset kind }
@@ -202,9 +211,10 @@ fn fault_answer(number: u64, offset: u64, kind: RecordKind) -> Next
     })
 }
 
-/// Returns what a source returns of a record that was parsed with this result: its event, or its
-/// fault with `number`, counted from 1, and with the `offset` of its header, in octets. Fails with
-/// `SourceFault::Memory` if memory allocation failed as the record was parsed.
+/// Converts the result of parsing a record to what [`Source::next`] returns for it: its event, or
+/// its fault with the record's number, counted from 1, and the offset of its header in the input,
+/// in octets. Fails with `SourceFault::Memory` if memory allocation failed as the record was
+/// parsed.
 fn record_answer(
     number: u64,
     offset: u64,

@@ -1,5 +1,5 @@
 //! Parsing TABLE_DUMP records, each of one peer and its route to a prefix (RFC 6396, section 4.2).
-//! `decode_record` calls [`read_table_dump`]. Read `split_entry_fields` first, which splits the
+//! `decode_record` calls [`read_table_dump`]. Read [`split_entry_fields`] first, which splits the
 //! body into its fields.
 
 ghost use Rattle.std.specs.Prelude.{IfSome, IfNone};
@@ -22,26 +22,28 @@ use ip_prefix::{Addr, Family, Prefix, V4_OCTETS};
 use mrt_events::{Item, Items, Peer, SharedRanges, Stamp};
 use std::alloc::Global;
 
-/// The size of the View Number and the Sequence Number together, in octets (RFC 6396, section 4.2).
+/// The size of the View Number and the Sequence Number of a TABLE_DUMP body together, in octets
+/// (RFC 6396, section 4.2).
 const NUMBERS_SIZE: usize = 4;
 
-/// The size of the Status, in octets (RFC 6396, section 4.2).
+/// The size of the Status field of a TABLE_DUMP body, in octets (RFC 6396, section 4.2).
 const STATUS_SIZE: usize = 1;
 
-/// The fields of a TABLE_DUMP body (RFC 6396, section 4.2).
+/// The fields of a TABLE_DUMP body that are used, the attributes unparsed (RFC 6396, section 4.2).
 #[derive(Clone, Copy)]
 struct EntryFields<'a> {
-    /// The path attributes, unparsed.
+    /// The path attributes, unparsed, without their length.
     attributes: &'a [u8],
     prefix: Prefix,
     peer: Peer,
-    /// The Originated Time, in seconds since 1970.
+    /// The Originated Time (when the route was received), in seconds since 1970.
     time: u32,
 }
 
 /// Parses the Prefix and the Prefix Length at the start of `octets`: an address of `family`, and
-/// the number of its leading bits that make the prefix (RFC 6396, section 4.2). Returns `None` if
-/// `octets` is too short, or if the length exceeds the bits of an address.
+/// the number of its leading bits that make the prefix (RFC 6396, section 4.2). Returns the prefix
+/// with the octets after it, or `None` if `octets` is too short, or if the length exceeds the bits
+/// of an address.
 #[inline(always)]
 fn split_address_and_length(family: Family, octets: &[u8]) -> Option<ValueAndRest<'_, Prefix>>
     ensures { FindsValue (SpellsAddressAndLength family) octets.now result }
@@ -83,18 +85,20 @@ fn split_entry_fields(family: Family, octets: &[u8]) -> Option<EntryFields<'_>>
     })
 }
 
-/// The timestamp of a TABLE_DUMP record, and the choice of the time that its route gets.
+/// The timestamp of a TABLE_DUMP record, and whether its route gets that time or the Originated
+/// Time.
 #[derive(Clone, Copy)]
 pub(crate) struct TimeChoice {
     /// The timestamp of the record, in seconds since 1970.
     pub(crate) seconds: u32,
-    /// The choice of the time that the route gets.
+    /// Which time the route gets: the timestamp of the record, or the Originated Time of the entry.
     pub(crate) stamp: Stamp,
 }
 
-/// Parses a TABLE_DUMP body for a prefix of `family` into an announcement, as [`read_table_dump`]
-/// does. Fails with `Malformed` if the body has another form, or with `Memory` if memory allocation
-/// fails.
+/// Parses a TABLE_DUMP body for a prefix of `family` into one announcement (RFC 6396, section 4.2),
+/// as [`read_table_dump`] does, which has it compiled for each family. The route reuses memory of
+/// earlier records in `pool`; `choice` selects its time. Fails with `Malformed` if the body has
+/// another form, or with `Memory` if memory allocation fails.
 // Inlined, so that the compiler makes code for each family.
 #[inline(always)]
 fn read_table_dump_of(
@@ -125,9 +129,9 @@ fn read_table_dump_of(
     Ok(Items::with_shared_ranges(items, SharedRanges { start, middle, end }))
 }
 
-/// Parses a TABLE_DUMP body for a prefix of `family` into an announcement (RFC 6396, section 4.2).
-/// Fails with `Malformed` if the body has another form, or with `Memory` if memory allocation
-/// fails.
+/// Parses a TABLE_DUMP body for a prefix of `family` into one announcement (RFC 6396, section 4.2).
+/// The route reuses memory of earlier records in `pool`; `choice` selects its time. Fails with
+/// `Malformed` if the body has another form, or with `Memory` if memory allocation fails.
 pub(crate) fn read_table_dump(
     alloc: Global,
     pool: &mut Pool,

@@ -1,5 +1,5 @@
-//! Turning the parsed parts of an UPDATE into withdrawals and announcements. `session.rt` calls
-//! [`items_of_update`] once `read_message_into` of `bgp_wire` has parsed an UPDATE into
+//! Turning the parsed parts of an UPDATE into items: withdrawals and announcements. `session.rt`
+//! calls [`items_of_update`] once `read_message_into` of `bgp_wire` has parsed an UPDATE into
 //! `Pool::parts`; read that first.
 
 ghost use Rattle.std.specs.Prelude.{◌≡◌, ◌++◌, ◌∷◌, [], true, map, OnOk, IfOk};
@@ -16,22 +16,23 @@ use mrt_events::{Item, Items, Peer, Route, SharedRanges};
 use std::alloc::{AllocError, Global};
 use std::rc::Rc;
 
-/// Prefixes that an UPDATE announces with the same attributes.
+/// Prefixes that an UPDATE announces with the same attributes: those of its NLRI field, or those of
+/// MP_REACH_NLRI.
 #[derive(Clone, Copy)]
 struct AnnouncedPrefixes<'a, 'b> {
     /// The peer that sent the UPDATE.
     peer: &'a Peer,
-    /// The prefixes. There may be none.
+    /// The prefixes, which the one route is for. There may be none.
     prefixes: &'b Prefixes,
     /// The time of the route, in seconds since 1970.
     seconds: u32,
-    /// Whether the attributes are needed again, so that they are copied into the route and not
-    /// moved.
+    /// Whether the attributes are needed again, for other prefixes of the UPDATE, so that they are
+    /// copied into the route and not moved.
     keep_attrs: bool,
 }
 
-/// Appends a withdrawal by `peer` of each prefix to `items`, in order. On error, which means that
-/// memory allocation fails, `items` is unspecified.
+/// Appends a withdrawal by `peer` of each of `prefixes` to `items`, in order. Fails if memory
+/// allocation fails; `items` has some of the withdrawals then.
 fn add_withdrawals(
     items: &mut Vec<Item>,
     peer: &Peer,
@@ -46,10 +47,10 @@ fn add_withdrawals(
     Ok(())
 }
 
-/// Appends an announcement of each prefix to `items`, all with one route, which is made from
-/// `attrs` unless there are no prefixes. `attrs` is left as it is if `keep_attrs`, and is
-/// unspecified afterwards if not. On error, which means that memory allocation fails, `items` is
-/// unspecified.
+/// Appends an announcement of each prefix of `announcement` to `items`, all with one shared route,
+/// which is made from `attrs` in the memory of `routes`. Does nothing if there are no prefixes. If
+/// `keep_attrs` is `true`, `attrs` is left as it is; otherwise it is unspecified afterwards. Fails
+/// if memory allocation fails; `items` may have some of the announcements then.
 #[inline(always)]
 fn add_announcements(
     alloc: Global,
@@ -79,8 +80,8 @@ fn add_announcements(
     Ok(())
 }
 
-/// Returns the number of prefixes that `parts` withdraws and announces together, or `usize::MAX` if
-/// there are more.
+/// Returns the number of prefixes that `parts` withdraws and announces together, which is that of
+/// the items to be made, or `usize::MAX` if there are more.
 #[inline]
 fn prefix_count(parts: &UpdateParts) -> usize {
     let withdrawn = parts.withdrawn.as_slice().len();
@@ -93,10 +94,10 @@ fn prefix_count(parts: &UpdateParts) -> usize {
         .saturating_add(mp_announced)
 }
 
-/// Returns the items of the UPDATE in `pool.parts`, sent by `peer`: its withdrawals, by
-/// MP_UNREACH_NLRI last, and then its announcements, by MP_REACH_NLRI last (RFC 4760, sections 3
-/// and 4). Routes get the time `seconds`. Fails if memory allocation fails. The attributes in
-/// `pool.parts` are unspecified afterwards.
+/// Returns the items of the UPDATE that was parsed into `pool.parts`, sent by `peer`: its
+/// withdrawals, by MP_UNREACH_NLRI last, and then its announcements, by MP_REACH_NLRI last (RFC
+/// 4760, sections 3 and 4). Routes get the time `seconds`, since 1970. Fails if memory allocation
+/// fails. The attributes in `pool.parts` are unspecified afterwards.
 #[inline]
 pub(crate) fn items_of_update(
     alloc: Global,

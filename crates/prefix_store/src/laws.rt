@@ -1,6 +1,6 @@
 //! Theorems about the definitions that the contracts of [`PrefixStore`](crate::PrefixStore) cite.
 //! The functions have no code and nothing calls them: what they state is proved as the crate is
-//! checked. `docs/proved.md` names them.
+//! checked. `docs/proved.md` names them. Read [`law_put_route`] first.
 
 ghost use Rattle.std.specs.Prelude.{◌≡◌, ◌≢◌, ◌+◌, ◌^◌, ◌∷◌, [], Option, Some, None};
 ghost use Rattle.std.specs.FinMap as finite;
@@ -11,13 +11,16 @@ ghost use Rattle.prefix_store.specs.Stored.{Routes, put};
 ghost use Rattle.prefix_store.specs.Contents.{first_above, routes_above};
 ghost use Rattle.prefix_store.specs.Lookups.{IsLongestMatch};
 
-/// Proves that the greatest count is `u64::MAX`.
+/// States that [`GREATEST_COUNT`](crate::GREATEST_COUNT), the number that a store returns for as
+/// many or more keys or routes, is `u64::MAX`.
 pub fn law_greatest_count_is_u64_max()
     ensures { GREATEST_COUNT + 1 ≡ 2 ^ 64 }
 {}
 
-/// Proves that a route put at a prefix is found there, and that the routes at other prefixes are
-/// unchanged.
+/// States what a store of routes by prefix holds after a route was put at a prefix, or the route
+/// there was removed:
+/// - At that prefix, it has that route, or none.
+/// - At each other prefix, it has what it had before.
 pub fn law_put_route<R>()
     ensures there { (routes : Routes R) (n : Network) (new : Option R)
         → finite.get (put routes n new) n ≡ new }
@@ -25,15 +28,20 @@ pub fn law_put_route<R>()
         → m ≢ n → finite.get (put routes n new) m ≡ finite.get routes m }
 {}
 
-/// Proves that at most one route, with its prefix, is at the longest prefix that contains an
-/// address.
+/// States that a store of routes by prefix has at most one route whose prefix is the longest that
+/// contains a given address. So the contract of a look-up determines which route it finds, or that
+/// it finds none.
 pub fn law_one_longest<R>()
     ensures { (routes : Routes R) (address : Address) (one other : Option (Network × R))
         → IsLongestMatch routes address one → IsLongestMatch routes address other → one ≡ other }
 {}
 
-/// Proves that a walk from the least prefix to the next one, and so on, meets every route once, in
-/// the order of prefixes, and then ends.
+/// States that a walk over a store, which goes from the least prefix with a route to the next
+/// greater one, and so on, meets every route:
+/// - Without a prefix to start after, the routes to come are all routes.
+/// - After a route was met, the routes to come are those at greater prefixes.
+/// - If no next route is found, there are no more routes.
+/// - The prefixes ascend, so that no route is met twice.
 pub fn law_walk<R>()
     ensures all { (routes : Routes R)
         → routes_above routes None ≡ finite.entries routes }

@@ -1,6 +1,6 @@
 //! The interface of a store of routes by prefix: a set of prefixes, the keys, with a route at some
-//! of them. `rib_store` implements it, and `rib_player` keeps one such store for each peer. Read
-//! [`PrefixStore`] first.
+//! of them. `rib_store` implements it, and `rib_player`, which applies BGP events to routing
+//! tables, keeps one such store for each peer. Read [`PrefixStore`] first.
 #![tactic(auto)]
 
 mod laws;

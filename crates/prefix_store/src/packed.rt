@@ -1,5 +1,6 @@
-//! Compact forms of prefixes whose family is known. The radix trees of `rib_store` and the entries
-//! of `rib_player` keep prefixes so. Read [`PackedPrefix`] first.
+//! Compact forms of prefixes whose family is known from the type. The radix trees of `rib_store`
+//! and the undo entries of `rib_player` keep prefixes so, to take less memory. Read
+//! [`PackedPrefix`] first.
 
 ghost use Rattle.std.specs.Prelude.{◌≡◌, ◌≢◌, ◌≤◌, length};
 ghost use Rattle.ip_prefix.specs.declared.addr.Family.{Family};
@@ -11,15 +12,16 @@ ghost use Rattle.ip_prefix.specs.declared.turn.Turn.TheVariants.{Outside};
 
 use ip_prefix::{Addr, Prefix, Turn, V4_OCTETS};
 
-/// A compact form of prefixes that are all of one family.
+/// A compact form of prefixes that are all of one address family, which the type determines:
+/// [`V4Prefix`] for IPv4, and [`Prefix`] itself for IPv6.
 pub trait PackedPrefix: Copy + Drop {
     /// The prefix that the value represents.
     ghost network: { Self → Network };
 
-    /// The family of all prefixes of this form.
+    /// The address family of all prefixes of this type.
     ghost family: { Family };
 
-    /// Converts the value to a [`Prefix`].
+    /// Returns the prefix that this value represents as a [`Prefix`].
     fn unpack(&self) -> Prefix
         ensures { result ≡ network self.now };
 
@@ -30,12 +32,16 @@ pub trait PackedPrefix: Copy + Drop {
         self.unpack().len()
     }
 
-    /// Returns the position of `other` relative to this prefix, as [`Prefix::turn`] does.
+    /// Returns where `other` lies as seen from this prefix: `Outside` if this prefix doesn't cover
+    /// it, `Here` if they are equal, or else `Left` or `Right`, if the bit of `other` after the
+    /// bits of this prefix is 0 or 1.
     fn turn(&self, other: &Prefix) -> Turn
         ensures { result ≡ turn_of (way (network self.now)) (way other.now) };
 
-    /// Returns the position of `other` relative to this prefix, which must cover it. An
-    /// implementation needn't compare the bits that both have.
+    /// Returns where `other` lies as seen from this prefix: `Here` if they are equal, or else
+    /// `Left` or `Right`, if the bit of `other` after the bits of this prefix is 0 or 1. Requires
+    /// that this prefix covers `other`, so that an implementation needn't compare the bits that
+    /// both have, as [`PackedPrefix::turn`] does.
     fn turn_covered(&self, other: &Prefix) -> Turn
         requires { turn_of (way (network self.now)) (way other.now) ≢ Outside }
         ensures { result ≡ turn_of (way (network self.now)) (way other.now) }
@@ -43,14 +49,15 @@ pub trait PackedPrefix: Copy + Drop {
         self.turn(other)
     }
 
-    /// Converts `prefix`, which must be of this family, to this form.
+    /// Returns the value of this type that represents `prefix`. Requires that `prefix` is of the
+    /// address family of the type: IPv4 for [`V4Prefix`], and IPv6 for [`Prefix`].
     fn pack(prefix: &Prefix) -> Self
         requires { prefix.now.family ≡ family }
         ensures { network result ≡ prefix.now };
 }
 
-/// An IPv4 prefix: the octets of its network address, in network byte order, and its length in
-/// bits.
+/// An IPv4 prefix in five octets: the octets of its network address, in network byte order, and its
+/// length in bits.
 #[derive(Clone, Copy, Drop)]
 pub struct V4Prefix {
     octets: [u8; V4_OCTETS],

@@ -1,24 +1,28 @@
-//! Batches of eight prefixes whose nodes are prefetched together. `rib_player` collects them and
+//! Batches of eight prefixes whose nodes in stores are prefetched together: read before they are
+//! needed, so that the processor waits for all of them at once. `rib_player` collects them and
 //! passes them to [`PrefixStore::prefetch`](crate::PrefixStore::prefetch). Read [`PrefetchBatch`]
 //! first.
 
 use ip_prefix::Prefix;
 use std::mem;
 
-/// The number of prefixes of a full batch. One more waits for the next batch.
+/// The number of prefixes of a full batch, whose memory is prefetched together. One more waits for
+/// the next batch.
 pub const PREFETCH_BATCH_LEN: u8 = 8;
 
-/// A prefix in a store, or an unused slot of a batch.
+/// One of the eight slots of a [`PrefetchBatch`]: a prefix whose memory in a store is to be
+/// prefetched, or nothing.
 #[derive(Drop)]
 pub enum PrefetchTarget<'a, S> {
-    /// An unused slot.
+    /// A slot without a prefix.
     Unused,
-    /// A prefix in this store.
+    /// This prefix in this store, whose memory is to be prefetched.
     At(&'a S, Prefix),
 }
 
-/// A batch of up to eight prefixes, each with its store, to prefetch together. The one that was
-/// added last is `first`.
+/// A batch of up to eight prefixes, each with the store that it is looked up in. Their memory is
+/// read together before they are used ([`PrefixStore::prefetch`](crate::PrefixStore::prefetch)).
+/// `first` is the prefix that was added last; slots after the oldest one are `Unused`.
 #[derive(Drop)]
 pub struct PrefetchBatch<'a, S> {
     pub first: PrefetchTarget<'a, S>,
@@ -33,7 +37,7 @@ pub struct PrefetchBatch<'a, S> {
 }
 
 impl<'a, S> PrefetchBatch<'a, S> {
-    /// Returns an empty batch.
+    /// Returns a batch without prefixes: all eight slots are `Unused`.
     pub fn new() -> Self {
         PrefetchBatch {
             first: PrefetchTarget::Unused,
@@ -48,8 +52,9 @@ impl<'a, S> PrefetchBatch<'a, S> {
         }
     }
 
-    /// Adds a prefix in `store`, and returns `true` if the batch is full then. A full batch must be
-    /// taken ([`PrefetchBatch::take_all`]), since a further addition drops its oldest prefix.
+    /// Adds a prefix in `store` as `first`, and returns `true` if the batch is full then, with
+    /// [`PREFETCH_BATCH_LEN`] prefixes. A full batch is to be taken out
+    /// ([`PrefetchBatch::take_all`]) before the next call, which would drop its oldest prefix.
     pub fn add(&mut self, store: &'a S, prefix: Prefix) -> bool {
         let second = mem::replace(&mut self.first, PrefetchTarget::At(store, prefix));
         let third = mem::replace(&mut self.second, second);
@@ -62,7 +67,7 @@ impl<'a, S> PrefetchBatch<'a, S> {
         self.count >= PREFETCH_BATCH_LEN
     }
 
-    /// Returns the batch, and leaves an empty one in its place.
+    /// Returns the batch with its prefixes, to be prefetched, and leaves an empty one in its place.
     pub fn take_all(&mut self) -> Self {
         mem::replace(self, PrefetchBatch::new())
     }

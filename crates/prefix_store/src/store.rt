@@ -1,5 +1,5 @@
-//! The interface of a store of routes by prefix. `rib_store` implements it and `rib_player` calls
-//! it. Read [`PrefixStore`], then [`PrefixStore::put`].
+//! The interface of a store of routes by prefix. `rib_store` implements it, and `rib_player`, which
+//! applies BGP events to routing tables, calls it. Read [`PrefixStore`], then [`PrefixStore::put`].
 
 ghost use Rattle.std.specs.Prelude.{◌≡◌, ◌≤◌, true, false, not, Option, None, slice_get, take, vec_capacity, IfOk, OnOk, OnErr, option_map, option_copied};
 ghost use Rattle.std.specs.FinMap as finite;
@@ -11,27 +11,31 @@ use crate::prefetch_batch::PrefetchBatch;
 use ip_prefix::{Addr, Prefix};
 use std::alloc::{AllocError, Global};
 
-/// The greatest count. A greater number of keys or routes is returned as this one.
+/// The number that stands for all counts of keys or of routes that are as great or greater:
+/// `u64::MAX`.
 pub const GREATEST_COUNT: u64 = u64::MAX;
 
-/// A set of prefixes, the keys, with a route at some of them.
+/// A store of routes by prefix: a set of prefixes, the keys, with a route of type `R` at some of
+/// them.
 ///
 /// Only [`PrefixStore::ensure`] and [`PrefixStore::put`] may allocate memory. A key has memory for
-/// a route until it is discarded, so that routes are put there and taken without allocation.
+/// a route until it is discarded, so that routes are put there and taken without allocation, which
+/// can't fail.
 pub trait PrefixStore<R: Drop>: Sized + Drop {
-    /// The prefixes that have memory for a route.
+    /// The keys: the prefixes that have memory for a route.
     ghost keys: { Self → Keys };
 
-    /// The routes by prefix, at some of the keys.
+    /// The routes by prefix: some of the keys have one.
     ghost routes: { Self → Routes R };
 
-    /// Returns a store without keys. Allocates no memory.
+    /// Returns a store without keys and routes. Allocates no memory.
     fn new(alloc: Global) -> Self
         ensures keys { keys result ≡ set.empty }
         ensures routes { routes result ≡ finite.empty };
 
-    /// Makes `prefix` a key, and returns `true` if it wasn't one before. Fails if memory allocation
-    /// fails, which happens for new keys only; the store is unchanged then.
+    /// Makes `prefix` a key, a prefix with memory for a route, but puts no route there. Returns
+    /// `true` if `prefix` wasn't a key before, and `false` if nothing changed. Fails if memory
+    /// allocation fails, which happens for new keys only; the store is unchanged then.
     fn ensure(&mut self, prefix: Prefix) -> Result<bool, AllocError>
         ensures keys { OnOk result (keys self.new ≡ set.insert (keys self.old) prefix) }
         ensures made { IfOk result (λ made. made ≡ not (set.contains (keys self.old) prefix)) }
@@ -39,17 +43,19 @@ pub trait PrefixStore<R: Drop>: Sized + Drop {
         ensures refused { OnErr result (keys self.new ≡ keys self.old) }
         ensures known { OnErr result (set.contains (keys self.old) prefix ≡ false) };
 
-    /// Swaps the route at the key `prefix` and `route`, either of which may be `None`. `prefix`
-    /// must be a key ([`PrefixStore::ensure`]).
+    /// Swaps the route at `prefix` and `route`, either of which may be `None`: `route` holds the
+    /// old route afterwards. Requires that `prefix` is a key: a prefix that [`PrefixStore::ensure`]
+    /// or [`PrefixStore::put`] gave memory for a route. Allocates no memory.
     fn exchange(&mut self, prefix: &Prefix, route: &mut Option<R>)
         requires { set.contains (keys self.old) prefix.now ≡ true }
         ensures keys { keys self.new ≡ keys self.old }
         ensures routes { routes self.new ≡ put (routes self.old) prefix.now route.old }
         ensures taken_out { route.new ≡ finite.get (routes self.old) prefix.now };
 
-    /// Swaps the route at `prefix` and `route`, either of which may be `None`, and makes `prefix` a
-    /// key. Returns `true` if it wasn't one before. Fails if memory allocation fails, which happens
-    /// for new keys only; the store and `route` are unchanged then.
+    /// Swaps the route at `prefix` and `route`, either of which may be `None`: `route` holds the
+    /// old route afterwards. Makes `prefix` a key, a prefix with memory for a route, and returns
+    /// `true` if it wasn't one before. Fails if memory allocation fails, which happens for new keys
+    /// only; the store and `route` are unchanged then.
     fn put(&mut self, prefix: &Prefix, route: &mut Option<R>) -> Result<bool, AllocError>
         ensures keys { OnOk result (keys self.new ≡ set.insert (keys self.old) prefix.now) }
         ensures made { IfOk result (λ made. made ≡ not (set.contains (keys self.old) prefix.now)) }
@@ -66,37 +72,43 @@ pub trait PrefixStore<R: Drop>: Sized + Drop {
         Ok(made)
     }
 
-    /// Removes the key `prefix`, which must be a key without a route.
+    /// Removes `prefix` from the keys, the prefixes with memory for a route. Requires that it is a
+    /// key, and that it has no route.
     fn discard(&mut self, prefix: &Prefix)
         requires key { set.contains (keys self.old) prefix.now ≡ true }
         requires free { finite.get (routes self.old) prefix.now ≡ None }
         ensures keys { keys self.new ≡ set.remove (keys self.old) prefix.now }
         ensures routes { routes self.new ≡ routes self.old };
 
-    /// Returns `true` if `prefix` is a key.
+    /// Returns `true` if `prefix` is a key: a prefix that has memory for a route in the store,
+    /// whether it has a route or not.
     fn has_key(&self, prefix: &Prefix) -> bool
         ensures { result ≡ set.contains (keys self.now) prefix.now };
 
-    /// Returns the route at `prefix`, or `None` if there is none.
+    /// Returns the route at `prefix`, or `None` if there is none, be `prefix` a key (a prefix with
+    /// memory for a route) or not.
     fn get(&self, prefix: &Prefix) -> Option<&R>
         ensures { option_copied result ≡ finite.get (routes self.now) prefix.now };
 
-    /// Returns the route at the longest prefix that contains `addr`, with that prefix, or `None` if
-    /// no prefix with a route contains it. By this route a router forwards (RFC 1812, section
-    /// 5.2.4.3).
+    /// Returns the route at the longest prefix that contains `addr`, of those that have a route,
+    /// with that prefix. Returns `None` if no prefix with a route contains it. By this route a
+    /// router forwards (RFC 1812, section 5.2.4.3).
     fn longest(&self, addr: &Addr) -> Option<(Prefix, &R)>
         ensures { IsLongestMatch (routes self.now) addr.now (option_map (λ p. (p.0, p.1.now)) result) };
 
-    /// Returns the route at the least prefix that is greater than `prefix`, or at the least prefix
-    /// of all if `prefix` is `None`, with that prefix. Returns `None` if there is no such route. A
-    /// walk over all routes needs no state but the last prefix.
+    /// Returns the route at the least prefix that is greater than `prefix`, with that prefix, or at
+    /// the least prefix of all if `prefix` is `None`. Returns `None` if there is no such route.
+    /// Prefixes are ordered by family (IPv4 first), address and length. `prefix` needn't be in the
+    /// store, so a walk over all routes needs no state but the last prefix.
     fn after(&self, prefix: Option<&Prefix>) -> Option<(Prefix, &R)>
         ensures { option_map (λ p. (p.0, p.1.now)) result ≡
             slice_get (above (option_copied prefix.entry) (finite.entries (routes self.now))) 0 };
 
-    /// Replaces the elements of `found` by the next routes that [`PrefixStore::after`] would
-    /// return, with their prefixes and in their order, up to the capacity of `found`. A walk so
-    /// needs one call for many routes. Allocates no memory.
+    /// Replaces the elements of `found` by the routes at the least prefixes that are greater than
+    /// `prefix`, or at the least of all if `prefix` is `None`, with their prefixes, in ascending
+    /// order (by family, address and length). Fills `found` up to its capacity; if it isn't full
+    /// then, there are no more routes. A walk so needs one call for many routes. Allocates no
+    /// memory.
     fn next_routes<'a>(&'a self, prefix: Option<&Prefix>, found: &mut Vec<(Prefix, &'a R)>)
         ensures found { dereferenced found.new.items ≡ take (vec_capacity found.old)
             (above (option_copied prefix.entry) (finite.entries (routes self.now))) }
@@ -113,8 +125,9 @@ pub trait PrefixStore<R: Drop>: Sized + Drop {
         }
     }
 
-    /// Moves all routes into `taken`, in the order of their prefixes, in place of its elements. The
-    /// keys stay. `taken` must have capacity for all routes. Allocates no memory.
+    /// Moves all routes into `taken`, in ascending order of their prefixes, in place of its
+    /// elements. The keys (the prefixes with memory for a route) stay. Requires that `taken` has
+    /// capacity for all routes. Allocates no memory.
     fn drain_routes(&mut self, taken: &mut Vec<R>)
         requires { finite.len (routes self.old) ≤ vec_capacity taken.old }
         ensures keys { keys self.new ≡ keys self.old }
@@ -137,25 +150,28 @@ pub trait PrefixStore<R: Drop>: Sized + Drop {
         }
     }
 
-    /// Prefetches the memory that calls for the prefixes of the batch read, for all of them at
-    /// once. Changes nothing. Returns a number that depends on what was read; a caller that uses it
-    /// keeps the compiler from removing the reads. The provided method reads nothing and returns 0.
+    /// Reads the memory that later calls for the prefixes of the batch will read, for all prefixes
+    /// at once, so that it is in the processor's cache then. Changes nothing. Returns a number
+    /// without meaning that depends on what was read; a caller that uses it keeps the compiler from
+    /// removing the reads. The provided method reads nothing and returns 0.
     fn prefetch(_batch: &PrefetchBatch<'_, Self>) -> u64 {
         0
     }
 
-    /// Returns `true` if dropping the store frees no memory: the operating system takes it when the
-    /// program ends. A program that ends then needn't free what it holds beside such stores.
+    /// Returns `true` if dropping a store of this type frees no memory, so that the operating
+    /// system takes it when the program ends. A program that ends then needn't free what it holds
+    /// beside such stores. The provided method returns `false`.
     fn leaks_on_drop() -> bool {
         false
     }
 
-    /// Returns the number of keys, or `u64::MAX` if there are more.
+    /// Returns the number of keys (prefixes with memory for a route, whether they have one or not),
+    /// or `u64::MAX` if there are more.
     fn key_count(&self) -> u64
         ensures count { result ≡ saturated_count (set.len (keys self.now)) }
         ensures among { ContainsDomain (keys self.now) (routes self.now) };
 
-    /// Returns the number of keys that have a route, or `u64::MAX` if there are more.
+    /// Returns the number of prefixes that have a route, or `u64::MAX` if there are more.
     fn route_count(&self) -> u64
         ensures { result ≡ saturated_count (finite.len (routes self.now)) };
 }

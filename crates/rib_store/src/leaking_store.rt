@@ -1,5 +1,6 @@
-//! A wrapper of a store whose memory is left to the operating system. `bgpdump` plays over such
-//! stores, since it ends soon after it drops them. Read [`LeakingStore`] first.
+//! A wrapper of a store of routes that frees no memory when it is dropped. The program `bgpdump`
+//! keeps its routing tables in such stores, since it ends soon after it drops them, and the
+//! operating system takes the memory then. Read [`LeakingStore`] first.
 
 ghost use Rattle.std.specs.Prelude.{◌≡◌};
 ghost use Rattle.std.specs.Mem.{manually_drop_value};
@@ -9,9 +10,10 @@ use prefix_store::{PrefetchBatch, PrefetchTarget, PrefixStore};
 use std::alloc::{AllocError, Global};
 use std::mem::ManuallyDrop;
 
-/// A store whose memory isn't freed when it is dropped: the operating system takes it when the
-/// program ends. A program that ends soon needn't take the store apart first. In another program,
-/// dropping it leaks the memory of the store and the routes that are in it.
+/// A store of routes by prefix that does what the wrapped store `S` does, but whose memory isn't
+/// freed when it is dropped: the operating system takes it when the program ends. So a program that
+/// ends soon saves the time to free it. In another program, dropping the store leaks its memory and
+/// that of the routes in it.
 #[derive(Drop)]
 pub struct LeakingStore<S> {
     store: ManuallyDrop<S>,
@@ -94,7 +96,8 @@ impl<R: Drop, S: PrefixStore<R>> PrefixStore<R> for LeakingStore<S> {
     }
 }
 
-/// Returns `place` with the wrapped store, or an unused slot if it is one.
+/// Returns the target of a prefetch in the wrapped store: the prefix of `place` with the store that
+/// is inside its [`LeakingStore`], or `Unused` if `place` is `Unused`.
 fn inner_target<'a, S>(place: &PrefetchTarget<'a, LeakingStore<S>>) -> PrefetchTarget<'a, S> {
     match place {
         PrefetchTarget::Unused => PrefetchTarget::Unused,

@@ -1,5 +1,5 @@
-//! A store that has a radix tree for each family. `bgpdump` keeps the routes of each peer in one.
-//! Read [`RadixStore`] first, then `tree.rt` for the trees.
+//! A store of routes by prefix that has a radix tree for each address family. The program `bgpdump`
+//! keeps the routes of each peer in one. Read [`RadixStore`] first, then `tree.rt` for the trees.
 
 ghost use mir.Val.{bool_byte};
 ghost use Rattle.std.specs.Prelude.{◌≡◌, ℕ, ◌+◌, ◌*◌, ◌≤◌, is_some, option_map, option_copied};
@@ -18,13 +18,13 @@ use prefix_store::{GREATEST_COUNT, PrefetchBatch, PrefetchTarget, PrefixStore, V
 use std::alloc::{AllocError, Global};
 use std::marker::Model;
 
-/// A store that has a path-compressed radix tree for each family, and counts of the keys and the
-/// routes.
+/// A store of routes by prefix: a path-compressed radix tree for each address family, and counts of
+/// the keys (prefixes that the store keeps, with or without a route) and of the routes.
 ///
-/// A look-up visits at most 33 nodes for IPv4 and 129 for IPv6. `after` visits the nodes on such a
-/// path and then those on the path to the next route, and `next_routes` continues to as many routes
-/// as there is capacity for; both skip subtrees without a route. `key_count` and `route_count`
-/// visit no nodes.
+/// A look-up of a prefix or an address visits at most 33 nodes for IPv4 and 129 for IPv6. `after`
+/// visits such a path and then the path to the next route, and `next_routes` continues to as many
+/// routes as its vector has capacity for; both skip subtrees without a route. `key_count` and
+/// `route_count` visit no nodes.
 #[derive(Drop)]
 pub struct RadixStore<R> {
     alloc: Global,
@@ -48,8 +48,10 @@ impl<R> Model for RadixStore<R> {
 }
 
 impl<R: Drop> RadixStore<R> {
-    /// Returns the number of nodes of the trees, or `u64::MAX` if there are more. There is a node
-    /// for each key and each branch, at most two for a key. Visits all nodes.
+    /// Returns the number of nodes of both trees, or `u64::MAX` if there are more; for tests and
+    /// statistics. There is a node for each key (a prefix that the store keeps, with or without a
+    /// route) and for each branch where paths to keys part, so at most two for each key. Visits all
+    /// nodes.
     pub fn nodes(&self) -> u64
         ensures nodes { (nodes : Keys) × AreNodes self.now.keys nodes ×
             (result ≡ saturated_count (set.len nodes)) }
@@ -58,10 +60,11 @@ impl<R: Drop> RadixStore<R> {
         self.v4.node_count().saturating_add(self.v6.node_count())
     }
 
-    /// Returns the route at the longest prefix that contains `addr`, as [`PrefixStore::longest`]
-    /// does, and adds the number of nodes that the look-up visits to `met`: those whose prefixes
-    /// contain the address, and at most one more. `met` must be at most `u32::MAX` less 33 for an
-    /// IPv4 address, or less 129 for IPv6.
+    /// Returns the route at the longest prefix that contains `addr`, with that prefix, or `None` if
+    /// no prefix with a route contains it. Adds to `met` the number of nodes that the look-up
+    /// visits: those whose prefixes contain the address, and at most one more. Requires that `met`
+    /// is at most `u32::MAX` less 33 for an IPv4 address, or less 129 for IPv6, so that the sum
+    /// doesn't overflow.
     pub fn longest_counted(&self, addr: &Addr, met: &mut u32) -> Option<(Prefix, &R)>
         requires { met.old + bit_count addr.now.family + 1 ≤ u32.MAX }
         ensures longest { IsLongestMatch self.now.routes addr.now
@@ -77,8 +80,8 @@ impl<R: Drop> RadixStore<R> {
         }
     }
 
-    /// Returns the slot at `prefix`: `None` if it isn't a key, `Some(None)` if it is a key without
-    /// a route, or else the route.
+    /// Looks up `prefix` itself. Returns `None` if the store doesn't keep `prefix`, `Some(None)` if
+    /// it keeps it without a route, or else `Some` of its route.
     #[inline]
     fn slot(&self, prefix: &Prefix) -> Option<Option<&R>>
         ensures key { is_some result ≡ set.contains self.now.keys prefix.now }
@@ -234,7 +237,10 @@ impl<R: Drop> PrefixStore<R> for RadixStore<R> {
     }
 }
 
-/// Returns the descent to the prefix of `place`, which has ended if `place` is unused.
+/// Returns a descent (a walk down a tree that only reads its nodes, so that they are in the
+/// processor's cache) that starts at the root of the tree of the family of the prefix of `place`,
+/// in its store. If `place` is `Unused`, a slot of a batch without a prefix, the descent has ended
+/// already and reads nothing.
 fn descent_to<'a, R: Drop>(place: &PrefetchTarget<'a, RadixStore<R>>) -> Descent<'a, R> {
     let PrefetchTarget::At(store, prefix) = place else {
         return Descent::ended();
@@ -247,8 +253,10 @@ fn descent_to<'a, R: Drop>(place: &PrefetchTarget<'a, RadixStore<R>>) -> Descent
     Descent::new(root, prefix)
 }
 
-/// Returns the number of routes after a swap, where `count` was the number before. A route was put
-/// if `brought`, and one was taken if `taken_out`. A saturated count is made anew from the trees.
+/// Returns the number of routes of a store after a route was swapped in or out, or `u64::MAX` if
+/// there are more. `count` is the number before, or `u64::MAX` if there were more; `brought` is
+/// `true` if a route was put into the store, and `taken_out` if one was taken out of it. If `count`
+/// is `u64::MAX` and a route is gone, the routes of the trees `v4` and `v6` are counted anew.
 fn route_count_after<R: Drop>(
     count: u64,
     brought: bool,

@@ -1,6 +1,7 @@
-//! A path-compressed radix tree of the prefixes of one family. [`RadixStore`](crate::RadixStore)
-//! has one for each family. Read [`Tree`] first. Its operations are in the modules below: look-ups
-//! in `lookups.rt`, new keys in `puts.rt`, routes in `routes.rt`, removed keys in `keys.rt`.
+//! A path-compressed radix tree of the prefixes of one address family.
+//! [`RadixStore`](crate::RadixStore) has one for each family. Read [`Tree`] first. Its operations
+//! are in the modules below: look-ups in `lookups.rt`, new keys (prefixes that the tree keeps) in
+//! `puts.rt`, routes in `routes.rt`, and removed keys in `keys.rt`.
 
 ghost use Rattle.std.specs.Prelude.{◌≡◌, true, false, Some, None, is_some, MatchOption, [], ◌∷◌, vec_capacity, option_copied, option_map, option_to_list};
 ghost use Rattle.prefix_store.specs.Lookups.{dereferenced};
@@ -22,27 +23,31 @@ use prefix_store::V4Prefix;
 use std::mem::size_of;
 use std::rc::Rc;
 
-/// A tree or subtree. A key without keys below it is stored in its parent; every other node is on
-/// the heap.
+/// A path-compressed radix tree, or a subtree, of keys: prefixes that it keeps, with or without a
+/// route. A child on the left covers prefixes whose bit after those of its parent's prefix is 0,
+/// one on the right those where it is 1. A key without keys below it is stored in its parent; every
+/// other node is on the heap. `K` is a prefix of one family, and `R` a route.
 #[cycle(tree)]
 #[derive(Drop)]
 pub(crate) enum Tree<K, R> {
-    /// No keys.
+    /// No node.
     Empty,
-    /// A key without a route and without keys below it.
+    /// A key (a prefix that the tree keeps) without a route and without keys below it.
     Bare(K),
-    /// A key with a route and without keys below it.
+    /// A key (a prefix that the tree keeps) with this route and without keys below it.
     Leaf(K, R),
-    /// A branch: its mark, which is whether a key below it has a route, its prefix, and its
-    /// children. Walks skip a node that isn't marked without visiting its children.
+    /// A branch, whose prefix isn't a key but covers keys on both sides: its mark, which is whether
+    /// some key below it has a route, its prefix, and its children. Walks over the routes skip a
+    /// node whose mark is `false` without visiting its children.
     Forked(bool, K, Box<Fork<K, R>>),
-    /// A key with keys below it, or a branch that was such a key: its mark, which is whether it or
-    /// a key below it has a route, its prefix, its slot and its children. Discarding a key with two
-    /// children leaves such a branch, since making another node would allocate memory.
+    /// A key with keys below it, or a branch that was such a key before: its mark, which is whether
+    /// it or some key below it has a route; its prefix; and its slot and its children. Removing a
+    /// key with two children leaves such a branch, since making another node would allocate memory.
     Rooted(bool, K, Box<Node<K, R>>),
 }
 
-/// The children of a branch.
+/// The children of a branch: of a node whose prefix isn't a key (a prefix that the tree keeps), but
+/// covers keys on both sides.
 #[cycle(tree)]
 #[derive(Drop)]
 pub(crate) struct Fork<K, R> {
@@ -50,7 +55,8 @@ pub(crate) struct Fork<K, R> {
     right: Tree<K, R>,
 }
 
-/// The slot and the children of a node that may be a key.
+/// The slot (whether the node's prefix is a key, and its route) and the children of a node that may
+/// be a key: a prefix that the tree keeps, with or without a route.
 #[cycle(tree)]
 #[derive(Drop)]
 pub(crate) struct Node<K, R> {
@@ -59,39 +65,45 @@ pub(crate) struct Node<K, R> {
     right: Tree<K, R>,
 }
 
-/// The greatest size of an IPv4 [`Fork`], in octets, if a route is a pointer. The check proves it.
+/// The greatest size of an IPv4 [`Fork`], in octets, if a route is a pointer. The build fails if a
+/// [`Fork`] is greater.
 const V4_FORK_OCTETS: usize = 32;
 
-/// The greatest size of an IPv6 [`Fork`], in octets, if a route is a pointer. The check proves it.
+/// The greatest size of an IPv6 [`Fork`], in octets, if a route is a pointer. The build fails if a
+/// [`Fork`] is greater.
 const V6_FORK_OCTETS: usize = 80;
 
 const _: () = prove!(size_of::<Fork<V4Prefix, Rc<u32>>>() <= V4_FORK_OCTETS);
 
 const _: () = prove!(size_of::<Fork<Prefix, Rc<u32>>>() <= V6_FORK_OCTETS);
 
-/// The greatest size of an IPv4 [`Node`], in octets, if a route is a pointer. The check proves it.
+/// The greatest size of an IPv4 [`Node`], in octets, if a route is a pointer. The build fails if a
+/// [`Node`] is greater.
 const V4_NODE_OCTETS: usize = 48;
 
-/// The greatest size of an IPv6 [`Node`], in octets, if a route is a pointer. The check proves it.
+/// The greatest size of an IPv6 [`Node`], in octets, if a route is a pointer. The build fails if a
+/// [`Node`] is greater.
 const V6_NODE_OCTETS: usize = 96;
 
 const _: () = prove!(size_of::<Node<V4Prefix, Rc<u32>>>() <= V4_NODE_OCTETS);
 
 const _: () = prove!(size_of::<Node<Prefix, Rc<u32>>>() <= V6_NODE_OCTETS);
 
-/// The slot of a node: whether the node is a key, and its route.
+/// What a node of a tree holds of its prefix: whether it is a key (a prefix that the tree keeps,
+/// with or without a route), and its route.
 #[derive(Drop)]
 pub(crate) enum Slot<R> {
-    /// No key. The node has two children.
+    /// The prefix of the node isn't a key. The node is there for its two children.
     NoKey,
-    /// A key without a route.
+    /// The prefix is a key without a route.
     Vacant,
-    /// A key and its route.
+    /// The prefix is a key with this route.
     Filled(R),
 }
 
 impl<K, R> Tree<K, R> {
-    /// Returns `true` if some key of the tree has a route. Reads the mark of the root alone.
+    /// Returns `true` if some key of the tree has a route, and `false` if none has. Visits the root
+    /// only, whose mark tells it for the keys below.
     fn has_routes(&self) -> bool
         ensures { result ≡ has_routes self.now }
     {
@@ -106,15 +118,18 @@ impl<K, R> Tree<K, R> {
 }
 
 impl<K, R> Fork<K, R> {
-    /// Returns `true` if some key below the branch has a route. Reads the marks of the children.
+    /// Returns `true` if some key below the branch has a route. Reads it from the marks of the two
+    /// children (each tells whether a key in that subtree has a route), and visits nothing below
+    /// them.
     fn has_routes(&self) -> bool
         ensures { result ≡ any_has_routes NoKey self.now.left self.now.right }
     {
         self.left.has_routes() || self.right.has_routes()
     }
 
-    /// Returns `true` if some key below the branch has a route, leaving out the child on the side
-    /// `turn`. Reads the marks of the children.
+    /// Returns `true` if some key below the branch, other than in the child on the side `turn`, has
+    /// a route: on the right if `turn` is `Left`, on the left if it is `Right`, or on either side
+    /// otherwise. Reads it from the marks of the children, and visits nothing below them.
     fn has_routes_elsewhere(&self, turn: Turn) -> bool
         ensures { result ≡ any_routes_elsewhere turn NoKey self.now.left self.now.right }
     {
@@ -125,9 +140,11 @@ impl<K, R> Fork<K, R> {
         }
     }
 
-    /// Returns `true` if the branch, whose mark is `routed`, stays marked whatever happens to the
-    /// child on the side `turn`. If `brought`, a route is put there; otherwise one may be taken.
-    /// `false` means that no other child has a route.
+    /// Returns `true` if the mark of the branch (whether some key below it has a route) needn't be
+    /// updated after a change in its child on the side `turn`. `routed` is the mark now; `brought`
+    /// is `true` if the change puts a route, and `false` if it may take one away. Returns `false`
+    /// if the mark may change; then no other child has a route, and the mark becomes that of the
+    /// changed child.
     #[inline]
     #[tactic(auto, using(crate::proofs::MarkLaws::none_beside))]
     fn stays_marked(&self, routed: bool, brought: bool, turn: Turn) -> bool
@@ -146,17 +163,18 @@ impl<K, R> Fork<K, R> {
 }
 
 impl<K, R> Node<K, R> {
-    /// Returns `true` if the node or some key below it has a route. Reads the marks of the
-    /// children.
+    /// Returns `true` if the node's prefix or some key below it has a route. Reads it from the slot
+    /// and the marks of the two children (each tells whether a key in that subtree has a route),
+    /// and visits nothing below them.
     fn has_routes(&self) -> bool
         ensures { result ≡ any_has_routes self.now.slot self.now.left self.now.right }
     {
         self.left.has_routes() || self.right.has_routes() || self.slot.is_filled()
     }
 
-    /// Returns `true` if the node or some key below it has a route, leaving out what `turn` leads
-    /// to: the child on that side, or otherwise the node's own slot. Reads the marks of the
-    /// children.
+    /// Returns `true` if the node's prefix or some key below it has a route, leaving out one part:
+    /// the child on the side `turn` if that is `Left` or `Right`, or otherwise the node's own slot.
+    /// Reads it from the slot and the marks of the children, and visits nothing below them.
     fn has_routes_elsewhere(&self, turn: Turn) -> bool
         ensures { result ≡
             any_routes_elsewhere turn self.now.slot self.now.left self.now.right }
@@ -168,9 +186,11 @@ impl<K, R> Node<K, R> {
         }
     }
 
-    /// Returns `true` if the node, whose mark is `routed`, stays marked whatever happens where
-    /// `turn` leads. If `brought`, a route is put there; otherwise one may be taken. `false` means
-    /// that there is no route elsewhere.
+    /// Returns `true` if the mark of the node (whether it or some key below it has a route) needn't
+    /// be updated after a change in one part: its child on the side `turn`, or its own slot if
+    /// `turn` is neither side. `routed` is the mark now; `brought` is `true` if the change puts a
+    /// route, and `false` if it may take one away. Returns `false` if the mark may change; then
+    /// there is no route in the other parts.
     #[inline]
     #[tactic(auto, using(crate::proofs::MarkLaws::none_beside))]
     fn stays_marked(&self, routed: bool, brought: bool, turn: Turn) -> bool
@@ -189,15 +209,16 @@ impl<K, R> Node<K, R> {
 }
 
 impl<R> Slot<R> {
-    /// Returns `true` if the slot has a route.
+    /// Returns `true` if the slot has a route: if the node's prefix is a key (a prefix that the
+    /// tree keeps) with a route.
     fn is_filled(&self) -> bool
         ensures { result ≡ is_filled self.now }
     {
         matches!(self, Slot::Filled(_))
     }
 
-    /// Returns the route of a key: `None` if the slot is of no key, `Some(None)` if the key has no
-    /// route, or else the route.
+    /// Returns `None` if the node's prefix isn't a key (a prefix that the tree keeps), `Some(None)`
+    /// if it is a key without a route, or else `Some` of its route.
     pub(crate) fn route_if_key(&self) -> Option<Option<&R>>
         ensures { option_map (λ slot. option_copied slot) result ≡ slot_of self.now }
     {
@@ -208,7 +229,8 @@ impl<R> Slot<R> {
         }
     }
 
-    /// Returns `prefix` with the route in the slot, or `None` if there is no route.
+    /// Returns `prefix`, which is that of the node, with the route in the node's slot, or `None` if
+    /// there is no route.
     fn route_with_prefix(&self, prefix: Prefix) -> Option<(Prefix, &R)>
         ensures { MatchOption result (routed_at prefix (slot_of self.now) ≡ None)
             (λ found. routed_at prefix (slot_of self.now) ≡ Some (found.0, found.1.now)) }
@@ -219,8 +241,9 @@ impl<R> Slot<R> {
         }
     }
 
-    /// Appends `prefix` with the route in the slot to `found`. Does nothing if there is no route,
-    /// or if `found` has no spare capacity.
+    /// Appends `prefix`, which is that of the node, with the route in the node's slot to `found`.
+    /// Does nothing if there is no route, or if `found` has no spare capacity; so it allocates no
+    /// memory.
     fn add_route_if_any<'a>(&'a self, prefix: Prefix, found: &mut Vec<(Prefix, &'a R)>)
         ensures found { dereferenced found.new.items ≡ filled (vec_capacity found.old)
             (dereferenced found.old.items) (option_to_list (routed_at prefix (slot_of self.now))) }
@@ -233,7 +256,8 @@ impl<R> Slot<R> {
     }
 }
 
-/// Appends `prefix` and `route` to `found`. Does nothing if `found` has no spare capacity.
+/// Appends `prefix` and `route` to `found`, without allocating memory. Does nothing if `found` has
+/// no spare capacity.
 fn add_route<'a, R>(prefix: Prefix, route: &'a R, found: &mut Vec<(Prefix, &'a R)>)
     ensures found { dereferenced found.new.items ≡ filled (vec_capacity found.old)
         (dereferenced found.old.items) ((prefix, route.now) ∷ []) }

@@ -1,6 +1,7 @@
-//! Counts of the nodes, the keys and the routes of a tree, which visit all of its nodes.
-//! `radix_store.rt` calls them; the counts of keys and routes only if its own count was saturated.
-//! Read [`Tree::node_count`] first.
+//! Counts of the nodes, the keys (prefixes that the tree keeps, with or without a route) and the
+//! routes of a tree. Each visits all nodes. `radix_store.rt` keeps counts of keys and routes
+//! itself, and calls these only if its own count was above `u64::MAX`. Read [`Tree::node_count`]
+//! first.
 
 ghost use Rattle.std.specs.Prelude.{◌≡◌, length};
 ghost use Rattle.rib_store.specs.Tree.{shape_of, slots_of};
@@ -11,7 +12,8 @@ use crate::tree::{Slot, Tree};
 use prefix_store::PackedPrefix;
 
 impl<K: PackedPrefix, R> Tree<K, R> {
-    /// Returns the number of nodes, or `u64::MAX` if there are more. Visits all nodes.
+    /// Returns the number of nodes, or `u64::MAX` if there are more: one for each key (a prefix
+    /// that the tree keeps), and one for each branch whose prefix isn't a key. Visits all nodes.
     pub(crate) fn node_count(&self) -> u64
         ensures { result ≡ saturated_count (node_count (shape_of K.network self.now)) }
     {
@@ -31,7 +33,8 @@ impl<K: PackedPrefix, R> Tree<K, R> {
         }
     }
 
-    /// Returns the number of keys, or `u64::MAX` if there are more. Visits all nodes.
+    /// Returns the number of keys (prefixes that the tree keeps, with or without a route), or
+    /// `u64::MAX` if there are more. Visits all nodes.
     pub(crate) fn key_count(&self) -> u64
         ensures { result ≡ saturated_count (length (slots_of (shape_of K.network self.now))) }
     {
@@ -52,7 +55,8 @@ impl<K: PackedPrefix, R> Tree<K, R> {
         }
     }
 
-    /// Returns the number of routes, or `u64::MAX` if there are more. Visits all nodes.
+    /// Returns the number of routes, which is that of the prefixes with a route, or `u64::MAX` if
+    /// there are more. Visits all nodes.
     #[tactic(auto, using(crate::proofs::FillLaws::count_rooted))]
     pub(crate) fn route_count(&self) -> u64
         ensures { result ≡ saturated_count (length (all_routes (shape_of K.network self.now))) }

@@ -1,46 +1,50 @@
-//! Prefetching descents to eight prefixes at once, before routes are put or taken there. The
-//! processor waits for the nodes of all eight together, and not for one after the other.
-//! `RadixStore::prefetch` calls [`Descents::run`]; read [`Descent`] first.
+//! Descents: walks down the trees towards eight prefixes at once, which only read the nodes, before
+//! routes are put or taken there. So the processor fetches the nodes of all eight into its cache
+//! together, and doesn't wait for one after the other. `RadixStore::prefetch` calls
+//! [`Descents::run`]; read [`Descent`] first.
 
 use crate::tree::Tree;
 use ip_prefix::Prefix;
 use prefix_store::{PackedPrefix, V4Prefix};
 
-/// The greatest number of bits of a prefix that a descent reads. Nodes whose prefixes have as many
-/// bits or more aren't passed.
+/// The greatest number of leading bits of a prefix that a descent (a walk that reads nodes into the
+/// processor's cache) reads. It doesn't go on below nodes whose prefixes have as many bits or more.
 const MOST_BITS: u8 = 64;
 
-/// The greatest number of nodes that a descent passes: more than lie above the prefixes of the
-/// Internet's tables. A node below these isn't prefetched, and the call after the descent waits for
-/// it.
+/// The greatest number of nodes that a descent (a walk that reads nodes into the processor's cache)
+/// passes: more than lie above the prefixes of the Internet's tables. A node below these isn't read
+/// in advance, and the call after the descent waits for it.
 const MOST_NODES: u8 = 32;
 
-/// A descent in a tree to the node of a prefix, or to the node where its search would end. It reads
-/// one bit for each node, of the first [`MOST_BITS`] of the prefix, and compares no prefixes, so it
-/// finds out nothing about the prefix.
+/// A walk down a tree towards a prefix, which reads nodes so that they are in the processor's
+/// cache, and finds out nothing. At each node it goes left or right by one bit of the prefix, of
+/// its first [`MOST_BITS`], and compares no prefixes. It ends at the node of the prefix, or where a
+/// search for it would end.
 #[derive(Drop)]
 pub(crate) struct Descent<'a, R> {
-    /// The node that the descent has come to.
+    /// The subtree that the descent has come to.
     root: DescentNode<'a, R>,
-    /// The first 64 bits of the prefix, filled up with zeros.
+    /// The first 64 bits of the prefix, the first one highest, filled up with zeros.
     bits: u64,
-    /// The number of bits that the descent reads, at most [`MOST_BITS`].
+    /// The number of leading bits of the prefix that may be read: its length, but at most
+    /// [`MOST_BITS`]. The descent doesn't go below a node whose prefix has as many bits or more.
     depth: u8,
 }
 
-/// The subtree that a descent has come to, or the end of the descent.
+/// The subtree that a descent (a walk that reads nodes into the processor's cache) has come to, or
+/// its end.
 #[derive(Drop)]
 pub(crate) enum DescentNode<'a, R> {
-    /// No subtree.
+    /// No subtree: the descent reads nothing.
     Ended,
-    /// A subtree of IPv4 prefixes.
+    /// A subtree of IPv4 prefixes, whose root is to be read next.
     V4(&'a Tree<V4Prefix, R>),
-    /// A subtree of IPv6 prefixes.
+    /// A subtree of IPv6 prefixes, whose root is to be read next.
     V6(&'a Tree<Prefix, R>),
 }
 
 impl<'a, R> Descent<'a, R> {
-    /// Returns a descent that passes no node.
+    /// Returns a descent that has ended before it began, and reads no node.
     pub(crate) fn ended() -> Self {
         Descent {
             root: DescentNode::Ended,
@@ -49,7 +53,9 @@ impl<'a, R> Descent<'a, R> {
         }
     }
 
-    /// Returns a descent from `root` to `prefix`. They must be of one family.
+    /// Returns a descent that starts at `root`, the root of a tree, and goes towards `prefix`.
+    /// Expects the tree to be of the prefix's family; otherwise the descent only reads nodes that
+    /// don't help.
     pub(crate) fn new(root: DescentNode<'a, R>, prefix: &Prefix) -> Self {
         Descent {
             root,
@@ -58,8 +64,9 @@ impl<'a, R> Descent<'a, R> {
         }
     }
 
-    /// Advances to a child of the current node, and returns `true`. Returns `false` if there is
-    /// none to advance to.
+    /// Goes on to a child of the current node, and returns `true`. Returns `false`, and stays, if
+    /// the node has no children, if its prefix has as many bits as may be read, or if the descent
+    /// has ended.
     #[inline]
     fn advance(&mut self) -> bool {
         let next = match &self.root {
@@ -78,8 +85,11 @@ impl<'a, R> Descent<'a, R> {
     }
 }
 
-/// Returns the child of the root of `tree` on the side of the bit of `bits` that follows the root's
-/// prefix. Returns `None` if the root has no children, or if its prefix has `depth` bits or more.
+/// Returns the child of the root of `tree` that a descent to a prefix goes on to. `bits` has the
+/// first 64 bits of that prefix, whose bit after the root's own bits selects the side: right if it
+/// is 1. `depth`, at most 64, is the number of bits that may be read. Returns `None` if the root
+/// has no children, or if its own prefix has `depth` bits or more, so that a descent in a long IPv6
+/// prefix ends there.
 #[inline]
 fn child_towards<'a, K: PackedPrefix, R>(
     tree: &'a Tree<K, R>,
@@ -98,7 +108,8 @@ fn child_towards<'a, K: PackedPrefix, R>(
     Some(if is_right { right } else { left })
 }
 
-/// Eight descents that advance together.
+/// Eight walks down trees, each towards a prefix of its own, that advance together, so that the
+/// processor waits for their nodes at the same time.
 #[derive(Drop)]
 pub(crate) struct Descents<'a, R> {
     pub(crate) first: Descent<'a, R>,
@@ -112,8 +123,9 @@ pub(crate) struct Descents<'a, R> {
 }
 
 impl<'a, R> Descents<'a, R> {
-    /// Advances the descents until all have ended, or by [`MOST_NODES`] nodes, and returns the
-    /// number of nodes that the longest passed.
+    /// Advances the eight descents by one node at a time until none can advance, or until
+    /// [`MOST_NODES`] nodes were passed. Returns the number of nodes that the longest passed; a
+    /// caller that uses it keeps the compiler from removing the reads.
     pub(crate) fn run(&mut self) -> u64 {
         'nodes: for passed in 0..MOST_NODES {
             if !self.advance_all() {
@@ -123,7 +135,8 @@ impl<'a, R> Descents<'a, R> {
         u64::from(MOST_NODES)
     }
 
-    /// Advances each descent by a node, and returns `true` if one of them could advance.
+    /// Advances each of the eight descents by one node. Returns `true` if at least one of them
+    /// advanced, and `false` if none can.
     #[inline]
     fn advance_all(&mut self) -> bool {
         let first_four = self.first.advance()

@@ -1,5 +1,5 @@
-//! Methods that remove a key and the nodes that aren't needed without it. `RadixStore::discard`
-//! calls [`Tree::discard`]; read that method first.
+//! Removing a key (a prefix that the tree keeps, with or without a route), and the nodes that
+//! aren't needed without it. `RadixStore::discard` calls [`Tree::discard`]; read that first.
 
 ghost use Rattle.std.specs.Prelude.{◌≡◌, None, List, Bool};
 ghost use Rattle.ip_prefix.specs.Turns.{way};
@@ -11,8 +11,9 @@ use prefix_store::PackedPrefix;
 use std::mem;
 
 impl<K: PackedPrefix, R: Drop> Tree<K, R> {
-    /// Removes the key `key` and its route, and the nodes that aren't needed without it. Does
-    /// nothing if `key` isn't a key. Allocates no memory.
+    /// Removes the prefix `key` from the keys that the tree keeps, drops its route if it has one,
+    /// and removes the nodes that aren't needed without it. Does nothing if the tree doesn't keep
+    /// `key`. Allocates no memory.
     pub(crate) fn discard(&mut self, key: &Prefix)
         requires shaped { IsRadixTree (shape_of K.network self.old) }
         requires marked { HasCorrectMarks self.old }
@@ -60,7 +61,8 @@ impl<K: PackedPrefix, R: Drop> Tree<K, R> {
     }
 }
 
-/// Empties the tree, whose only key is `prefix`, if that is `key`.
+/// Makes the tree empty if `prefix`, the only prefix that it keeps, is `key`, and drops the route
+/// there; otherwise does nothing. Requires that the tree has no node but that of `prefix`.
 fn discard_leaf<K: PackedPrefix, R: Drop>(tree: &mut Tree<K, R>, prefix: K, key: &Prefix)
     requires { IsLeaf prefix tree.old }
     ensures shaped { IsRadixTree (shape_of K.network tree.new) }
@@ -75,8 +77,9 @@ fn discard_leaf<K: PackedPrefix, R: Drop>(tree: &mut Tree<K, R>, prefix: K, key:
     }
 }
 
-/// Replaces the root by its only child. Does nothing if the root is a key, or has no or two
-/// children.
+/// Replaces the root of a tree by its only child, after the child on the other side was removed.
+/// Does nothing if the root's prefix is a key (one that the tree keeps), or if the root has no
+/// children or two.
 fn replace_by_only_child<K: PackedPrefix, R: Drop>(tree: &mut Tree<K, R>)
     requires shaped { IsRadixTreeBelowRoot (shape_of K.network tree.old) }
     requires marked { HasCorrectMarks tree.old }
@@ -112,7 +115,9 @@ fn replace_by_only_child<K: PackedPrefix, R: Drop>(tree: &mut Tree<K, R>)
     }
 }
 
-/// Moves the root out of its heap node if it is a key without children, and frees the node.
+/// Moves the root out of its heap node, and frees that node, if the root's prefix is a key (one
+/// that the tree keeps) and has no keys below it any more. Otherwise does nothing. Keys and routes
+/// stay as they are.
 fn unbox_leaf<K: PackedPrefix, R: Drop>(tree: &mut Tree<K, R>)
     requires { HasCorrectMarks tree.old }
     ensures marked { HasCorrectMarks tree.new }

@@ -1,5 +1,6 @@
-//! Look-ups in a tree: of a key, of the longest prefix that covers another, and of the routes after
-//! a prefix. `radix_store.rt` calls them. Read [`Tree::slot`] first.
+//! Look-ups in a tree: of a prefix itself, of the longest prefix that covers another, and of the
+//! routes after a prefix, in the order of prefixes. `radix_store.rt` calls them. Read
+//! [`Tree::slot`] first.
 
 ghost use Rattle.std.specs.Prelude.{◌≡◌, ◌+◌, ◌≤◌, Some, None, MatchOption, vec_capacity, option_map, option_copied};
 ghost use Rattle.ip_prefix.specs.Turns.{way};
@@ -12,8 +13,8 @@ use ip_prefix::{Prefix, Turn};
 use prefix_store::PackedPrefix;
 
 impl<K: PackedPrefix, R> Tree<K, R> {
-    /// Returns the slot at `key`: `None` if it isn't a key, `Some(None)` if it is a key without a
-    /// route, or else the route.
+    /// Looks up the prefix `key` itself. Returns `None` if the tree doesn't keep it, `Some(None)`
+    /// if the tree keeps it without a route, or else `Some` of its route.
     #[tactic(auto, using(crate::proofs::TreeLaws::at_left_under, crate::proofs::TreeLaws::at_right_under))]
     pub(crate) fn slot(&self, key: &Prefix) -> Option<Option<&R>>
         requires { IsRadixTree (shape_of K.network self.now) }
@@ -48,8 +49,10 @@ impl<K: PackedPrefix, R> Tree<K, R> {
         }
     }
 
-    /// Returns the route at the longest prefix that covers `key`, with that prefix, or `None` if no
-    /// prefix with a route covers it. Adds the number of nodes that it visits to `met`.
+    /// Returns the route at the longest prefix that covers the prefix `key` (an address is looked
+    /// up as a prefix of full length), with that prefix. Returns `None` if no prefix with a route
+    /// covers `key`. Adds the number of nodes that it visits to `met`; requires that the sum can't
+    /// overflow.
     pub(crate) fn longest(&self, key: &Prefix, met: &mut u32) -> Option<(Prefix, &R)>
         requires { met.old + visit_count (shape_of K.network self.now) (way key.now) ≤ u32.MAX }
         ensures found { option_map (λ p. (p.0, p.1.now)) result
@@ -93,8 +96,9 @@ impl<K: PackedPrefix, R> Tree<K, R> {
         }
     }
 
-    /// Returns the route at the least prefix, with that prefix, or `None` if there is no route.
-    /// Skips nodes without a route below them.
+    /// Returns the route at the least prefix of those that have one, with that prefix, or `None` if
+    /// the tree has no routes. A prefix is less than those it covers, and those on the left of a
+    /// node are less than those on its right. Skips subtrees without a route.
     pub(crate) fn first(&self) -> Option<(Prefix, &R)>
         requires { HasCorrectMarks self.now }
         ensures { MatchOption result (first (shape_of K.network self.now) ≡ None)
@@ -128,7 +132,8 @@ impl<K: PackedPrefix, R> Tree<K, R> {
     }
 
     /// Returns the route at the least prefix that is greater than `low`, with that prefix, or
-    /// `None` if there is none.
+    /// `None` if there is none. `low` needn't be in the tree. Prefixes are ordered by address and
+    /// then by length.
     pub(crate) fn after(&self, low: &Prefix) -> Option<(Prefix, &R)>
         requires { HasCorrectMarks self.now }
         ensures { MatchOption result (first_after (shape_of K.network self.now) low.now ≡ None)
@@ -172,8 +177,9 @@ impl<K: PackedPrefix, R> Tree<K, R> {
         }
     }
 
-    /// Appends all routes with their prefixes to `found`, in the order of prefixes, up to its
-    /// capacity. Skips nodes without a route below them.
+    /// Appends all routes with their prefixes to `found`, in ascending order of prefixes, and stops
+    /// when the capacity of `found` is used up. So it allocates no memory. Skips subtrees without a
+    /// route.
     pub(crate) fn append_routes<'a>(&'a self, found: &mut Vec<(Prefix, &'a R)>)
         requires { HasCorrectMarks self.now }
         ensures found { dereferenced found.new.items ≡
@@ -208,8 +214,9 @@ impl<K: PackedPrefix, R> Tree<K, R> {
         }
     }
 
-    /// Appends the routes at prefixes greater than `low`, with these prefixes, to `found`, in the
-    /// order of prefixes, up to its capacity.
+    /// Appends the routes at prefixes greater than `low`, with these prefixes, to `found`, in
+    /// ascending order of prefixes, and stops when the capacity of `found` is used up. So it
+    /// allocates no memory. `low` needn't be in the tree.
     pub(crate) fn append_routes_after<'a>(&'a self, low: &Prefix, found: &mut Vec<(Prefix, &'a R)>)
         requires { HasCorrectMarks self.now }
         ensures found { dereferenced found.new.items ≡

@@ -1,4 +1,5 @@
-//! Constructors of nodes, which `puts.rt` and `routes.rt` call. Read [`new_leaf`] first.
+//! Constructors of the nodes of a tree, which `puts.rt` and `routes.rt` call. Read [`new_leaf`]
+//! first.
 
 ghost use Rattle.std.specs.Prelude.{◌≡◌, ◌⊎◌, ◌||◌, Some, None, false, is_some, IfOk, IfErr, OnOk, OnErr};
 ghost use Rattle.ip_prefix.specs.Turns.{way};
@@ -12,7 +13,8 @@ use prefix_store::PackedPrefix;
 use std::alloc::{AllocError, Global};
 use std::mem;
 
-/// Returns a tree whose only key is `prefix`, with `route`, and leaves `None` in `route`.
+/// Returns a tree that keeps one prefix, `prefix`, with the route that `route` holds, or without a
+/// route if that is `None`. Leaves `None` in `route`. Allocates no memory.
 pub(crate) fn new_leaf<K: PackedPrefix, R: Drop>(prefix: K, route: &mut Option<R>) -> Tree<K, R>
     ensures leaf { IsLeaf prefix result }
     ensures marked { HasCorrectMarks result }
@@ -26,7 +28,8 @@ pub(crate) fn new_leaf<K: PackedPrefix, R: Drop>(prefix: K, route: &mut Option<R
     }
 }
 
-/// Converts a tree of one key to the route of that key.
+/// Takes apart a tree that keeps one prefix, and returns the route there, or `None` if it has none.
+/// A tree of any other form gives `None`.
 pub(crate) fn leaf_to_route<K: PackedPrefix, R: Drop>(tree: Tree<K, R>) -> Option<R>
     ensures { result ≡ leaf_route tree }
 {
@@ -36,7 +39,8 @@ pub(crate) fn leaf_to_route<K: PackedPrefix, R: Drop>(tree: Tree<K, R>) -> Optio
     }
 }
 
-/// Converts a tree of one key to the slot of that key.
+/// Converts a tree that keeps one prefix to the slot (what a heap node holds of its prefix) for it:
+/// `Filled` with its route, or `Vacant` if it has none.
 pub(crate) fn leaf_to_slot<K: PackedPrefix, R: Drop>(tree: Tree<K, R>) -> Slot<R>
     ensures slot { slot_of result ≡ Some (leaf_route tree) }
     ensures filled { is_filled result ≡ is_some (leaf_route tree) }
@@ -47,7 +51,8 @@ pub(crate) fn leaf_to_slot<K: PackedPrefix, R: Drop>(tree: Tree<K, R>) -> Slot<R
     }
 }
 
-/// Returns a node that has no key and no children yet. Fails if memory allocation fails.
+/// Allocates a heap node whose prefix isn't a key (one that the tree keeps), without children, for
+/// the caller to fill. Fails if memory allocation fails.
 pub(crate) fn new_node<K: PackedPrefix, R: Drop>(
     alloc: Global,
 ) -> Result<Box<Node<K, R>>, AllocError>
@@ -65,9 +70,10 @@ pub(crate) fn new_node<K: PackedPrefix, R: Drop>(
     Ok(node)
 }
 
-/// Puts a new branch of `prefix` above the root, which becomes its child on the side `side`, with
-/// `leaf` as the child on the other side. On error, which means that memory allocation fails, the
-/// tree is unchanged, and `leaf` is returned.
+/// Puts a new branch with the prefix `prefix` above the root. The old tree becomes its child on the
+/// side `side`, which is `Left` or `Right`, and `leaf`, a tree of one prefix, the child on the
+/// other side. On error, which means that memory allocation fails, the tree is unchanged, and
+/// `leaf` is returned with the error.
 pub(crate) fn insert_fork_above<K: PackedPrefix, R: Drop>(
     tree: &mut Tree<K, R>,
     prefix: K,
@@ -112,7 +118,9 @@ pub(crate) fn insert_fork_above<K: PackedPrefix, R: Drop>(
     }
 }
 
-/// Replaces the tree by the node of `prefix`, with `below` as its only child, on the side `side`.
+/// Replaces the tree by `node` with the prefix `prefix`, and with `below` as its only child, on the
+/// side `side`: left if that is `Left`, and otherwise right. The old tree, and children that `node`
+/// had, are dropped; the slot of `node` is kept.
 pub(crate) fn replace_root<K: PackedPrefix, R: Drop>(
     tree: &mut Tree<K, R>,
     prefix: K,

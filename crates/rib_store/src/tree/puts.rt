@@ -1,5 +1,5 @@
-//! Methods that put a route at a prefix, and make the prefix a key.
-//! [`RadixStore`](crate::RadixStore) calls [`Tree::put`]; read that method first.
+//! Putting a route at a prefix that the tree may not keep yet. [`RadixStore`](crate::RadixStore)
+//! calls [`Tree::put`]; read that first.
 
 ghost use Rattle.std.specs.Prelude.{◌≡◌, ◌≢◌, ◌||◌, Some, None, true, is_some, not, OnOk, OnErr, IfOk};
 ghost use Rattle.ip_prefix.specs.Turns.{way, turn_of};
@@ -18,8 +18,9 @@ use std::alloc::{AllocError, Global};
 use std::mem;
 
 impl<K: PackedPrefix, R: Drop> Tree<K, R> {
-    /// Swaps the route at `key` and `route`, either of which may be `None`, and makes `key` a key.
-    /// Returns `true` if it wasn't one before. Fails if memory allocation fails; the tree and
+    /// Swaps the route at the prefix `key` and `route`, either of which may be `None`: `route`
+    /// holds the old route afterwards. The tree keeps `key` from then on, even without a route.
+    /// Returns `true` if it didn't keep it before. Fails if memory allocation fails; the tree and
     /// `route` are unchanged then.
     #[cycle(put)]
     pub(crate) fn put(
@@ -88,9 +89,11 @@ impl<K: PackedPrefix, R: Drop> Tree<K, R> {
     }
 }
 
-/// Swaps the route at `key` in the child `below` and `route`, as [`Tree::put`] does, and sets the
-/// mark `routed` of the child's parent to the mark of the child. The parent must have no routes
-/// elsewhere. Fails if memory allocation fails; all are unchanged then.
+/// Swaps the route at the prefix `key` in the child `below` and `route`, as [`Tree::put`] does, and
+/// then sets the parent's mark `routed` (whether a key in that subtree has a route) to that of the
+/// child, so the parent is to have no routes elsewhere. Returns `true` if the tree didn't keep
+/// `key` before. Fails if memory allocation fails; `routed`, `below` and `route` are unchanged
+/// then.
 #[cycle(put)]
 #[inline(never)]
 fn put_and_update_mark<K: PackedPrefix, R: Drop>(
@@ -123,8 +126,10 @@ fn put_and_update_mark<K: PackedPrefix, R: Drop>(
     Ok(made)
 }
 
-/// Swaps the route at `key` and `route`, as [`Tree::put`] does. `key` must not be below the root,
-/// unless the root has no children.
+/// Swaps the route at the prefix `key` and `route`, as [`Tree::put`] does, at the root, where the
+/// way down to `key` ends: requires that `key` isn't below the root, unless the root has no
+/// children. Returns `true` if the tree didn't keep `key` before. Fails if memory allocation fails;
+/// the tree and `route` are unchanged then.
 #[inline(never)]
 fn put_at_root<K: PackedPrefix, R: Drop>(
     tree: &mut Tree<K, R>,
@@ -188,9 +193,11 @@ fn put_at_root<K: PackedPrefix, R: Drop>(
     }
 }
 
-/// Makes `key` a key with `route`, above the root or beside it below a new branch, and returns
-/// `true`. `prefix` is the prefix of the root, which must not cover `key`. Fails if memory
-/// allocation fails; the tree and `route` are unchanged then.
+/// Adds the prefix `key`, which the tree doesn't keep, with the route of `route` or without one: as
+/// a new root if `key` covers `prefix`, or else beside the old root under a new branch. `prefix` is
+/// that of the root; requires that it doesn't cover `key`. Leaves `None` in `route`, and returns
+/// `true`, which means that `key` is new, for callers that return it. Fails if memory allocation
+/// fails; the tree and `route` are unchanged then.
 fn insert_outside<K: PackedPrefix, R: Drop>(
     tree: &mut Tree<K, R>,
     prefix: &Prefix,
@@ -233,8 +240,10 @@ fn insert_outside<K: PackedPrefix, R: Drop>(
     }
 }
 
-/// Makes the prefix of the branch at the root, `prefix`, a key with `route`, and returns `true`.
-/// Fails if memory allocation fails; the tree and `route` are unchanged then.
+/// Makes the tree keep `prefix`, the prefix of the branch (a node whose prefix the tree doesn't
+/// keep) at its root, with the route of `route` or without one. Leaves `None` in `route`, and
+/// returns `true`, which means that the tree didn't keep `prefix` before. Fails if memory
+/// allocation fails; the tree and `route` are unchanged then.
 fn put_at_fork<K: PackedPrefix, R: Drop>(
     tree: &mut Tree<K, R>,
     prefix: K,
@@ -266,8 +275,9 @@ fn put_at_fork<K: PackedPrefix, R: Drop>(
     Ok(true)
 }
 
-/// Swaps the route at `key` and `route`, as [`Tree::put`] does, in a tree whose only key is
-/// `prefix`. Returns `true` if `key` wasn't a key before.
+/// Swaps the route at the prefix `key` and `route`, as [`Tree::put`] does, in a tree that keeps one
+/// prefix, `prefix`. Returns `true` if `key` is a new prefix there, and `false` if it is `prefix`.
+/// Fails if memory allocation fails; the tree and `route` are unchanged then.
 fn put_at_leaf<K: PackedPrefix, R: Drop>(
     tree: &mut Tree<K, R>,
     prefix: K,

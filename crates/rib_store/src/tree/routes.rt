@@ -1,5 +1,5 @@
-//! Methods that put and take the routes of keys that are there, without allocating memory.
-//! `RadixStore::exchange` calls [`Tree::exchange`]; read that method first.
+//! Putting and taking the routes of prefixes that the tree keeps already, without allocating
+//! memory. `RadixStore::exchange` calls [`Tree::exchange`]; read that first.
 
 ghost use Rattle.std.specs.Prelude.{◌≡◌, ◌+◌, ◌<◌, ◌≤◌, ◌⊎◌, ◌++◌, Some, None, true, false, is_some, not, option_to_list, IsSome, length, map, vec_capacity};
 ghost use Rattle.ip_prefix.specs.Turns.{way};
@@ -14,7 +14,9 @@ use prefix_store::PackedPrefix;
 use std::mem;
 
 impl<K: PackedPrefix, R: Drop> Tree<K, R> {
-    /// Swaps the route at `key`, which must be a key, and `route`, either of which may be `None`.
+    /// Swaps the route at the prefix `key` and `route`, either of which may be `None`: `route`
+    /// holds the old route afterwards. Requires that the tree keeps `key`, with or without a route.
+    /// Allocates no memory.
     #[cycle(exchange)]
     pub(crate) fn exchange(&mut self, key: &Prefix, route: &mut Option<R>)
         requires shaped { IsRadixTree (shape_of K.network self.old) }
@@ -85,8 +87,9 @@ impl<K: PackedPrefix, R: Drop> Tree<K, R> {
 }
 
 impl<K: PackedPrefix, R: Drop> Tree<K, R> {
-    /// Moves all routes to the end of `taken`, in the order of their prefixes. The keys stay.
-    /// `taken` must have spare capacity for all routes. Skips nodes without a route below them.
+    /// Moves all routes to the end of `taken`, in ascending order of their prefixes. The tree keeps
+    /// the prefixes, without routes. Requires that `taken` has spare capacity for all routes. Skips
+    /// subtrees without a route. Allocates no memory.
     pub(crate) fn drain_routes(&mut self, taken: &mut Vec<R>)
         requires marked { HasCorrectMarks self.old }
         requires room { length taken.old.items + length (all_routes (shape_of K.network self.old))
@@ -129,9 +132,10 @@ impl<K: PackedPrefix, R: Drop> Tree<K, R> {
     }
 }
 
-/// Swaps the route at `key` in the child `below` and `route`, as [`Tree::exchange`] does, and sets
-/// the mark `routed` of the child's parent to the mark of the child. The parent must have no routes
-/// elsewhere.
+/// Swaps the route at the prefix `key` in the child `below` and `route`, as [`Tree::exchange`]
+/// does, and then sets the parent's mark `routed` (whether a key in that subtree has a route) to
+/// that of the child, so the parent is to have no routes elsewhere. Requires that `below` keeps
+/// `key`, with or without a route.
 #[cycle(exchange)]
 #[inline(never)]
 fn exchange_and_update_mark<K: PackedPrefix, R: Drop>(
@@ -156,8 +160,8 @@ fn exchange_and_update_mark<K: PackedPrefix, R: Drop>(
     *routed = below.has_routes();
 }
 
-/// Swaps the route at `prefix`, the only key of the tree, and `route`, either of which may be
-/// `None`.
+/// Swaps the route at `prefix`, the only prefix that the tree keeps, and `route`, either of which
+/// may be `None`: `route` holds the old route afterwards. Requires that the tree has no other node.
 pub(crate) fn exchange_leaf<K: PackedPrefix, R: Drop>(
     tree: &mut Tree<K, R>,
     prefix: K,
@@ -176,8 +180,8 @@ pub(crate) fn exchange_leaf<K: PackedPrefix, R: Drop>(
 }
 
 impl<R: Drop> Slot<R> {
-    /// Swaps the route in the slot, which must be of a key, and `route`, either of which may be
-    /// `None`.
+    /// Swaps the route in the slot and `route`, either of which may be `None`: `route` holds the
+    /// old route afterwards. Requires that the node's prefix is a key (one that the tree keeps).
     pub(crate) fn exchange(&mut self, route: &mut Option<R>)
         requires { IsSome (slot_of self.old) }
         ensures slot { slot_of self.new ≡ Some route.old }
@@ -192,8 +196,9 @@ impl<R: Drop> Slot<R> {
         }
     }
 
-    /// Swaps the route in the slot and `route`, either of which may be `None`, and makes the slot
-    /// one of a key. Returns `true` if it wasn't before; `route` becomes `None` then.
+    /// Swaps the route in the slot and `route`, either of which may be `None`, and makes the node's
+    /// prefix a key (one that the tree keeps). Returns `true` if it wasn't a key before; `route` is
+    /// `None` then. Otherwise `route` holds the old route.
     pub(crate) fn put(&mut self, route: &mut Option<R>) -> bool
         ensures slot { slot_of self.new ≡ Some route.old }
         ensures taken_out { route.new ≡ route_of_slot (slot_of self.old) }
@@ -207,8 +212,9 @@ impl<R: Drop> Slot<R> {
         made
     }
 
-    /// Moves the route, if there is one, to the end of `taken`, which must have spare capacity for
-    /// it. The key stays.
+    /// Moves the route in the slot, if there is one, to the end of `taken`. Requires that `taken`
+    /// has spare capacity for it. The node's prefix stays a key (one that the tree keeps, with or
+    /// without a route).
     fn drain_route(&mut self, taken: &mut Vec<R>)
         requires { length taken.old.items < vec_capacity taken.old ⊎ is_filled self.old ≡ false }
         ensures taken { taken.new.items ≡ taken.old.items
@@ -223,7 +229,8 @@ impl<R: Drop> Slot<R> {
         }
     }
 
-    /// Makes the slot one of no key, and drops its route.
+    /// Makes the slot `NoKey`, so that the tree no longer keeps the node's prefix, and drops the
+    /// route there if there is one.
     pub(crate) fn remove_key(&mut self)
         ensures { slot_of self.new ≡ None }
     {
