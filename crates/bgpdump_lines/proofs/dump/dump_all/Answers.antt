@@ -100,4 +100,4 @@ steps-smaller g c =
 pub returns-in_err-next-clause-flushed : goal.returns-in_err-next-clause-flushed
 returns-in_err-next-clause-flushed g c = λ failed.
     let p = err_from_is_err_and c.from_residual-in_err-next.result c.from_residual-in_err-next.ensures.1 in
-    AreFlushed-failed _ _ _ c.in_err-next.field-0.0 c.in_ok-flush_before_waiting.ensures.flushed c.in_err-next.ensures.buffered (rw (p.1, p.2) at failed)
+    AreFlushed-failed _ _ _ _ c.in_err-next.field-0.0 c.in_ok-flush_before_waiting.ensures.flushed c.in_err-next.ensures.buffered (rw (p.1, p.2) at failed)

@@ -68,4 +68,4 @@ returns-in_err-flush_before_record-clause-steps g c = λ from left s stands.
 pub returns-in_err-event-clause-flushed : goal.returns-in_err-event-clause-flushed
 returns-in_err-event-clause-flushed g c = λ failed.
     let p = err_from_is_err_and c.from_residual-in_err-event.result c.from_residual-in_err-event.ensures.1 in
-    AreFlushed-phase c.args.self.now.source.phase _ _ _ c.in_err-event.field-0.0 c.in_ok-flush_before_record.ensures.flushed c.in_err-event.ensures.buffered (λ e. (c.in_err-event.ensures.ended e).0) (λ e. (c.in_err-event.ensures.spent e).0) (rw (p.1, p.2) at failed)
+    AreFlushed-phase _ c.args.self.now.source.phase _ _ _ c.in_err-event.field-0.0 c.in_ok-flush_before_record.ensures.flushed c.in_err-event.ensures.buffered (λ e. (c.in_err-event.ensures.ended e).0) (λ e. (c.in_err-event.ensures.spent e).0) (rw (p.1, p.2) at failed)
