@@ -13,21 +13,20 @@ use Rattle.bgpdump_lines.specs.Flushing.{AreFlushed}
 use Rattle.bgpdump_lines.specs.WrittenSoFar.{IsReadyToRead, is_read_fault, outcome_of_source_fault}
 
 -- a read that failed was one of a record that isn't buffered, so both outputs were flushed before it
-pub AreFlushed-failed : (A : Type 0) → (buffered : List ℕ) (out err : Option (List ℕ)) (fault : SourceFault) → IsReadyToRead buffered out err → (HoldsRecord buffered → is_err_read {A = Next} (Err fault) ≡ false)
-    → IsTrue (is_read_fault {A = A} (Err (outcome_of_source_fault fault))) → AreFlushed out err
-AreFlushed-failed A buffered out err Read (inl holds) sound failed = absurd (cc (sound holds))
-AreFlushed-failed A buffered out err Read (inr flushed) sound failed = flushed
-AreFlushed-failed A buffered out err InputTooLong ready sound failed = absurd (cc failed)
-AreFlushed-failed A buffered out err Memory ready sound failed = absurd (cc failed)
-AreFlushed-failed A buffered out err Spent ready sound failed = absurd (cc failed)
+pub AreFlushed-failed : (A : Type 0) → (buffered : List ℕ) (out err : Option (List ℕ)) (fault : SourceFault) (answer : Result Next SourceFault) → answer ≡ Err fault → IsReadyToRead buffered out err
+    → (HoldsRecord buffered → is_err_read answer ≡ false) → IsTrue (is_read_fault {A = A} (Err (outcome_of_source_fault fault))) → AreFlushed out err
+AreFlushed-failed A buffered out err Read answer is (inl holds) sound failed = absurd (cc (rw is at (sound holds)))
+AreFlushed-failed A buffered out err Read answer is (inr flushed) sound failed = flushed
+AreFlushed-failed A buffered out err InputTooLong answer is ready sound failed = absurd (cc failed)
+AreFlushed-failed A buffered out err Memory answer is ready sound failed = absurd (cc failed)
+AreFlushed-failed A buffered out err Spent answer is ready sound failed = absurd (cc failed)
 
 -- a source that reads no more has no failed read
-pub AreFlushed-phase : (A : Type 0) → (at : Phase) (buffered : List ℕ) (out err : Option (List ℕ)) (fault : SourceFault) → (at ≡ phase.Reading → IsReadyToRead buffered out err)
-    → (HoldsRecord buffered → is_err_read {A = Next} (Err fault) ≡ false)
-    → (at ≡ phase.Ended → Err {A = Next} fault ≡ Ok End) → (at ≡ phase.Spent → Err {A = Next} fault ≡ Err Spent)
+pub AreFlushed-phase : (A : Type 0) → (at : Phase) (buffered : List ℕ) (out err : Option (List ℕ)) (fault : SourceFault) (answer : Result Next SourceFault) → answer ≡ Err fault
+    → (at ≡ phase.Reading → IsReadyToRead buffered out err) → (HoldsRecord buffered → is_err_read answer ≡ false) → (at ≡ phase.Ended → answer ≡ Ok End) → (at ≡ phase.Spent → answer ≡ Err Spent)
     → IsTrue (is_read_fault {A = A} (Err (outcome_of_source_fault fault))) → AreFlushed out err
-AreFlushed-phase A phase.Reading buffered out err fault ready sound ended spent failed = AreFlushed-failed A buffered out err fault (ready refl) sound failed
-AreFlushed-phase A phase.Ended buffered out err fault ready sound ended spent failed = absurd (cc (ended refl))
-AreFlushed-phase A phase.Spent buffered out err fault ready sound ended spent failed =
-    let same : fault ≡ Spent = cc (spent refl) in
+AreFlushed-phase A phase.Reading buffered out err fault answer is ready sound ended spent failed = AreFlushed-failed A buffered out err fault answer is (ready refl) sound failed
+AreFlushed-phase A phase.Ended buffered out err fault answer is ready sound ended spent failed = absurd (cc (is, ended refl))
+AreFlushed-phase A phase.Spent buffered out err fault answer is ready sound ended spent failed =
+    let same : fault ≡ Spent = cc (is, spent refl) in
     absurd (cc (rw same at failed))

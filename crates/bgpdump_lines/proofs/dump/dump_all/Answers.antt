@@ -1,4 +1,4 @@
-use Rattle.std.proofs.Common.{rules, arith, ◌≡◌, false, ap, refl, inl, inr}
+use Rattle.std.proofs.Common.{rules, arith, ◌≡◌, Bool, false, Err, ap, refl, inl, inr}
 use Rattle.std.proofs.lemmas.Result.{err_from_is_err_and}
 use Rattle.mrt_wire.specs.declared.next.Next.{Next}
 use Rattle.mrt_wire.specs.declared.next.Next.TheVariants.{Event, Bad, End}
@@ -100,4 +100,5 @@ steps-smaller g c =
 pub returns-in_err-next-clause-flushed : goal.returns-in_err-next-clause-flushed
 returns-in_err-next-clause-flushed g c = λ failed.
     let p = err_from_is_err_and c.from_residual-in_err-next.result c.from_residual-in_err-next.ensures.1 in
-    AreFlushed-failed _ _ _ _ c.in_err-next.field-0.0 c.in_ok-flush_before_waiting.ensures.flushed c.in_err-next.ensures.buffered (rw (p.1, p.2) at failed)
+    AreFlushed-failed Bool (g.I.Input.buffered c.steps.input) (g.O.Output.pending c.flush_before_waiting.new.out) (g.E.Output.pending c.flush_before_waiting.new.err) c.in_err-next.field-0.0 (Err c.in_err-next.field-0.0) refl
+    c.in_ok-flush_before_waiting.ensures.flushed c.in_err-next.ensures.buffered (rw (p.1, p.2) at failed)

@@ -1,4 +1,4 @@
-use Rattle.std.proofs.Common.{rules, arith, ap, ◌≡◌, ◌∙◌, ◌<◌, true, is_ok}
+use Rattle.std.proofs.Common.{rules, arith, ap, refl, Bool, Err, ◌≡◌, ◌∙◌, ◌<◌, true, is_ok}
 use Rattle.std.proofs.lemmas.Result.{err_from_is_err_and}
 use Rattle.rib_player.specs.Timeline.{end_of}
 use Rattle.bgpdump_lines.specs.declared.outcome.Outcome.TheVariants as outcome
@@ -68,4 +68,5 @@ returns-in_err-flush_before_record-clause-steps g c = λ from left s stands.
 pub returns-in_err-event-clause-flushed : goal.returns-in_err-event-clause-flushed
 returns-in_err-event-clause-flushed g c = λ failed.
     let p = err_from_is_err_and c.from_residual-in_err-event.result c.from_residual-in_err-event.ensures.1 in
-    AreFlushed-phase _ c.args.self.now.source.phase _ _ _ c.in_err-event.field-0.0 c.in_ok-flush_before_record.ensures.flushed c.in_err-event.ensures.buffered (λ e. (c.in_err-event.ensures.ended e).0) (λ e. (c.in_err-event.ensures.spent e).0) (rw (p.1, p.2) at failed)
+    AreFlushed-phase Bool c.args.self.now.source.phase (g.I.Input.buffered c.args.input.now) (g.O.Output.pending c.flush_before_record.new.out) (g.E.Output.pending c.flush_before_record.new.err) c.in_err-event.field-0.0 (Err c.in_err-event.field-0.0) refl
+    c.in_ok-flush_before_record.ensures.flushed c.in_err-event.ensures.buffered (λ e. (c.in_err-event.ensures.ended e).0) (λ e. (c.in_err-event.ensures.spent e).0) (rw (p.1, p.2) at failed)
