@@ -46,7 +46,7 @@ pub returns-clause-untouched : goal.returns-clause-untouched
 returns-clause-untouched g c long =
     let untouched = c.run_play-outcome.ensures.untouched (c.run_play-outcome.ensures.script_too_long.1 long) in
     leaves_untouched g.O.Write.contents g.E.Write.contents _ _ _ c.close.result.writers
-    c.in-Ok.ensures.written (λ i. outputs_of (λ output. writer_contents g.O.Write.contents output.writer) (λ output. writer_contents g.E.Write.contents output.writer) (untouched.1 i) (untouched.2 i)) c.close.ensures.kept
+    c.in-Ok.ensures.written (λ i. outputs_of (λ output. writer_contents g.O.Write.contents output.output.writer) (λ output. writer_contents g.E.Write.contents output.output.writer) (untouched.1 i) (untouched.2 i)) c.close.ensures.kept
 
 pub returns-clause-failed : goal.returns-clause-failed
 returns-clause-failed g c = of_input _ c.close.result.input c.run_play-outcome.new.input c.close.ensures.input (λ failed.
