@@ -86,6 +86,7 @@ impl<W: Write> Output for WriteOutput<W> {
 
     ghost failed = { λ output. output.failed };
 
+    #[inline(always)]
     fn put(&mut self, octets: &[u8]) -> Result<usize, OutFault> {
         match self.writer.write(octets) {
             Ok(count) if count > 0 || octets.is_empty() => Ok(count),
@@ -145,6 +146,7 @@ impl<W: Write + Drop> Output for BufferedOutput<W> {
 
     ghost pending = { λ buffered. Some (writer_buffer buffered.output.writer) };
 
+    #[inline(always)]
     fn put(&mut self, octets: &[u8]) -> Result<usize, OutFault> {
         self.output.put(octets)
     }

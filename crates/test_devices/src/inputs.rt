@@ -1,6 +1,6 @@
 //! Inputs.
 
-ghost use Rattle.std.specs.Prelude.{◌≡◌, ◌≤◌, None, false, length, min, take};
+ghost use Rattle.std.specs.Prelude.{◌≡◌, ◌≤◌, None, false, length};
 
 use mrt_wire::{InFault, Input};
 use std::cell::Cell;
@@ -209,21 +209,21 @@ impl Input for WatchingInput<'_> {
     }
 }
 
-/// An input of which so many octets are buffered as it begins, or all where they are fewer, and none is
-/// buffered later.
+/// An input with a buffer that has its first octets, and isn't filled again.
 #[derive(Drop)]
 pub struct HandInput<'a> {
-    /// What is left.
+    buffered: &'a [u8],
+    /// The octets that are left after the buffered ones.
     pub rest: &'a [u8],
-    size: usize,
 }
 
 impl<'a> HandInput<'a> {
-    /// An input that hasn't failed.
-    pub fn new(rest: &'a [u8], size: usize) -> Self
+    /// Returns an input of which the first `size` octets are buffered, or all if there are fewer.
+    pub fn new(octets: &'a [u8], size: usize) -> Self
         ensures { ⟦<HandInput<'a> as Input>⟧.failed result ≡ false }
     {
-        HandInput { rest, size }
+        let (buffered, rest) = octets.split_at(size.min(octets.len()));
+        HandInput { buffered, rest }
     }
 }
 
@@ -232,17 +232,28 @@ impl Input for HandInput<'_> {
 
     ghost failed = { λ _. false };
 
-    ghost buffered = { λ input. take (min input.size (length input.rest.now)) input.rest.now };
+    ghost buffered = { λ input. input.buffered.now };
 
     fn take(&mut self, buffer: &mut [u8]) -> Result<usize, InFault> {
-        let count = self.rest.len().min(buffer.len());
-        buffer[..count].copy_from_slice(&self.rest[..count]);
-        self.rest = &self.rest[count..];
-        self.size = self.size.saturating_sub(count);
-        Ok(count)
+        if self.buffered.is_empty() {
+            let count = self.rest.len().min(buffer.len());
+            buffer[..count].copy_from_slice(&self.rest[..count]);
+            self.rest = &self.rest[count..];
+            return Ok(count);
+        }
+        if self.buffered.len() < buffer.len() {
+            let count = self.buffered.len();
+            buffer[..count].copy_from_slice(self.buffered);
+            self.buffered = &[];
+            return Ok(count);
+        }
+        let (front, back) = self.buffered.split_at(buffer.len());
+        buffer.copy_from_slice(front);
+        self.buffered = back;
+        Ok(front.len())
     }
 
     fn buffer(&self) -> &[u8] {
-        &self.rest[..self.size.min(self.rest.len())]
+        self.buffered
     }
 }
