@@ -183,6 +183,7 @@ pub fn put_all<W: Output>(output: &mut W, octets: &[u8]) -> Result<(), OutFault>
 
 /// Flushes `out` and then `err`, as the next read of `input` may wait. Does nothing if `input` has its
 /// whole next record in its buffer, so that no wait is to be expected. Fails if a flush fails.
+#[inline(always)]
 pub fn flush_before_waiting<I: Input, O: Output, E: Output>(
     input: &I,
     out: &mut O,
