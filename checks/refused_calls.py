@@ -88,7 +88,7 @@ KNOWN = {
     'a route behind 1,024 steps': 3,
     'a route behind 1,100 steps': 2,
     'a route behind 5,000 steps, of which one is kept': 2,
-    '600 routes over as many of 1,100 that differ': 5,
+    '800 routes over 800 that differ': 5,
     'a loss in place of two steps': 4,
     'one route more than a thousand': 2,
     'the loss of a thousand routes': 5,

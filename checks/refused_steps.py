@@ -190,11 +190,11 @@ def behind_floor():
 
 def over_many():
     def many(first):
-        return Peer(1_100, 1_100, first, first + 1)
-    before = Walk(Seen(1, 0, 1_100, many(1_000)), one_peer(0, 1, 1_100, 1_100, 0))
-    behind = Walk(Seen(2, 0, 1_700, many(5_000)), Seen(1, 1, 1_700, many(1_000)))
-    return Course('600 routes over as many of 1,100 that differ', played([different(1_100, 1_000)]),
-                  different(600, 5_000), before, 0, behind, 'player tree')
+        return Peer(800, 800, first, first + 1)
+    before = Walk(Seen(1, 0, 800, many(1_000)), one_peer(0, 1, 800, 800, 0))
+    behind = Walk(Seen(2, 0, 1_600, many(5_000)), Seen(1, 1, 1_600, many(1_000)))
+    return Course('800 routes over 800 that differ', played([different(800, 1_000)]),
+                  different(800, 5_000), before, 0, behind, 'player tree')
 
 
 def sorted_event(count):
