@@ -1,5 +1,5 @@
 -- What is refused when a part of it is.
-use Rattle.std.proofs.Common.{◌≡◌, ℕ, ◌*◌, IfErr, IsErrAnd, Option, Some, None, Result, Ok, Err, List, [], ◌∷◌, ◌++◌, length, get_or, drop, ap, sym, subst, ◌∙◌, arith}
+use Rattle.std.proofs.Common.{◌≡◌, ℕ, ◌*◌, IfErr, IsErrAnd, Option, Some, None, Result, Ok, Err, List, [], ◌∷◌, ◌++◌, length, get_or, drop, refl, ap, sym, subst, ◌∙◌, arith}
 use Rattle.ip_prefix.specs.Sequences.{Begins, SpellsAll}
 use Rattle.ip_prefix.specs.Fronts.{IsSelfDelimiting}
 use Rattle.octet_forms.proofs.Lists.{append_parts}
@@ -11,7 +11,7 @@ use Rattle.bgp_paths.specs.declared.segment.SegmentKind.{SegmentKind}
 use Rattle.bgp_paths.specs.declared.segment.Segment.{Segment}
 use Rattle.bgp_paths.specs.Path.{asn_size, SpellsAsn, kind_code, SpellsSegment}
 use Rattle.bgp_paths.specs.Readers.{IsSplitSegment, ParsesTo, Refuses, RefusesFront}
-use Rattle.bgp_paths.proofs.HasOneFront.{segment_begun, length-numbers}
+use Rattle.bgp_paths.proofs.HasOneFront.{segment_code, segment_begun, length-numbers}
 
 -- what is found by a part is found by the whole, where the two spell the same values
 pub finds_whole : {A C D : Type 0} (Part : A → D → Type 0) (Whole : A → C → Type 0) (part : D) (octets : C) (answer : Option A)
@@ -77,3 +77,23 @@ segment_framed width kind count body rest octets ns f s =
       };
       whole = f.whole;
     }
+
+-- the same, where the segment's kind is known by an equation
+pub segment_filled : (width : AsWidth) (kind : SegmentKind) (count : ℕ) (body rest octets : List ℕ) (segment : Segment) → IsSplitSegment width kind count body rest octets
+    → segment.kind ≡ kind → SpellsAll (SpellsAsn width) segment.numbers body → Begins (SpellsSegment width) segment rest octets
+segment_filled width kind count body rest octets segment f same s =
+    subst (λ k. Begins (SpellsSegment width) record { numbers = segment.numbers; kind = k } rest octets) (sym same)
+    (segment_framed width kind count body rest octets segment.numbers f s)
+
+-- octets that are one segment and nothing else spell the list of it alone
+pub only_filled : (width : AsWidth) (kind : SegmentKind) (body octets : List ℕ) (segment : Segment) → (count : ℕ) × IsSplitSegment width kind count body [] octets
+    → segment.kind ≡ kind → SpellsAll (SpellsAsn width) segment.numbers body → SpellsAll (SpellsSegment width) (segment ∷ []) octets
+only_filled width kind body octets segment f same s = ([], segment_filled width kind f.0 body [] octets segment f.1 same s, refl)
+
+-- where its numbers can't be parsed, no list of segments is spelled
+pub only_refused : (width : AsWidth) (kind : SegmentKind) (body octets : List ℕ) (fault : WireFault) → (count : ℕ) × IsSplitSegment width kind count body [] octets
+    → Refuses (SpellsAll (SpellsAsn width)) body fault → Refuses (SpellsAll (SpellsSegment width)) octets fault
+only_refused width kind body octets fault f none =
+    let some : octets ≡ [] → ⊥ = λ e. omega (arith, ap length (sym f.1.whole ∙ e)) in
+    refused_rest (SpellsSegment width) (segment_code width) [] octets octets fault some record { front = []; spelled = refl; whole = refl }
+    (refused_numbers width kind f.0 body [] octets fault f.1 none)

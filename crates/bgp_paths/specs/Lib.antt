@@ -1,3 +1,5 @@
+pub mod Numbers
+pub mod Segments
 pub mod Path
 pub mod Text
 pub mod Readers

@@ -12,7 +12,8 @@ pub record PathUnit : Type 0 where
   pub place : ℕ
   pub part : Segment
 
--- the units of a segment of this kind at the index `place`, with these AS numbers
+-- the units of the segment that has the index `place` in its path, this kind, and the AS numbers `ns`: one
+-- unit for each number of a sequence, or else one for the whole segment
 abbrev pub units_by_kind : SegmentKind → ℕ → List ℕ → List PathUnit
 units_by_kind AsSequence place ns = map (λ n. record { place = place; part = record { numbers = n ∷ []; kind = AsSequence } }) ns
 units_by_kind kind place ns = record { place = place; part = record { numbers = ns; kind = kind } } ∷ []
@@ -22,32 +23,36 @@ abbrev pub units_from : ℕ → List Segment → List PathUnit
 units_from place [] = []
 units_from place (segment ∷ segments) = units_by_kind segment.kind place segment.numbers ++ units_from (suc place) segments
 
--- the number of ASes that a unit of this kind counts (RFC 6793, section 4.2.3; RFC 5065, section 5.3): one,
--- but none for segments of a confederation
+-- how many ASes a unit of a segment of this kind counts in the length of a path (RFC 6793, section 4.2.3; RFC
+-- 5065, section 5.3): 1, for a number of a sequence or for a whole set, but 0 for a segment of a
+-- confederation
 abbrev pub kind_weight : SegmentKind → ℕ
 kind_weight AsSequence = 1
 kind_weight AsSet = 1
 kind_weight kind = 0
 
--- the number of ASes that a unit counts
+-- how many ASes a unit counts in the length of a path: 1 if it is a number of a sequence or a whole set, 0 if
+-- it is a segment of a confederation
 abbrev pub unit_weight : PathUnit → ℕ
 unit_weight hop = kind_weight hop.part.kind
 
--- the number of ASes that units count together
+-- how many ASes units count in the length of a path, together
 abbrev pub units_weight : List PathUnit → ℕ
 units_weight hops = sum_by unit_weight hops
 
--- the number of ASes that a segment of this kind with `size` AS numbers counts: each of a sequence, one for a
--- set, none for a segment of a confederation
+-- how many ASes a segment of this kind with `size` AS numbers counts in the length of a path: all of a
+-- sequence, one for a set, none for a segment of a confederation
 abbrev pub weight_by : SegmentKind → ℕ → ℕ
 weight_by AsSequence size = size
 weight_by kind size = kind_weight kind
 
--- the number of ASes that a segment counts
+-- how many ASes a segment counts in the length of a path: all of a sequence, one for a set, none for a
+-- segment of a confederation
 abbrev pub segment_weight : Segment → ℕ
 segment_weight segment = weight_by segment.kind (length segment.numbers)
 
--- the number of ASes that a path counts
+-- the length of a path, as a number of ASes: each segment counts all of a sequence, one for a set, none for a
+-- segment of a confederation
 abbrev pub path_weight : AsPath → ℕ
 path_weight path = sum_by segment_weight path.segments
 
@@ -60,7 +65,8 @@ joined_units hop (next ∷ hops) =
     then record { place = hop.place; part = record { numbers = hop.part.numbers ++ next.part.numbers; kind = hop.part.kind } } ∷ hops
     else hop ∷ next ∷ hops
 
--- the units, those of one segment that follow each other made one
+-- the units, in order, with neighbours of the same segment (of equal `place`) joined into one, which has the
+-- AS numbers of all
 abbrev pub gathered_units : List PathUnit → List PathUnit
 gathered_units [] = []
 gathered_units (hop ∷ hops) = joined_units hop (gathered_units hops)
@@ -85,9 +91,9 @@ pub record IsLongest (weighing : ℕ) (hops front : List PathUnit) : Type 0 wher
   pub weighs : units_weight front ≡ weighing
   pub longest : (other left : List PathUnit) → hops ≡ other ++ left → units_weight other ≡ weighing → length other ≤ length front
 
--- `path` is the merge of AS_PATH `first` and AS4_PATH `second`, whose segments of a confederation are
--- dropped. If `first` counts fewer ASes than `second`, it is `first`; else it is the longest beginning of
--- `first` that counts as many as `second` lacks, and then `second`
+-- `path` is AS_PATH `first` merged with AS4_PATH `second`, whose segments of a confederation are dropped (RFC
+-- 6793, section 4.2.3): `first`, if it counts fewer ASes than `second`; or else the longest beginning of
+-- `first` that counts the difference, and then `second`
 pub record IsMerge (first second path : AsPath) : Type 0 where
   pub shorter : path_weight first < path_weight (path_without_confederations second) → path ≡ first
   pub joined : path_weight (path_without_confederations second) ≤ path_weight first

@@ -50,7 +50,8 @@ IsNoSpelling {A} Spells octets = (value : A) → Spells value octets → ⊥
 
 -- ---- AS paths as BGP sends them (RFC 4271, section 4.3; RFC 5065, section 3)
 
--- the type of a kind of segment: 1 to 4
+-- the number that stands for a kind of segment in octets: 1 for AS_SET, 2 for AS_SEQUENCE, 3 for
+-- AS_CONFED_SEQUENCE, 4 for AS_CONFED_SET (RFC 4271, section 4.3; RFC 5065, section 3)
 abbrev pub kind_code : SegmentKind → ℕ
 kind_code AsSet = AS_SET
 kind_code AsSequence = AS_SEQUENCE

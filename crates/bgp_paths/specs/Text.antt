@@ -14,8 +14,8 @@ use Rattle.octet_text.specs.declared.cursor.TheConstants.{SPACE}
 abbrev pub bracketed_numbers : Brackets → List ℕ → List ℕ
 bracketed_numbers marks ns = marks.open ∷ join_with_byte marks.separator (map decimal ns) ++ marks.close ∷ []
 
--- the words of a segment of this kind with these AS numbers: each number of a sequence, and one word in
--- brackets for each other kind
+-- the words that a segment of this kind with the AS numbers `ns` prints: each number of a sequence in
+-- decimal, and one word of all numbers, in brackets, for each other kind
 abbrev pub words_by : SegmentKind → List ℕ → List (List ℕ)
 words_by AsSequence ns = map decimal ns
 -- {a,b}
@@ -25,7 +25,8 @@ words_by ConfedSequence ns = bracketed_numbers CONFED_SEQUENCE_BRACKETS ns ∷ [
 -- [a,b]
 words_by ConfedSet ns = bracketed_numbers CONFED_SET_BRACKETS ns ∷ []
 
--- the words of a segment
+-- the words that a segment prints: each AS number of a sequence in decimal, or else one word of all numbers:
+-- `{a,b}` of a set, `(a b)` of a sequence of a confederation, `[a,b]` of a set of one
 abbrev pub segment_words : Segment → List (List ℕ)
 segment_words segment = words_by segment.kind segment.numbers
 

@@ -7,16 +7,18 @@ ghost use Rattle.bgp_paths.specs.Merge.{IsMerge, IsLongest, path_weight, segment
 ghost use Rattle.bgp_paths.specs.Readers.{segment_unless_empty};
 ghost use Rattle.bgp_paths.specs.declared.path.AsPath.{AsPath};
 
-use crate::path::{AsPath, Segments};
-use crate::path_reader::shrink_if_spare;
-use crate::segment::{AsNumbers, Segment, SegmentKind};
+use crate::as_numbers::AsNumbers;
+use crate::path::AsPath;
+use crate::segment::{Segment, SegmentKind};
+use crate::segments::{Segments, shrink_if_spare};
 use std::alloc::{AllocError, Global};
 
-/// Merges the AS_PATH `first` with the AS4_PATH `second` (RFC 6793, section 4.2.3). Returns the
-/// longest part of the start of `first` that counts as many ASes as `second` lacks, followed by
-/// `second` without its confederation segments. If `first` counts fewer ASes than `second`, returns
-/// a copy of `first`. A set counts as one AS, and confederation segments don't count. Returns
-/// `AllocError` if memory allocation fails.
+/// Merges the AS_PATH `first` with the AS4_PATH `second` (RFC 6793, section 4.2.3). The result
+/// begins with as many leading ASes of `first` as `first` counts more than `second`, and goes on
+/// with `second` without its confederation segments. A set counts as one AS. Confederation segments
+/// don't count, so that those of `first` up to its next AS that counts are in the result too. If
+/// `first` counts fewer ASes than `second`, the result is a copy of `first`. Returns `AllocError`
+/// if memory allocation fails.
 pub fn merge_paths(alloc: Global, first: &AsPath, second: &AsPath) -> Result<AsPath, AllocError>
     ensures { IfOk result (IsMerge first.now second.now) }
 {
@@ -66,10 +68,11 @@ fn count_ases_of_segment(segment: &Segment) -> usize
     }
 }
 
-/// Appends to `path` the longest part of the start of `segments` that counts `weight` ASes: each AS
-/// number of a sequence counts, a set counts as one, and confederation segments don't count. The
-/// last sequence may be cut. Requires that `segments` counts at least `weight` ASes. Fails if
-/// memory allocation fails; `path` is then unspecified.
+/// Appends to `path` the longest part of the start of `segments` that counts `weight` ASes. Each AS
+/// number of a sequence counts, a set counts as one AS, and confederation segments don't count, so
+/// that those up to the next AS that counts are appended too. The last sequence may be cut.
+/// Requires that `segments` counts at least `weight` ASes. Fails if memory allocation fails; `path`
+/// is then unspecified.
 fn push_leading_segments(
     alloc: Global,
     segments: &[Segment],
@@ -112,7 +115,7 @@ fn push_segment(
     if kind == SegmentKind::AsSequence && numbers.is_empty() {
         return Ok(());
     }
-    let numbers = AsNumbers::from_vec(Vec::from_slice(alloc, numbers)?);
+    let numbers = AsNumbers::from_slice(alloc, numbers)?;
     path.push(Segment { numbers, kind })?;
     Ok(())
 }

@@ -1,6 +1,6 @@
 //! Parsers of lists of AS numbers and of communities, which are sent in network byte order
-//! (big-endian). `path_reader.rt` parses segments with [`fill_numbers`], and `bgp_wire`
-//! communities; read that function first.
+//! (big-endian). `as_numbers.rt` parses the AS numbers of longer segments with [`fill_numbers`],
+//! and `bgp_wire` communities; read that function first.
 
 ghost use Rattle.std.specs.Prelude.{◌≡◌, ◌≤◌, ◌<◌, ◌+◌, ◌/◌, ◌%◌, ◌^◌, [], length, OnOk, IfErr, vec_capacity};
 ghost use Rattle.std.specs.Int.{to_be_bytes, w16};

@@ -7,22 +7,10 @@ ghost use Rattle.bgp_paths.specs.Readers.{empty_path, Refuses};
 ghost use Rattle.bgp_paths.specs.Path.{SpellsSegment, SpellsPath};
 
 use crate::fault::WireFault;
-use crate::list_of::ListOf;
 use crate::numbers::AsWidth;
-use crate::path_reader::{fill_segments, shrink_if_spare};
-use crate::segment::Segment;
-use std::alloc::{AllocError, Global};
-
-/// The segments of an AS path, in the order in which they are sent.
-pub type Segments = ListOf<Segment>;
-
-impl Clone for ListOf<Segment> {
-    ghost is_clone = { λ segments copy. copy ≡ segments };
-
-    fn clone(&self) -> Result<Segments, AllocError> {
-        Ok(Segments::from_vec(self.items.clone()?))
-    }
-}
+use crate::path_reader::fill_segments;
+use crate::segments::Segments;
+use std::alloc::Global;
 
 /// An AS path: the ASes that a route has passed through, in segments (RFC 4271, section 5.1.2). It
 /// has no segments if the route hasn't passed through another AS, or if AS_PATH is absent.
@@ -47,12 +35,10 @@ impl AsPath {
     /// Removes all segments, and keeps the memory of the list of segments for the next path, unless
     /// it has capacity for more than four.
     #[inline]
-    pub fn clear(&mut self)
+    pub fn clear(&mut self, alloc: Global)
         ensures { self.new ≡ empty_path }
     {
-        let segments = &mut self.segments.items;
-        segments.clear();
-        shrink_if_spare(segments);
+        self.segments.clear(alloc);
     }
 
     /// Parses `octets` as an AS path with AS numbers of `width` (RFC 4271, section 4.3), and
@@ -65,7 +51,7 @@ impl AsPath {
         ensures filled { OnOk result (SpellsPath width self.new octets.now) }
         ensures refused { IfErr result (Refuses (SpellsPath width) octets.now) }
     {
-        let segments = &mut self.segments.items;
+        let segments = &mut self.segments;
         match width {
             AsWidth::Two => fill_segments(alloc, segments, AsWidth::Two, octets),
             AsWidth::Four => fill_segments(alloc, segments, AsWidth::Four, octets),

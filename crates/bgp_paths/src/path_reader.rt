@@ -8,8 +8,9 @@ ghost use Rattle.bgp_paths.specs.Path.{SpellsAsn, SpellsSegment};
 ghost use Rattle.bgp_paths.specs.Readers.{IsSplitSegment, Refuses};
 
 use crate::fault::WireFault;
-use crate::numbers::{AsWidth, fill_numbers};
-use crate::segment::{self, AsNumbers, Segment, SegmentKind};
+use crate::numbers::AsWidth;
+use crate::segment::{Segment, SegmentKind};
+use crate::segments::{Held, Segments, shrink_if_spare};
 use std::alloc::{AllocError, Global};
 
 /// The number of the segment type AS_SET, a set of ASes (RFC 4271, section 4.3).
@@ -23,12 +24,8 @@ const AS_CONFED_SEQUENCE: u8 = 3;
 /// section 3).
 const AS_CONFED_SET: u8 = 4;
 
-/// The greatest number of segments by which the capacity of a path's list may exceed its length. At
-/// one more, the capacity is shrunk to the length, so that stored paths take little memory.
-const MOST_SPARE: usize = 4;
-
-/// The start of a slice split into parts: a segment's kind (RFC 4271, section 4.3; RFC 5065,
-/// section 3), the octets of the segment's AS numbers, and all octets after the segment.
+/// A segment of an AS path, split off the start of a slice: its kind, the octets of its AS numbers
+/// (RFC 4271, section 4.3; RFC 5065, section 3), and `rest`, the octets after the segment.
 #[derive(Clone, Copy)]
 struct SegmentAndRest<'a> {
     /// The kind of the segment.
@@ -65,58 +62,68 @@ fn split_segment(width: AsWidth, octets: &[u8]) -> Option<SegmentAndRest<'_>>
     Some(SegmentAndRest { kind, body, rest })
 }
 
-/// Shrinks the capacity of `segments` to their number. If memory allocation fails, the capacity is
-/// unchanged, which isn't an error.
-#[inline(never)]
-fn shrink(segments: &mut Vec<Segment>)
-    ensures { segments.new.items ≡ segments.old.items }
-{
-    // It is out of line, since few paths have much spare capacity.
-    segments.shrink_to_fit();
-}
-
-/// Shrinks the capacity of `segments` to their number if it is more than [`MOST_SPARE`] above it.
-/// If memory allocation fails, the capacity is unchanged, which isn't an error.
+/// Splits `octets` that are one segment with AS numbers of `width`, and nothing else, into its kind
+/// and the octets of its AS numbers, which aren't parsed. Returns `None` if the octets are anything
+/// else, several segments for example.
 #[inline(always)]
-pub(crate) fn shrink_if_spare(segments: &mut Vec<Segment>)
-    ensures { segments.new.items ≡ segments.old.items }
+fn split_only_segment(width: AsWidth, octets: &[u8]) -> Option<SegmentAndRest<'_>>
+    ensures { IfSome result (λ f. (count : ℕ)
+        × IsSplitSegment width f.kind count f.body.now [] octets.now) }
 {
-    if segments.capacity() - segments.len() > MOST_SPARE {
-        shrink(segments);
+    let framed = split_segment(width, octets)?;
+    if framed.rest.is_empty() {
+        Some(framed)
+    } else {
+        None
     }
 }
 
-/// Appends a sequence without AS numbers to `segments`, for the caller to fill in. Fails if memory
-/// allocation fails; `segments` is then unspecified.
-#[inline(never)]
-pub(crate) fn push_empty_segment(
+/// Parses `body` as AS numbers of `width`, and replaces `segment` with them and `kind`, reusing its
+/// memory. Fails with `Malformed` if `body` ends inside a number, and with `Memory` if memory
+/// allocation fails; `segment` is then unspecified.
+#[inline(always)]
+fn fill_segment(
     alloc: Global,
-    segments: &mut Vec<Segment>,
-) -> Result<(), AllocError>
-    ensures { OnOk result (segments.new.items ≡ segments.old.items
+    segment: &mut Segment,
+    kind: SegmentKind,
+    width: AsWidth,
+    body: &[u8],
+) -> Result<(), WireFault>
+    ensures kind { segment.new.kind ≡ kind }
+    ensures filled { OnOk result (SpellsAll (SpellsAsn width) segment.new.numbers body.now) }
+    ensures refused { IfErr result (Refuses (SpellsAll (SpellsAsn width)) body.now) }
+{
+    segment.kind = kind;
+    segment.numbers.fill(alloc, width, body)
+}
+
+/// Appends a sequence without AS numbers to `list`, for the caller to fill in. Fails if memory
+/// allocation fails; `list` is then unspecified.
+#[inline(never)]
+pub(crate) fn push_empty_segment(alloc: Global, list: &mut Vec<Segment>) -> Result<(), AllocError>
+    ensures { OnOk result (list.new.items ≡ list.old.items
         ++ record { numbers = []; kind = SegmentKind.AsSequence } ∷ []) }
 {
-    // Most paths have one segment, so the first capacity is one.
-    if segments.capacity() == 0 {
-        segments.reserve_exact(1)?;
+    // Most paths that need a list have two segments, so the first capacity is two.
+    if list.capacity() == 0 {
+        list.reserve_exact(2)?;
     }
-    let (numbers, kind) = (AsNumbers::empty(alloc), SegmentKind::AsSequence);
-    segments.push(Segment { numbers, kind })?;
+    list.push(Segment::empty())?;
     Ok(())
 }
 
-/// Parses `octets` as segments with AS numbers of `width`, and replaces `segments` with them,
+/// Parses `octets` as segments with AS numbers of `width`, and replaces those of `list` with them,
 /// reusing their memory. Fails with `Malformed` if `octets` isn't a list of segments, each of a
 /// known type and with at least one AS number, and with `Memory` if memory allocation fails. On
-/// error, `segments` is unspecified.
+/// error, `list` is unspecified.
 #[inline(always)]
-pub(crate) fn fill_segments(
+fn fill_list(
     alloc: Global,
-    segments: &mut Vec<Segment>,
+    list: &mut Vec<Segment>,
     width: AsWidth,
     octets: &[u8],
 ) -> Result<(), WireFault>
-    ensures filled { OnOk result (SpellsAll (SpellsSegment width) segments.new.items octets.now) }
+    ensures filled { OnOk result (SpellsAll (SpellsSegment width) list.new.items octets.now) }
     ensures refused { IfErr result (Refuses (SpellsAll (SpellsSegment width)) octets.now) }
 {
     // It is inlined, so that there is a loop for each width.
@@ -126,17 +133,76 @@ pub(crate) fn fill_segments(
         let Some(framed) = split_segment(width, rest) else {
             return Err(WireFault::Malformed);
         };
-        if count == segments.len() {
-            push_empty_segment(alloc, segments)?;
+        if count == list.len() {
+            push_empty_segment(alloc, list)?;
         }
-        let segment = &mut segments[count];
-        segment.kind = framed.kind;
-        let body = framed.body;
-        fill_numbers(&mut segment.numbers.items, width, body, segment::MOST_SPARE)?;
+        fill_segment(alloc, &mut list[count], framed.kind, width, framed.body)?;
         count += 1;
         rest = framed.rest;
     }
-    segments.truncate(count);
-    shrink_if_spare(segments);
+    list.truncate(count);
+    shrink_if_spare(list);
     Ok(())
+}
+
+/// Parses `octets` as segments with AS numbers of `width`, and replaces `segments` with them,
+/// reusing their memory. A single segment is held in place, unless `segments` has a list with
+/// memory. Fails like [`fill_segments`], which calls it where it can't parse in place.
+#[inline(never)]
+fn refill_segments(
+    alloc: Global,
+    segments: &mut Segments,
+    width: AsWidth,
+    octets: &[u8],
+) -> Result<(), WireFault>
+    ensures filled { OnOk result (SpellsAll (SpellsSegment width) segments.new octets.now) }
+    ensures refused { IfErr result (Refuses (SpellsAll (SpellsSegment width)) octets.now) }
+{
+    if octets.is_empty() {
+        segments.clear(alloc);
+        return Ok(());
+    }
+    if segments.is_unallocated()
+        && let Some(framed) = split_only_segment(width, octets)
+    {
+        let mut only = Segment::empty();
+        fill_segment(alloc, &mut only, framed.kind, width, framed.body)?;
+        segments.held = Held::One(only);
+        return Ok(());
+    }
+    let mut list = segments.take_list(alloc)?;
+    let result = match width {
+        AsWidth::Two => fill_list(alloc, &mut list, AsWidth::Two, octets),
+        AsWidth::Four => fill_list(alloc, &mut list, AsWidth::Four, octets),
+    };
+    segments.held = Held::Listed(list);
+    result
+}
+
+/// Parses `octets` as segments with AS numbers of `width`, and replaces `segments` with them,
+/// reusing their memory. Fails with `Malformed` if `octets` isn't a list of segments, each of a
+/// known type and with at least one AS number, and with `Memory` if memory allocation fails. On
+/// error, `segments` is unspecified.
+#[inline(always)]
+pub(crate) fn fill_segments(
+    alloc: Global,
+    segments: &mut Segments,
+    width: AsWidth,
+    octets: &[u8],
+) -> Result<(), WireFault>
+    ensures filled { OnOk result (SpellsAll (SpellsSegment width) segments.new octets.now) }
+    ensures refused { IfErr result (Refuses (SpellsAll (SpellsSegment width)) octets.now) }
+{
+    // Nearly all paths have one segment, and so has the one before, which is replaced in place.
+    if let Some(framed) = split_only_segment(width, octets) {
+        match &mut segments.held {
+            Held::One(only) => return fill_segment(alloc, only, framed.kind, width, framed.body),
+            Held::Listed(list) => {
+                if list.len() == 1 {
+                    return fill_segment(alloc, &mut list[0], framed.kind, width, framed.body);
+                }
+            }
+        }
+    }
+    refill_segments(alloc, segments, width, octets)
 }

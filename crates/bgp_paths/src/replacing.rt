@@ -4,9 +4,10 @@
 ghost use Rattle.std.specs.Prelude.{◌≡◌, IfOk};
 
 use crate::numbers::clear_and_reserve;
-use crate::path::{AsPath, Segments};
-use crate::path_reader::{push_empty_segment, shrink_if_spare};
-use crate::segment::MOST_SPARE;
+use crate::path::AsPath;
+use crate::path_reader::push_empty_segment;
+use crate::segment::Segment;
+use crate::segments::{Held, Segments, shrink_if_spare};
 use std::alloc::{AllocError, Global};
 use std::mem;
 
@@ -22,30 +23,92 @@ pub fn copy_numbers(old: Vec<u32>, numbers: &[u32], max_spare: u8) -> Result<Vec
     Ok(copy)
 }
 
+/// Returns a copy of `segment` in the memory of `old`, whose own AS numbers are dropped. Returns
+/// `AllocError` if memory allocation fails.
+#[inline]
+fn copy_segment(old: Segment, segment: &Segment) -> Result<Segment, AllocError>
+    ensures { IfOk result (λ copy. copy ≡ segment.now) }
+{
+    Ok(Segment {
+        numbers: old.numbers.replaced_by(&segment.numbers)?,
+        kind: segment.kind,
+    })
+}
+
+/// Returns a copy of `segments` in the memory of `old`, whose own segments are dropped. Memory is
+/// allocated only where that of `old` is too small or much too large. Returns `AllocError` if
+/// memory allocation fails.
+#[inline(never)]
+fn copy_list(
+    alloc: Global,
+    old: Vec<Segment>,
+    segments: &[Segment],
+) -> Result<Vec<Segment>, AllocError>
+    ensures { IfOk result (λ copy. copy.items ≡ segments.now) }
+{
+    let mut list = old;
+    if list.is_empty() {
+        list = Vec::with_capacity(alloc, segments.len())?;
+    }
+    let mut count = 0;
+    for segment in segments {
+        if count == list.len() {
+            push_empty_segment(alloc, &mut list)?;
+        }
+        let old = mem::replace(&mut list[count], Segment::empty());
+        list[count] = copy_segment(old, segment)?;
+        count += 1;
+    }
+    list.truncate(count);
+    shrink_if_spare(&mut list);
+    Ok(list)
+}
+
+/// Returns a copy of `segments` in the memory of the segment `old`, whose own AS numbers are
+/// dropped. A list is allocated only for several segments. Returns `AllocError` if memory
+/// allocation fails.
+fn copy_over_one(alloc: Global, old: Segment, segments: &[Segment]) -> Result<Segments, AllocError>
+    ensures { IfOk result (λ copy. copy ≡ segments.now) }
+{
+    match segments {
+        [] => Ok(Segments::empty(alloc)),
+        [only] => Ok(Segments::of_one(copy_segment(old, only)?)),
+        _ => {
+            let mut list = Vec::with_capacity(alloc, segments.len())?;
+            list.push_reserved(old);
+            let list = copy_list(alloc, list, segments)?;
+            Ok(Segments::of_list(list))
+        }
+    }
+}
+
+/// Returns a copy of `segments` in the memory of the list `old`, whose own segments are dropped. A
+/// single segment is held in place if `old` is empty. Returns `AllocError` if memory allocation
+/// fails.
+fn copy_over_list(
+    alloc: Global,
+    old: Vec<Segment>,
+    segments: &[Segment],
+) -> Result<Segments, AllocError>
+    ensures { IfOk result (λ copy. copy ≡ segments.now) }
+{
+    if old.is_empty() && segments.len() == 1 {
+        return copy_over_one(alloc, Segment::empty(), segments);
+    }
+    let list = copy_list(alloc, old, segments)?;
+    Ok(Segments::of_list(list))
+}
+
 /// Returns a copy of `path` in the memory of `old`, whose own segments are dropped. Memory is
 /// allocated only where that of `old` is too small or much too large. Returns `AllocError` if
 /// memory allocation fails.
 pub fn copy_path(alloc: Global, old: AsPath, path: &AsPath) -> Result<AsPath, AllocError>
     ensures { IfOk result (λ copy. copy ≡ path.now) }
 {
-    let mut segments = old.segments.into_vec();
-    if segments.is_empty() {
-        segments = Vec::with_capacity(alloc, path.segments.as_slice().len())?;
-    }
-    let mut count = 0;
-    for segment in path.segments.as_slice() {
-        if count == segments.len() {
-            push_empty_segment(alloc, &mut segments)?;
-        }
-        let copy = &mut segments[count];
-        let old = mem::replace(&mut copy.numbers.items, Vec::new(alloc));
-        copy.numbers.items = copy_numbers(old, segment.numbers.as_slice(), MOST_SPARE)?;
-        copy.kind = segment.kind;
-        count += 1;
-    }
-    segments.truncate(count);
-    shrink_if_spare(&mut segments);
-    Ok(AsPath {
-        segments: Segments::from_vec(segments),
-    })
+    let segments = path.segments.as_slice();
+    let segments = match old.segments.into_held() {
+        Held::One(old) => copy_over_one(alloc, old, segments)?,
+        Held::Listed(old) => copy_over_list(alloc, old, segments)?,
+    };
+    Ok(AsPath { segments })
 }

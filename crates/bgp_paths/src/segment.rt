@@ -1,11 +1,9 @@
 //! Segments of AS paths (RFC 4271, section 4.3; RFC 5065, section 3). `path_reader.rt` parses them,
 //! and `text.rt` formats them as text. Read [`Segment`] first.
 
-use crate::list_of::ListOf;
+ghost use Rattle.std.specs.Prelude.{◌≡◌, []};
 
-/// The greatest spare capacity of a segment's list of AS numbers, in AS numbers. If a parsed or
-/// copied segment would have capacity for one more, its list is reallocated.
-pub(crate) const MOST_SPARE: u8 = 8;
+use crate::as_numbers::AsNumbers;
 
 /// Whether a segment of an AS path is ordered, and whether its ASes are members of a confederation
 /// (RFC 4271, section 4.3; RFC 5065, section 3).
@@ -22,14 +20,26 @@ pub enum SegmentKind {
     ConfedSet,
 }
 
-/// The AS numbers of a segment of an AS path, in the order in which they are sent.
-pub type AsNumbers = ListOf<u32>;
-
-/// A segment of an AS path: AS numbers, and whether they are a sequence or a set.
+/// A segment of an AS path: its AS numbers, and whether they are a sequence or a set, of ASes or of
+/// members of a confederation (RFC 4271, section 4.3; RFC 5065, section 3).
 #[derive(Clone, Debug, Drop)]
 pub struct Segment {
     /// The AS numbers of the segment, in the order in which they are sent, for sets too.
     pub numbers: AsNumbers,
     /// Whether the AS numbers are a sequence or a set, of ASes or of members of a confederation.
     pub kind: SegmentKind,
+}
+
+impl Segment {
+    /// Returns a sequence without AS numbers, without allocating memory. A segment can be parsed
+    /// into it.
+    #[inline]
+    pub(crate) fn empty() -> Segment
+        ensures { result ≡ record { numbers = []; kind = SegmentKind.AsSequence } }
+    {
+        Segment {
+            numbers: AsNumbers::empty(),
+            kind: SegmentKind::AsSequence,
+        }
+    }
 }

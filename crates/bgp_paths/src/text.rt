@@ -118,9 +118,10 @@ pub fn put_communities(communities: &[u32], text: &mut Vec<u8>) -> Result<(), Al
     result
 }
 
-/// Removes the last octet of `text`, which is the separator after its last word. `before` is the
-/// length that `text` had before words were appended; if it still has no more, none were, and it is
-/// unchanged.
+/// Removes the last octet of `text` if it has more than `before` octets, or else leaves it
+/// unchanged. `before` is the length that `text` had before words were appended to it, each with a
+/// separator after it. So the separator after the last word is removed, and nothing if there were
+/// no words.
 fn drop_separator(before: usize, text: &mut Text)
     ensures { JoinsWords before text.old text.new }
 {

@@ -12,9 +12,6 @@ use Rattle.bgp_wire.specs.Content.{FirstValues, first_values}
 value_or-None : (new : Option (List ℕ)) → value_or None new ≡ new
 value_or-None new = grind arith
 
-value_or-Some : (first : List ℕ) (new : Option (List ℕ)) → value_or (Some first) new ≡ Some first
-value_or-Some first new = grind arith
-
 chosen_first : (test : Bool) (value : List ℕ) (old new : Option (List ℕ)) → (if test then Some value else value_or old new) ≡ value_or (if test then Some value else old) new
 chosen_first test value old new = grind arith
 

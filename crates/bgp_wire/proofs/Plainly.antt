@@ -8,7 +8,7 @@ use Rattle.bgp_wire.specs.declared.attrs.Aggregator.{Aggregator}
 use Rattle.bgp_wire.specs.declared.attrs.Attrs.{Attrs}
 use Rattle.bgp_wire.specs.Content.{ArePathAndAggregatorOf, AreAttrsOf, SpellsRibAttrs, first_values}
 use Rattle.bgp_wire.specs.declared.framing.TheConstants.{AS_PATH, NEXT_HOP, AGGREGATOR}
-use Rattle.bgp_wire.specs.declared.parts.UpdateParts.{UpdateParts}
+use Rattle.bgp_wire.specs.declared.parts.UpdateBuffer.{UpdateBuffer}
 use Rattle.bgp_paths.specs.declared.numbers.AsWidth.{AsWidth}
 use Rattle.bgp_paths.specs.declared.numbers.AsWidth.TheVariants.{Two, Four}
 use Rattle.bgp_wire.specs.Attribute.{Attribute, first_value, SpellsOptional, SpellsIPv4, SpellsAggregator, octets_or_empty}
@@ -37,7 +37,7 @@ rib_plainly family width attrs octets s =
     (plain.0, record { list = s.list; spelled = s.spelled; said = plain.1 })
 
 -- and so do those of an UPDATE's
-pub parts_plainly : (width : AsWidth) (parts : UpdateParts) (octets : List ℕ) → SpellsParts width parts octets → (plain : Attrs) × SpellsUnmergedAttrs width plain octets
+pub parts_plainly : (width : AsWidth) (parts : UpdateBuffer) (octets : List ℕ) → SpellsParts width parts octets → (plain : Attrs) × SpellsUnmergedAttrs width plain octets
 parts_plainly width parts octets s =
     let plain = said_plainly width parts.attrs.next_hop parts.attrs s.list s.said.together.said s.said.together.hop in
     (plain.0, record { list = s.list; spelled = s.spelled; said = plain.1 })

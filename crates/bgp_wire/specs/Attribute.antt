@@ -25,12 +25,14 @@ pub record Attribute : Type 0 where
 abbrev pub is_extended : ℕ → Bool
 is_extended flags = not (bit_and flags EXTENDED_LENGTH == 0)
 
--- the octets of the length of a value: two, big-endian, if it is extended, or else one
+-- the octets of the length `n` of an attribute's value: two, big-endian, if the first argument, the extended
+-- length flag, is true, or else one
 abbrev pub length_octets : Bool → ℕ → List ℕ
 length_octets false n = n ∷ []
 length_octets true n = to_be_bytes w16 n
 
--- the exclusive upper bound of the length of a value
+-- the exclusive upper bound of the length of an attribute's value: 2^16 if the argument, the extended length
+-- flag, is true, or else 2^8
 abbrev pub length_limit : Bool → ℕ
 length_limit false = 2 ^ 8
 length_limit true = 2 ^ 16

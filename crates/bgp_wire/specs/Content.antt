@@ -50,8 +50,9 @@ IsPathMerged false own (Some octets) path =
     ((as4 : AsPath) × SpellsPath Four as4 octets × IsMerge own as4 path)
     ⊎ (IsNoSpelling (SpellsPath Four) octets × (path ≡ own))
 
--- `path` and `aggregator` are what `list` says, whose AS_PATH has AS numbers of two octets: AS_PATH merged
--- with AS4_PATH, and AGGREGATOR or AS4_AGGREGATOR. An absent AS_PATH has no segments
+-- `path` and `aggregator` are those of the attributes `list`, whose AS_PATH has AS numbers of two octets (RFC
+-- 6793, section 4.2.3): AS_PATH merged with AS4_PATH, and AGGREGATOR or AS4_AGGREGATOR. An absent AS_PATH has
+-- no segments; AS4_PATH or AS4_AGGREGATOR counts as absent if it is malformed
 pub record AreMergedWithAs4 (path : AsPath) (aggregator : Option Aggregator) (list : List Attribute) : Type 0 where
   pub own_path : AsPath
   pub path_spelled : SpellsPath Two own_path (octets_or_empty (first_value AS_PATH list))
@@ -62,13 +63,14 @@ pub record AreMergedWithAs4 (path : AsPath) (aggregator : Option Aggregator) (li
   pub path_joined : IsPathMerged (ignores_as4 own as4) own_path (first_value AS4_PATH list) path
   pub aggregator_joined : aggregator ≡ merged_aggregator own as4
 
--- `path` and `aggregator` are AS_PATH and AGGREGATOR of `list`, whose AS_PATH has AS numbers of four octets;
--- AS4_PATH and AS4_AGGREGATOR are ignored. An absent AS_PATH has no segments
+-- `path` and `aggregator` are AS_PATH and AGGREGATOR of the attributes `list`, whose AS_PATH has AS numbers
+-- of four octets; AS4_PATH and AS4_AGGREGATOR are ignored. An absent AS_PATH has no segments
 pub record AreAsSent (path : AsPath) (aggregator : Option Aggregator) (list : List Attribute) : Type 0 where
   pub path_spelled : SpellsPath Four path (octets_or_empty (first_value AS_PATH list))
   pub own_spelled : SpellsOptional SpellsAggregator aggregator (first_value AGGREGATOR list)
 
--- `path` and `aggregator` are what a list of attributes says, whose AS_PATH has AS numbers of this width
+-- `path` and `aggregator` are those of the attributes `list`, whose AS_PATH has AS numbers of this width:
+-- AS_PATH and AGGREGATOR, which are merged with AS4_PATH and AS4_AGGREGATOR if the width is two octets
 abbrev pub ArePathAndAggregatorOf : AsWidth → AsPath → Option Aggregator → List Attribute → Type 0
 ArePathAndAggregatorOf Two path aggregator list = AreMergedWithAs4 path aggregator list
 ArePathAndAggregatorOf Four path aggregator list = AreAsSent path aggregator list
@@ -86,8 +88,8 @@ first_values list kind = first_value kind list
 
 -- ORIGIN, MULTI_EXIT_DISC, LOCAL_PREF and ATOMIC_AGGREGATE of `attrs` are what these first values spell, and
 -- absent where they are
-abbrev pub AreShortAttrsOf : Attrs → FirstValues → Type 0
-AreShortAttrsOf attrs first =
+abbrev pub AreScalarAttrsOf : Attrs → FirstValues → Type 0
+AreScalarAttrsOf attrs first =
     SpellsOptional SpellsOrigin attrs.origin (first ORIGIN)
     × SpellsOptional SpellsU32 attrs.med (first MULTI_EXIT_DISC)
     × SpellsOptional SpellsU32 attrs.local_pref (first LOCAL_PREF)
@@ -96,12 +98,13 @@ AreShortAttrsOf attrs first =
 -- `attrs`, but for the next hop, is the content of `list`, whose AS_PATH has AS numbers of this width: of
 -- each type the first attribute counts. Absent communities are empty
 pub record AreAttrsOf (width : AsWidth) (attrs : Attrs) (list : List Attribute) : Type 0 where
-  pub short : AreShortAttrsOf attrs (first_values list)
+  pub short : AreScalarAttrsOf attrs (first_values list)
   pub passed : ArePathAndAggregatorOf width attrs.path attrs.aggregator list
   pub communities : SpellsAll SpellsU32 attrs.communities (octets_or_empty (first_value COMMUNITIES list))
 
--- `hop` is the next hop of a RIB entry with these attributes, for a prefix of this family; `None` if they
--- have none. MP_REACH_NLRI must not be there twice
+-- `hop` is the next hop of a RIB entry with the attributes `list`, for a prefix of this family: that of
+-- NEXT_HOP or of MP_REACH_NLRI, as `rib_hop` chooses, or `None` if neither is there. The list has
+-- MP_REACH_NLRI at most once
 pub record IsRibNextHopOf (family : Family) (hop : Option Address) (list : List Attribute) : Type 0 where
   -- the next hops of NEXT_HOP (`own`) and of MP_REACH_NLRI (`reached`)
   pub own : Option Address

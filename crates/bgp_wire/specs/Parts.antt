@@ -7,7 +7,7 @@ use Rattle.bgp_paths.specs.Readers.{empty_path}
 use Rattle.bgp_paths.specs.declared.numbers.AsWidth.{AsWidth}
 use Rattle.bgp_wire.specs.declared.message.Message.{Message}
 use Rattle.bgp_wire.specs.declared.parts.Update.{Update}
-use Rattle.bgp_wire.specs.declared.parts.UpdateParts.{UpdateParts}
+use Rattle.bgp_wire.specs.declared.parts.UpdateBuffer.{UpdateBuffer}
 use Rattle.bgp_wire.specs.declared.parts.MessageKind.{MessageKind}
 use Rattle.ip_prefix.specs.Sequences.{SpellsAll}
 use Rattle.bgp_wire.specs.Attribute.{Attribute, SpellsAttribute}
@@ -41,7 +41,7 @@ without_path_and_communities attrs = record attrs { path = empty_path; communiti
 -- ---- an UPDATE in parts
 
 -- the parts of an UPDATE without prefixes and attributes
-abbrev pub empty_parts : UpdateParts
+abbrev pub empty_parts : UpdateBuffer
 empty_parts = record {
   withdrawn = [];
   mp_withdrawn = [];
@@ -52,7 +52,7 @@ empty_parts = record {
 }
 
 -- the UPDATE of these parts: the attributes of the prefixes of MP_REACH_NLRI are the others with its next hop
-abbrev pub update_of_parts : UpdateParts → Update
+abbrev pub update_of_parts : UpdateBuffer → Update
 update_of_parts parts = record {
   withdrawn = parts.withdrawn;
   mp_withdrawn = parts.mp_withdrawn;
@@ -63,13 +63,13 @@ update_of_parts parts = record {
 }
 
 -- the message of this kind: the UPDATE of the parts, or a message of another type, which has none
-abbrev pub message_of_parts : MessageKind → UpdateParts → Message
+abbrev pub message_of_parts : MessageKind → UpdateBuffer → Message
 message_of_parts kinds.Update parts = messages.Update (update_of_parts parts)
 message_of_parts (kinds.Other kind) parts = messages.Other kind
 
 -- the attributes of the parts, and the prefixes and the next hop of their MP_REACH_NLRI and MP_UNREACH_NLRI,
 -- are those of `list`. The other prefixes may be any
-pub record ArePartsOf (width : AsWidth) (parts : UpdateParts) (list : List Attribute) : Type 0 where
+pub record ArePartsOf (width : AsWidth) (parts : UpdateBuffer) (list : List Attribute) : Type 0 where
   pub reach : Option Reach
   pub together : AreUpdateContentOf width parts.attrs reach parts.mp_withdrawn list
   pub hop : parts.mp_hop ≡ reach_hop reach
@@ -77,7 +77,7 @@ pub record ArePartsOf (width : AsWidth) (parts : UpdateParts) (list : List Attri
 
 -- the octets are a list of path attributes, and these parts are its content but for the prefixes outside of
 -- it
-pub record SpellsParts (width : AsWidth) (parts : UpdateParts) (octets : List ℕ) : Type 0 where
+pub record SpellsParts (width : AsWidth) (parts : UpdateBuffer) (octets : List ℕ) : Type 0 where
   pub list : List Attribute
   pub spelled : SpellsAll SpellsAttribute list octets
   pub said : ArePartsOf width parts list

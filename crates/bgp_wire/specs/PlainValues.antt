@@ -9,7 +9,7 @@ use Rattle.ip_prefix.specs.Sequences.{SpellsAll}
 use Rattle.bgp_paths.specs.declared.numbers.AsWidth.{AsWidth}
 use Rattle.bgp_wire.specs.declared.attrs.Attrs.{Attrs}
 use Rattle.bgp_wire.specs.declared.attribute_list.DeferredValues.{DeferredValues}
-use Rattle.bgp_wire.specs.Content.{FirstValues, first_values, AreShortAttrsOf}
+use Rattle.bgp_wire.specs.Content.{FirstValues, first_values, AreScalarAttrsOf}
 use Rattle.bgp_paths.specs.Path.{SpellsU32, SpellsPath}
 
 -- ---- the types of attributes that were seen
@@ -36,7 +36,7 @@ lent_octets (Some octets) = Some octets.now
 -- the aggregator that of AGGREGATOR, and the next hop that of NEXT_HOP. AS4_PATH and AS4_AGGREGATOR aren't
 -- merged. Absent values give `None`, false or nothing
 pub record AreUnmergedAttrsOf (width : AsWidth) (attrs : Attrs) (first : FirstValues) : Type 0 where
-  pub short : AreShortAttrsOf attrs first
+  pub short : AreScalarAttrsOf attrs first
   pub path : SpellsPath width attrs.path (octets_or_empty (first AS_PATH))
   pub next_hop : SpellsOptional SpellsIPv4 attrs.next_hop (first NEXT_HOP)
   pub aggregator : SpellsOptional SpellsAggregator attrs.aggregator (first AGGREGATOR)
@@ -76,7 +76,7 @@ SpellsIfPresent {A} Spells content (Some octets) = Spells content octets
 -- `attrs` and `later` have what these first values spell; where AS_PATH or COMMUNITIES is absent, the path or
 -- the communities may be any
 pub record ReadSoFar (width : AsWidth) (attrs : Attrs) (later : DeferredValues) (first : FirstValues) : Type 0 where
-  pub short : AreShortAttrsOf attrs first
+  pub short : AreScalarAttrsOf attrs first
   pub path : SpellsIfPresent (SpellsPath width) attrs.path (first AS_PATH)
   pub next_hop : SpellsOptional SpellsIPv4 attrs.next_hop (first NEXT_HOP)
   pub aggregator : SpellsOptional SpellsAggregator attrs.aggregator (first AGGREGATOR)

@@ -13,13 +13,14 @@ use Rattle.bgp_wire.specs.declared.reach.TheConstants.{AFI_IPV4, AFI_IPV6, SAFI_
 
 -- ---- next hops as BGP sends them (RFC 4760, section 3; RFC 2545, section 3; RFC 6396, section 4.3.4)
 
--- the octets may follow the address of a next hop: none, or after one of IPv6 sixteen, which should be a
--- link-local address and may be any
+-- `octets` may follow the address of a next hop of this family: none, or for IPv6 sixteen, which should be a
+-- link-local address (RFC 2545, section 3) and may be any
 abbrev pub MayTrailHop : Family → List ℕ → Type 0
 MayTrailHop V4 octets = octets ≡ []
 MayTrailHop V6 octets = (octets ≡ []) ⊎ (length octets ≡ LINK_LOCAL_SIZE)
 
--- the octets are the address of a next hop, after one of IPv6 perhaps with a link-local address
+-- the octets are the address `hop` of a next hop; if it is of IPv6, sixteen more may follow, as of a
+-- link-local address (RFC 2545, section 3)
 pub record SpellsNextHop (hop : Address) (octets : List ℕ) : Type 0 where
   pub address : List ℕ
   pub spelled : SpellsAddressOctets hop address
@@ -130,7 +131,7 @@ abbrev pub attrs_with_next_hop : Attrs → Option Address → List Network → O
 attrs_with_next_hop attrs hop [] = None
 attrs_with_next_hop attrs hop (prefix ∷ prefixes) = Some record attrs { next_hop = hop }
 
--- the attributes of the prefixes of an MP_REACH_NLRI, which are those of the UPDATE with its next hop; `None`
--- if there are no prefixes
+-- the attributes of the routes to the prefixes of MP_REACH_NLRI `reach`: `attrs`, those of the UPDATE, but
+-- with the next hop of `reach`; `None` if there are no such prefixes
 abbrev pub reach_attrs : Attrs → Option Reach → Option Attrs
 reach_attrs attrs reach = attrs_with_next_hop attrs (reach_hop reach) (reach_prefixes reach)

@@ -35,8 +35,9 @@ pub record IsUpdate (withdrawn attributes announced body : List ℕ) : Type 0 wh
   pub attributes_fit : length attributes < 2 ^ 16
   pub whole : body ≡ with_u16_length withdrawn ++ (with_u16_length attributes ++ announced)
 
--- `attrs` with the next hop of NEXT_HOP, the MP_REACH_NLRI `reach` and the prefixes `withdrawn` of
--- MP_UNREACH_NLRI are the content of `list`, as that of an UPDATE. Neither of these two may be there twice
+-- an UPDATE with the attributes `list` says this: `attrs`, with AS numbers of this width in AS_PATH and the
+-- next hop of NEXT_HOP; `reach`, its MP_REACH_NLRI; and `withdrawn`, the prefixes of its MP_UNREACH_NLRI. It
+-- has each of these two at most once
 pub record AreUpdateContentOf (width : AsWidth) (attrs : Attrs) (reach : Option Reach) (withdrawn : List Network) (list : List Attribute) : Type 0 where
   pub said : AreAttrsOf width attrs list
   pub hop : SpellsOptional SpellsIPv4 attrs.next_hop (first_value NEXT_HOP list)
@@ -45,8 +46,9 @@ pub record AreUpdateContentOf (width : AsWidth) (attrs : Attrs) (reach : Option 
   pub unreached : SpellsMpUnreach withdrawn (first_value MP_UNREACH_NLRI list)
   pub unreached_once : repeats MP_UNREACH_NLRI list ≡ false
 
--- the attributes of an UPDATE, and the prefixes of its MP_REACH_NLRI and MP_UNREACH_NLRI, are those of
--- `list`. Its other prefixes may be any
+-- the attributes of `update`, and the prefixes of its MP_REACH_NLRI and MP_UNREACH_NLRI, are those of `list`,
+-- whose AS_PATH has AS numbers of this width; `mp_attrs` are its attributes, but with the next hop of
+-- MP_REACH_NLRI. Its other prefixes may be any
 pub record IsUpdateOf (width : AsWidth) (update : Update) (list : List Attribute) : Type 0 where
   pub reach : Option Reach
   pub together : AreUpdateContentOf width update.attrs reach update.mp_withdrawn list

@@ -22,7 +22,7 @@ use std::alloc::Global;
 
 /// The octets of a list of path attributes, and the size of the AS numbers in its AS_PATH.
 #[derive(Clone, Copy)]
-pub(crate) struct AttributeOctets<'a> {
+pub(crate) struct AttributeListOctets<'a> {
     /// The octets of the list, without the field with their number.
     pub(crate) octets: &'a [u8],
     /// The size of the AS numbers in AS_PATH.
@@ -89,15 +89,17 @@ fn read_attribute<'a>(
     Ok(())
 }
 
-/// Clears the path of `attrs` if AS_PATH isn't in `types`, the types of the attributes that a list
-/// has, and the communities if COMMUNITIES isn't: they are of the list parsed before. The memory of
-/// the communities is freed if it has capacity for more than [`MOST_SPARE`] of them.
-#[inline]
-fn clear_absent_lists(attrs: &mut Attrs, types: &SeenTypes)
+/// Clears the AS path and the communities that `attrs` still has from the attributes parsed before,
+/// if the new list of attributes doesn't have them. `types` has the types of the new list: the path
+/// is cleared unless AS_PATH is among them, and the communities unless COMMUNITIES is. The memory
+/// of cleared communities is freed if it has capacity for more than [`MOST_SPARE`] of them, or else
+/// kept.
+#[inline(always)]
+fn clear_absent_lists(alloc: Global, attrs: &mut Attrs, types: &SeenTypes)
     ensures { AreCleared types.now attrs.old attrs.new }
 {
     if !types.has(AS_PATH) {
-        attrs.path.clear();
+        attrs.path.clear(alloc);
     }
     if !types.has(COMMUNITIES) {
         attrs.communities.items.clear();
@@ -126,7 +128,7 @@ fn free_communities(communities: &mut Communities)
 pub(crate) fn read_attribute_list<'a>(
     alloc: Global,
     attrs: &mut Attrs,
-    sent: AttributeOctets<'a>,
+    sent: AttributeListOctets<'a>,
     later: &mut DeferredValues<'a>,
     types: &mut SeenTypes,
 ) -> Result<(), WireFault>
@@ -153,6 +155,6 @@ pub(crate) fn read_attribute_list<'a>(
         }
         rest = framed.rest;
     }
-    clear_absent_lists(attrs, types);
+    clear_absent_lists(alloc, attrs, types);
     Ok(())
 }

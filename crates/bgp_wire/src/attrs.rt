@@ -5,7 +5,7 @@ ghost use Rattle.std.specs.Prelude.{◌≡◌, OnOk, OnErr};
 ghost use Rattle.bgp_wire.specs.Parts.{absent_attrs, without_path_and_communities};
 ghost use Rattle.bgp_paths.specs.Readers.{empty_path};
 
-use bgp_paths::{AsPath, ListOf, copy_numbers, copy_path};
+use bgp_paths::{AsPath, VecAsList, copy_numbers, copy_path};
 use ip_prefix::Addr;
 use std::alloc::{AllocError, Global};
 use std::mem;
@@ -38,7 +38,7 @@ pub struct Aggregator {
 
 /// The communities of a route (RFC 1997), each a 32-bit number, in the order in which they are
 /// sent.
-pub type Communities = ListOf<u32>;
+pub type Communities = VecAsList<u32>;
 
 /// The path attributes of a route that this crate parses (RFC 4271, section 5; RFC 1997). Absent
 /// attributes are `None`, false or empty. Attributes of other types are dropped.

@@ -55,8 +55,8 @@ pub(crate) const AS4_PATH: u8 = 17;
 /// octets, beside an AGGREGATOR with two (RFC 6793, section 3).
 pub(crate) const AS4_AGGREGATOR: u8 = 18;
 
-/// The start of a slice split into parts: an attribute's value and type (`kind`), and all octets
-/// after the attribute. Its flags are dropped.
+/// A path attribute, split off the start of a slice: its value, its type (`kind`), and `rest`, the
+/// octets after the attribute. Its flags are dropped.
 #[derive(Clone, Copy)]
 pub(crate) struct AttributeAndRest<'a> {
     /// The value of the attribute, which isn't parsed.

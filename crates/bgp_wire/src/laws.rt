@@ -36,10 +36,12 @@ pub fn law_octets_have_one_message()
     ensures update { (width : AsWidth) → IsUnambiguous (SpellsUpdate width) }
 {}
 
-/// States the values of constants that the theorems and contracts use by name: of attributes, as
-/// the types and the flag (RFC 4271, section 4.3; RFC 4760; RFC 6793), of messages, as the size of
-/// the header and the type of UPDATE (RFC 4271, section 4.1), and of address families (RFC 4760).
-pub fn law_attribute_constants()
+/// States the values of the constants that the theorems and contracts use by name: the Extended
+/// Length flag and the types of path attributes (RFC 4271, section 4.3; RFC 1997; RFC 4760; RFC
+/// 6793), the exclusive upper bound of the types that are parsed, AS_TRANS (RFC 6793, section 9),
+/// the values of ORIGIN, the AFIs and the SAFI, the sizes of fields in octets, and the size of a
+/// message's header and the type of UPDATE (RFC 4271, section 4.1).
+pub fn law_bgp_constants()
     ensures extended_length { EXTENDED_LENGTH ≡ 16 }
     ensures kinds { KINDS ≡ 19 }
     ensures types { (ORIGIN ≡ 1) × (AS_PATH ≡ 2) × (NEXT_HOP ≡ 3) × (MULTI_EXIT_DISC ≡ 4)

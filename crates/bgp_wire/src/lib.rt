@@ -29,10 +29,10 @@ pub use bgp_paths::{
 };
 pub use framing::{AS_PATH, EXTENDED_LENGTH, MP_REACH_NLRI, ORIGIN};
 pub use laws::{
-    law_attribute_constants, law_octets_have_one_attribute_list, law_octets_have_one_message,
+    law_bgp_constants, law_octets_have_one_attribute_list, law_octets_have_one_message,
     law_octets_have_one_rib_entry,
 };
 pub use message::{Message, read_message, read_message_into};
-pub use parts::{MessageKind, Update, UpdateParts};
+pub use parts::{MessageKind, Update, UpdateBuffer};
 pub use prefixes::Prefixes;
 pub use rib_entry::{read_rib_attrs, read_rib_attrs_into};

@@ -8,7 +8,7 @@ ghost use Rattle.bgp_paths.specs.Readers.{ParsesOrFails, Refuses};
 ghost use Rattle.bgp_wire.specs.Parts.{message_of_parts, empty_parts};
 
 use crate::lengths::{LENGTH_SIZE, read_length};
-use crate::parts::{MessageKind, Update, UpdateParts};
+use crate::parts::{MessageKind, Update, UpdateBuffer};
 use crate::update::fill_update;
 use bgp_paths::{AsWidth, WireFault};
 use std::alloc::Global;
@@ -36,7 +36,7 @@ const MARKER_SIZE: usize = 16;
 /// A message split into the number of its type (`kind`) and its body, the octets after the header,
 /// which aren't parsed.
 #[derive(Clone, Copy)]
-struct TypeAndBody<'a> {
+struct RawMessage<'a> {
     /// The type of the message, by its number.
     kind: u8,
     /// The octets after the header.
@@ -46,7 +46,7 @@ struct TypeAndBody<'a> {
 /// Splits the message `octets` into its type and its body (RFC 4271, section 4.1). Returns `None`
 /// if `octets` is shorter than a header, or if its number of octets isn't the length in the header.
 /// The marker isn't checked, nor whether the type is known.
-fn split_message(octets: &[u8]) -> Option<TypeAndBody<'_>>
+fn split_message(octets: &[u8]) -> Option<RawMessage<'_>>
     ensures some { IfSome result (λ f. IsMessage f.kind f.body.now octets.now) }
     ensures none { IfNone result ((kind : ℕ) (body : List ℕ) →
         IsMessage kind body octets.now → ⊥) }
@@ -60,7 +60,7 @@ fn split_message(octets: &[u8]) -> Option<TypeAndBody<'_>>
         return None;
     }
     let (&kind, body) = rest.split_first()?;
-    Some(TypeAndBody { kind, body })
+    Some(RawMessage { kind, body })
 }
 
 /// Parses `octets` as one BGP message. `width` is the size of the AS numbers in its AS_PATH. Fails
@@ -70,7 +70,7 @@ fn split_message(octets: &[u8]) -> Option<TypeAndBody<'_>>
 pub fn read_message(alloc: Global, width: AsWidth, octets: &[u8]) -> Result<Message, WireFault>
     ensures { ParsesOrFails (SpellsMessage width) octets.now result }
 {
-    let mut parts = UpdateParts::empty(alloc);
+    let mut parts = UpdateBuffer::empty(alloc);
     match fill_message(alloc, &mut parts, width, octets)? {
         MessageKind::Update => Ok(Message::Update(parts.into_update()?)),
         MessageKind::Other(kind) => Ok(Message::Other(kind)),
@@ -85,7 +85,7 @@ pub fn read_message(alloc: Global, width: AsWidth, octets: &[u8]) -> Result<Mess
 #[inline]
 fn fill_message(
     alloc: Global,
-    parts: &mut UpdateParts,
+    parts: &mut UpdateBuffer,
     width: AsWidth,
     octets: &[u8],
 ) -> Result<MessageKind, WireFault>
@@ -111,7 +111,7 @@ fn fill_message(
 /// `parts` is then empty, without memory.
 pub fn read_message_into(
     alloc: Global,
-    parts: &mut UpdateParts,
+    parts: &mut UpdateBuffer,
     width: AsWidth,
     octets: &[u8],
 ) -> Result<MessageKind, WireFault>
@@ -123,7 +123,7 @@ pub fn read_message_into(
 {
     let result = fill_message(alloc, parts, width, octets);
     if result.is_err() {
-        *parts = UpdateParts::empty(alloc);
+        *parts = UpdateBuffer::empty(alloc);
     }
     result
 }

@@ -1,5 +1,5 @@
 //! Parsers of the next hop in MP_REACH_NLRI (RFC 4760, section 3; RFC 2545, section 3). The parser
-//! of RIB entries calls [`set_rib_next_hop`], and the parser of UPDATEs [`read_next_hop`]; read
+//! of RIB entries calls [`choose_rib_next_hop`], and the parser of UPDATEs [`read_next_hop`]; read
 //! that function first.
 
 ghost use Rattle.std.specs.Prelude.{◌≡◌, if◌then◌else◌, Option, Some, length, OnOk, OnErr};
@@ -44,10 +44,11 @@ pub(crate) fn read_next_hop(octets: &[u8]) -> Option<Addr>
     }
 }
 
-/// Parses the next hop at the start of `octets`: its length, of one octet, and then the address.
-/// Octets after it are ignored. Returns `None` if `octets` ends before or inside the next hop, or
-/// if its length isn't 4, 16 or 32.
-fn read_sized_next_hop(octets: &[u8]) -> Option<Addr>
+/// Parses the next hop at the start of `octets`: its length in octets, of one octet, and then the
+/// address. If the length is 32, the last 16 octets are a link-local address, which is ignored (RFC
+/// 2545, section 3). Octets after the next hop are ignored too. Returns `None` if `octets` ends
+/// before or inside the next hop, or if the length isn't 4, 16 or 32.
+fn read_length_prefixed_next_hop(octets: &[u8]) -> Option<Addr>
     ensures { ParsesTo SpellsSizedHop octets.now result }
 {
     let (&len, rest) = octets.split_first()?;
@@ -66,31 +67,31 @@ fn read_rib_next_hop(octets: &[u8]) -> Option<Addr>
     // the form is the full one.
     let (&first, _) = octets.split_first()?;
     if first != 0 {
-        return read_sized_next_hop(octets);
+        return read_length_prefixed_next_hop(octets);
     }
     let (_, rest) = octets.split_at_checked(FAMILY_SIZE)?;
-    read_sized_next_hop(rest)
+    read_length_prefixed_next_hop(rest)
 }
 
 /// Chooses the next hop of a RIB entry for a prefix of `family` (RFC 6396, section 4.3.4). `hop` is
-/// that of NEXT_HOP before, and `value` is the value of MP_REACH_NLRI, or `None` if that is absent.
-/// If the family is IPv6 or `hop` is `None`, `hop` becomes the next hop in `value`; otherwise, or
-/// if `value` is `None`, it is unchanged. Fails if `value` is malformed, be its next hop needed or
-/// not; `hop` is then unchanged.
+/// that of NEXT_HOP before, and `mp_reach` is the value of MP_REACH_NLRI, or `None` if that is
+/// absent. If the family is IPv6 or `hop` is `None`, `hop` becomes the next hop in `mp_reach`;
+/// otherwise, or if `mp_reach` is `None`, it is unchanged. Fails if `mp_reach` is malformed, be its
+/// next hop needed or not; `hop` is then unchanged.
 #[inline(always)]
-pub(crate) fn set_rib_next_hop(
+pub(crate) fn choose_rib_next_hop(
     family: Family,
     hop: &mut Option<Addr>,
-    value: Option<&[u8]>,
+    mp_reach: Option<&[u8]>,
 ) -> Result<(), IllFormed>
     ensures filled { OnOk result ((reached : Option Address)
-        × SpellsOptional SpellsRibHop reached (lent_octets value.entry)
+        × SpellsOptional SpellsRibHop reached (lent_octets mp_reach.entry)
         × (hop.new ≡ rib_hop family hop.old reached)) }
     ensures refused { OnErr result
-        (IsNoSpelling (SpellsOptional SpellsRibHop) (lent_octets value.entry)) }
+        (IsNoSpelling (SpellsOptional SpellsRibHop) (lent_octets mp_reach.entry)) }
     ensures kept { OnErr result (hop.new ≡ hop.old) }
 {
-    let Some(octets) = value else {
+    let Some(octets) = mp_reach else {
         return Ok(());
     };
     let Some(reached) = read_rib_next_hop(octets) else {

@@ -1,4 +1,4 @@
-//! A parsed UPDATE (RFC 4271, section 4.3), in two types. Messages are parsed into [`UpdateParts`],
+//! A parsed UPDATE (RFC 4271, section 4.3), in two types. Messages are parsed into [`UpdateBuffer`],
 //! whose memory is reused for the next message; [`Update`] is for a caller that keeps it.
 
 ghost use Rattle.std.specs.Prelude.{◌≡◌, IfOk};
@@ -34,11 +34,12 @@ pub struct Update {
     pub mp_announced: Prefixes,
 }
 
-/// An UPDATE message into which the next one can be parsed, reusing its memory. It has no second
-/// copy of the path attributes for the prefixes that MP_REACH_NLRI announces: those are `attrs`
-/// with `mp_hop` as the next hop. [`UpdateParts::into_update`] makes that copy.
+/// The contents of a parsed UPDATE message. The next message is parsed into the same value, so that
+/// its memory is reused. The path attributes are stored once, as `attrs`. They apply as they are to
+/// the prefixes of the NLRI field, and with `mp_hop` as the next hop to the prefixes of
+/// MP_REACH_NLRI. [`UpdateBuffer::into_update`] makes a second copy for the latter.
 #[derive(Debug, Drop)]
-pub struct UpdateParts {
+pub struct UpdateBuffer {
     /// The IPv4 prefixes in the Withdrawn Routes field (RFC 4271, section 4.3).
     pub withdrawn: Prefixes,
     /// The IPv4 or IPv6 unicast prefixes that MP_UNREACH_NLRI withdraws (RFC 4760, section 4).
@@ -60,23 +61,23 @@ pub struct UpdateParts {
 
 /// Whether a message is an UPDATE or of another type (OPEN, KEEPALIVE, NOTIFICATION and so on).
 /// [`read_message_into`](crate::read_message_into) returns it, since it parses UPDATEs alone, into
-/// [`UpdateParts`].
+/// [`UpdateBuffer`].
 #[derive(Clone, Copy, Debug)]
 pub enum MessageKind {
-    /// An UPDATE, which was parsed into the [`UpdateParts`].
+    /// An UPDATE, which was parsed into the [`UpdateBuffer`].
     Update,
     /// A message of another type, with the number of its type (RFC 4271, section 4.1). Its body
-    /// wasn't parsed, and the [`UpdateParts`] are as they were.
+    /// wasn't parsed, and the [`UpdateBuffer`] is as it was.
     Other(u8),
 }
 
-impl UpdateParts {
+impl UpdateBuffer {
     /// Returns an UPDATE without prefixes and path attributes, without allocating memory. Messages
     /// can be parsed into it.
-    pub fn empty(alloc: Global) -> UpdateParts
+    pub fn empty(alloc: Global) -> UpdateBuffer
         ensures { result ≡ empty_parts }
     {
-        UpdateParts {
+        UpdateBuffer {
             withdrawn: Prefixes::empty(alloc),
             mp_withdrawn: Prefixes::empty(alloc),
             attrs: Attrs::empty(alloc),
@@ -86,12 +87,12 @@ impl UpdateParts {
         }
     }
 
-    /// Converts the parts into an [`Update`]. If `mp_announced` has prefixes, the path attributes
-    /// are copied for them; if memory allocation for that fails, returns `AllocError`.
+    /// Converts the buffer into an [`Update`]. If `mp_announced` has prefixes, the path attributes
+    /// are copied for them. Returns `AllocError` if memory allocation for that copy fails.
     pub fn into_update(self) -> Result<Update, AllocError>
         ensures { IfOk result (λ update. update ≡ update_of_parts self) }
     {
-        let UpdateParts {
+        let UpdateBuffer {
             withdrawn,
             mp_withdrawn,
             attrs,

@@ -6,12 +6,12 @@ ghost use Rattle.ip_prefix.specs.Sequences.{SpellsAll};
 ghost use Rattle.ip_prefix.specs.Network.{SpellsNetwork};
 ghost use Rattle.bgp_paths.specs.Readers.{Refuses};
 
-use bgp_paths::{ListOf, WireFault};
+use bgp_paths::{VecAsList, WireFault};
 use ip_prefix::{Family, Prefix};
 
 /// The IP prefixes that a field of a message announces or withdraws, in the order in which they are
 /// sent.
-pub type Prefixes = ListOf<Prefix>;
+pub type Prefixes = VecAsList<Prefix>;
 
 /// Parses `octets` as prefixes of `family`, one after the other, each a length in bits and as few
 /// octets as hold them (RFC 4271, section 4.3), and replaces `prefixes` with them. Empty `octets`
@@ -35,9 +35,10 @@ pub(crate) fn fill_prefixes(
 }
 
 /// Parses `octets` as prefixes of `family`, one after the other (RFC 4271, section 4.3), and
-/// replaces `prefixes` with them. It is the part of [`fill_prefixes`] that isn't inlined. Fails
-/// with `Malformed` if `octets` ends inside a prefix or if a length is too great, and with `Memory`
-/// if memory allocation fails; `prefixes` is then unspecified.
+/// replaces `prefixes` with them. [`fill_prefixes`] calls it for `octets` that aren't empty; it is
+/// correct for empty ones too. Fails with `Malformed` if `octets` ends inside a prefix or if a
+/// length is more than 32 (IPv4) or 128 (IPv6) bits, and with `Memory` if memory allocation fails;
+/// `prefixes` is then unspecified.
 #[inline(never)]
 fn fill_nonempty_prefixes(
     prefixes: &mut Prefixes,

@@ -31,7 +31,9 @@ enum AfiSafi<'a> {
 }
 
 /// Parses the AFI, of two octets, big-endian, and the SAFI, of one, at the start of `octets` (RFC
-/// 4760, sections 3 and 4). Returns `None` if `octets` has fewer than three octets.
+/// 4760, sections 3 and 4). For IPv4 or IPv6 unicast, returns the family and the octets after the
+/// SAFI, and for all others [`AfiSafi::Another`]. Returns `None` if `octets` has fewer than three
+/// octets.
 fn read_afi_safi(octets: &[u8]) -> Option<AfiSafi<'_>>
     ensures { IsAfiSafiOf octets.now result }
 {
@@ -43,8 +45,8 @@ fn read_afi_safi(octets: &[u8]) -> Option<AfiSafi<'_>>
     }
 }
 
-/// The start of a slice split into parts: a next hop, and the octets after the reserved octet that
-/// follows it.
+/// A next hop, split off the value of MP_REACH_NLRI, and the octets after the reserved octet that
+/// follows it (RFC 4760, section 3).
 #[derive(Clone, Copy)]
 struct NextHopAndRest<'a> {
     /// The next hop; a link-local address after it is dropped.
@@ -53,9 +55,11 @@ struct NextHopAndRest<'a> {
     rest: &'a [u8],
 }
 
-/// Splits a next hop off the start of `octets`: its length, of one octet, its address, and a
-/// reserved octet, which is ignored (RFC 4760, section 3). Returns `None` if `octets` ends before
-/// the reserved octet is there, or if the length isn't 4, 16 or 32.
+/// Splits the next hop of MP_REACH_NLRI off the start of `octets`: one octet with the length of the
+/// address, the address, and a reserved octet, which is ignored (RFC 4760, section 3). If the
+/// length is 32, the last 16 octets are a link-local address, which is ignored too (RFC 2545,
+/// section 3). Returns `None` if `octets` ends before the reserved octet, or if the length isn't 4,
+/// 16 or 32.
 fn split_next_hop(octets: &[u8]) -> Option<NextHopAndRest<'_>>
     ensures some { IfSome result (λ f. BeginsWithHop f.hop f.rest.now octets.now) }
     ensures none { IfNone result ((hop : Address) (rest : List ℕ) →

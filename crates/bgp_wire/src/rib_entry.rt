@@ -7,10 +7,10 @@ ghost use Rattle.bgp_wire.specs.Parts.{absent_attrs};
 ghost use Rattle.bgp_paths.specs.Readers.{ParsesOrFails, Refuses};
 
 use crate::as4::merge_as4;
-use crate::attribute_list::{AttributeOctets, DeferredValues, read_attribute_list};
+use crate::attribute_list::{AttributeListOctets, DeferredValues, read_attribute_list};
 use crate::attrs::Attrs;
 use crate::framing::MP_REACH_NLRI;
-use crate::next_hop::set_rib_next_hop;
+use crate::next_hop::choose_rib_next_hop;
 use crate::seen_types::SeenTypes;
 use bgp_paths::{AsWidth, WireFault};
 use ip_prefix::Family;
@@ -33,13 +33,13 @@ fn fill_rib_attrs(
 {
     let mut later = DeferredValues::default();
     let mut types = SeenTypes::empty();
-    let sent = AttributeOctets { octets, width };
+    let sent = AttributeListOctets { octets, width };
     read_attribute_list(alloc, attrs, sent, &mut later, &mut types)?;
-    if types.repeats(MP_REACH_NLRI) {
+    if types.was_seen_twice(MP_REACH_NLRI) {
         return Err(WireFault::Malformed);
     }
     merge_as4(alloc, attrs, width, &later)?;
-    set_rib_next_hop(family, &mut attrs.next_hop, later.reach)?;
+    choose_rib_next_hop(family, &mut attrs.next_hop, later.reach)?;
     Ok(())
 }
 

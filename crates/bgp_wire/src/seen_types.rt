@@ -81,7 +81,7 @@ impl SeenTypes {
     /// Returns `true` if two or more attributes of type `kind` were added, `false` if one or none
     /// was. Requires that `kind` is below [`KINDS`].
     #[inline]
-    pub(crate) fn repeats(&self, kind: u8) -> bool
+    pub(crate) fn was_seen_twice(&self, kind: u8) -> bool
         requires { kind < KINDS }
         ensures { (list : List Attribute) → AreTypesOf self.now list → result ≡ repeats kind list }
     {

@@ -7,10 +7,10 @@ ghost use Rattle.bgp_paths.specs.Readers.{Refuses};
 ghost use Rattle.bgp_wire.specs.Update.{with_u16_length, SpellsUpdate};
 
 use crate::as4::merge_as4;
-use crate::attribute_list::{AttributeOctets, DeferredValues, read_attribute_list};
+use crate::attribute_list::{AttributeListOctets, DeferredValues, read_attribute_list};
 use crate::framing::{MP_REACH_NLRI, MP_UNREACH_NLRI};
 use crate::lengths::{LENGTH_SIZE, read_length};
-use crate::parts::UpdateParts;
+use crate::parts::UpdateBuffer;
 use crate::prefixes::fill_prefixes;
 use crate::reach::{fill_mp_reach, fill_mp_unreach};
 use crate::seen_types::SeenTypes;
@@ -34,16 +34,18 @@ fn split_length_prefixed(octets: &[u8]) -> Option<(&[u8], &[u8])>
     rest.split_at_checked(read_length(len))
 }
 
-/// Parses `octets`, the path attributes of an UPDATE, into `parts`: the attributes themselves, and
-/// the prefixes of MP_REACH_NLRI and MP_UNREACH_NLRI. The prefixes of the message's other fields
-/// are unchanged. `width` is the size of the AS numbers in AS_PATH. Fails with `Malformed` if
-/// `octets` isn't a list of attributes, if the first value of a type doesn't have the format of the
-/// type (but AS4_PATH and AS4_AGGREGATOR are then ignored), or if MP_REACH_NLRI or MP_UNREACH_NLRI
-/// is there twice, and with `Memory` if memory allocation fails; `parts` is then unspecified.
+/// Parses `octets`, the path attributes of an UPDATE, into `parts`: the attributes, and the
+/// prefixes of MP_REACH_NLRI and MP_UNREACH_NLRI. Those of the fields Withdrawn Routes and NLRI are
+/// unchanged. `width` is the size of the AS numbers in AS_PATH. On an error, `parts` is
+/// unspecified. Fails with `Memory` if memory allocation fails, and with `Malformed`:
+/// - if `octets` isn't a list of attributes;
+/// - if the first attribute of a type doesn't have the format of the type, except that such an
+///   AS4_PATH or AS4_AGGREGATOR is ignored;
+/// - if MP_REACH_NLRI or MP_UNREACH_NLRI is there twice.
 #[inline]
 fn fill_from_attributes(
     alloc: Global,
-    parts: &mut UpdateParts,
+    parts: &mut UpdateBuffer,
     width: AsWidth,
     octets: &[u8],
 ) -> Result<(), WireFault>
@@ -52,9 +54,9 @@ fn fill_from_attributes(
 {
     let mut later = DeferredValues::default();
     let mut types = SeenTypes::empty();
-    let sent = AttributeOctets { octets, width };
+    let sent = AttributeListOctets { octets, width };
     read_attribute_list(alloc, &mut parts.attrs, sent, &mut later, &mut types)?;
-    if types.repeats(MP_REACH_NLRI) || types.repeats(MP_UNREACH_NLRI) {
+    if types.was_seen_twice(MP_REACH_NLRI) || types.was_seen_twice(MP_UNREACH_NLRI) {
         return Err(WireFault::Malformed);
     }
     merge_as4(alloc, &mut parts.attrs, width, &later)?;
@@ -71,7 +73,7 @@ fn fill_from_attributes(
 #[inline]
 pub(crate) fn fill_update(
     alloc: Global,
-    parts: &mut UpdateParts,
+    parts: &mut UpdateBuffer,
     width: AsWidth,
     body: &[u8],
 ) -> Result<(), WireFault>

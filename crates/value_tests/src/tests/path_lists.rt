@@ -15,35 +15,56 @@ fn assert_numbers(rt: &impl Abort, alloc: Global, numbers: &[u32]) -> Result<(),
     let own = AsNumbers::from_vec(Vec::from_slice(alloc, numbers)?);
     assert_list(rt, own.as_slice(), numbers);
     assert_list(rt, own.clone()?.as_slice(), numbers);
-    assert_list(rt, &own.into_vec(), numbers);
+    assert_eq!(rt; own.spare_capacity(), 0);
+    assert_list(rt, &own.into_vec(alloc)?, numbers);
     Ok(())
 }
 
 #[test]
 fn lists_are_as_made(rt: HostRuntime) -> Result<(), Fail> {
-    for numbers in [[1, 2].as_slice(), &[], &[0, 4_294_967_295, 0]] {
+    let eight = [1, 2, 3, 4, 5, 6, 7, 4_294_967_295];
+    for numbers in [
+        &eight[..2],
+        &[],
+        &[0, 4_294_967_295, 0],
+        &eight[..7],
+        &eight,
+    ] {
         assert_numbers(&rt, rt.alloc(), numbers)?;
     }
     Ok(())
 }
 
-/// The segment {7,8} alone.
-fn pair(alloc: Global) -> Result<Segments, AllocError> {
+/// As many segments {7,8}.
+fn pairs(alloc: Global, count: usize) -> Result<Segments, AllocError> {
     let mut segments = Vec::new(alloc);
-    segments.push(Segment {
-        numbers: AsNumbers::from_vec(Vec::from_slice(alloc, &[7, 8])?),
-        kind: SegmentKind::AsSet,
-    })?;
+    for _ in 0..count {
+        segments.push(Segment {
+            numbers: AsNumbers::from_vec(Vec::from_slice(alloc, &[7, 8])?),
+            kind: SegmentKind::AsSet,
+        })?;
+    }
     Ok(Segments::from_vec(segments))
+}
+
+/// Asserts that segments are so many, each {7,8}.
+fn assert_pairs(rt: &impl Abort, segments: &[Segment], count: usize) {
+    assert_eq!(rt; segments.len(), count);
+    for segment in segments {
+        assert_eq!(rt; segment.kind, SegmentKind::AsSet);
+        assert_eq!(rt; segment.numbers.as_slice(), [7, 8].as_slice());
+    }
 }
 
 #[test]
 fn segments_are_as_made(rt: HostRuntime) -> Result<(), Fail> {
-    let made = pair(rt.alloc())?;
-    assert_eq!(rt; made.as_slice().len(), 1);
-    let segments = made.into_vec();
-    assert_eq!(rt; segments.len(), 1);
-    assert_eq!(rt; segments[0].kind, SegmentKind::AsSet);
-    assert_eq!(rt; segments[0].numbers.as_slice(), [7, 8].as_slice());
+    for count in 0..4 {
+        let made = pairs(rt.alloc(), count)?;
+        assert_pairs(&rt, made.as_slice(), count);
+        let copy = made.clone()?;
+        assert_pairs(&rt, copy.as_slice(), count);
+        assert_eq!(rt; copy.spare_capacity(), 0);
+        assert_pairs(&rt, &made.into_vec(rt.alloc())?, count);
+    }
     Ok(())
 }

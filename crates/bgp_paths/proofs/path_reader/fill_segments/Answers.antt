@@ -1,49 +1,32 @@
-use Rattle.std.proofs.Common.{◌≡◌, ℕ, ◌+◌, [], ◌∷◌, ◌++◌, Err, IfErr, take, slice_set, ap, sym, subst, ◌∙◌, arith}
+use Rattle.std.proofs.Common.{◌≡◌, [], ◌∷◌, slice_set, sym, subst, arith}
 use Rattle.std.proofs.lemmas.Grind.{common_steps}
-use Rattle.std.proofs.lemmas.Result.{err_from_is_err_and}
-use Rattle.ip_prefix.specs.Sequences.{Begins, SpellsAll}
-use Rattle.octet_forms.proofs.Lists.{nonempty}
-use Rattle.octet_forms.proofs.Sequences.{one_more, none_at_all}
-use Rattle.bgp_paths.specs.declared.segment.Segment.{Segment}
+use Rattle.std.proofs.lemmas.Result.{on_ok_weaker, IfErr-weaker}
+use Rattle.ip_prefix.specs.Sequences.{SpellsAll}
 use Rattle.bgp_paths.specs.Path.{SpellsSegment}
-use Rattle.bgp_paths.specs.Readers.{IsSplitSegment, Refuses}
-use Rattle.bgp_paths.proofs.HasOneFront.{segment_code}
-use Rattle.bgp_paths.proofs.Refusing.{refused_rest, refused_numbers, segment_framed}
+use Rattle.bgp_paths.proofs.Refusing.{only_filled, only_refused}
 use Rattle.bgp_paths.proofs.path_reader.fill_segments.Goals as goal
 
-pub returns-in_default-clause-refused : goal.returns-in_default-clause-refused
-returns-in_default-clause-refused c =
-    let width = c.args.width in
-    let rest = c.loop-rest.rest.now in
-    let some : rest ≡ [] → ⊥ = λ e. nonempty rest (sym c.is_empty.ensures ∙ c.loop-rest-test.true) e in
-    none_at_all (SpellsSegment width) (segment_code width) (take c.loop-rest.count c.loop-rest.segments.items) rest c.args.octets.now some c.loop-rest.invariant.read c.in_default.ensures.none
-
-pub returns-in_err-fill_numbers-clause-refused : goal.returns-in_err-fill_numbers-clause-refused
-returns-in_err-fill_numbers-clause-refused c =
-    let width = c.args.width in
-    let octets = c.args.octets.now in
-    let rest = c.loop-rest.rest.now in
+pub returns-in-One-clause-filled : goal.returns-in-One-clause-filled
+returns-in-One-clause-filled c =
     let f = c.in-Some.framed in
-    let framed : (count : ℕ) × IsSplitSegment width f.kind count f.body.now f.rest.now rest = c.in-Some.ensures.some in
-    let some : rest ≡ [] → ⊥ = λ e. nonempty rest (sym c.is_empty.ensures ∙ c.loop-rest-test.true) e in
-    let fault = c.in_err-fill_numbers.field-0.0 in
-    let none = refused_numbers width f.kind framed.0 f.body.now f.rest.now rest fault framed.1 c.in_err-fill_numbers.ensures.refused in
-    let p = err_from_is_err_and c.from_residual-in_err-fill_numbers.result c.from_residual-in_err-fill_numbers.ensures.1 in
-    subst (λ answer. IfErr answer (Refuses (SpellsAll (SpellsSegment width)) octets)) (sym (p.1 ∙ ap Err p.2))
-    (refused_rest (SpellsSegment width) (segment_code width) (take c.loop-rest.count c.loop-rest.segments.items) rest octets fault some c.loop-rest.invariant.read none)
+    on_ok_weaker c.fill_segment.result (only_filled c.args.width f.kind f.body.now c.args.octets.now c.fill_segment.new.segment c.in-Some.ensures c.fill_segment.ensures.kind) c.fill_segment.ensures.filled
 
-pub loop-rest-preserved : goal.loop-rest-preserved
-loop-rest-preserved c =
-    let width = c.args.width in
-    let octets = c.args.octets.now in
+pub returns-in-One-clause-refused : goal.returns-in-One-clause-refused
+returns-in-One-clause-refused c =
     let f = c.in-Some.framed in
-    let count = c.loop-rest.count in
-    let framed : (count : ℕ) × IsSplitSegment width f.kind count f.body.now f.rest.now c.loop-rest.rest.now = c.in-Some.ensures.some in
-    let segment : Segment = record { numbers = c.fill_numbers.new.numbers.items; kind = f.kind } in
-    let put : take (count + 1) (slice_set c.if-count-len.segments.items count segment) ≡ take count c.loop-rest.segments.items ++ segment ∷ [] = grind (arith, common_steps) in
-    record {
-      within = grind (arith, common_steps);
-      read = subst (λ segments. Begins (SpellsAll (SpellsSegment width)) segments f.rest.now octets) (sym put)
-          (one_more (SpellsSegment width) (take count c.loop-rest.segments.items) segment f.rest.now c.loop-rest.rest.now octets c.loop-rest.invariant.read
-          (segment_framed width f.kind framed.0 f.body.now f.rest.now c.loop-rest.rest.now segment.numbers framed.1 c.in_ok-fill_numbers.ensures.filled));
-    }
+    IfErr-weaker c.fill_segment.result _ _ (λ fault. only_refused c.args.width f.kind f.body.now c.args.octets.now fault c.in-Some.ensures) c.fill_segment.ensures.refused
+
+pub returns-then-len-eq1-clause-filled : goal.returns-then-len-eq1-clause-filled
+returns-then-len-eq1-clause-filled c =
+    let f = c.in-Some.framed in
+    let filled = c.fill_segment-then-len-eq1 in
+    let alone : slice_set c.in-Listed.list.items 0 filled.new.segment ≡ filled.new.segment ∷ [] = grind (arith, common_steps) in
+    on_ok_weaker filled.result
+    (λ numbers. subst (λ segments. SpellsAll (SpellsSegment c.args.width) segments c.args.octets.now) (sym alone) (only_filled c.args.width f.kind f.body.now c.args.octets.now filled.new.segment c.in-Some.ensures filled.ensures.kind numbers))
+    filled.ensures.filled
+
+pub returns-then-len-eq1-clause-refused : goal.returns-then-len-eq1-clause-refused
+returns-then-len-eq1-clause-refused c =
+    let f = c.in-Some.framed in
+    let filled = c.fill_segment-then-len-eq1 in
+    IfErr-weaker filled.result _ _ (λ fault. only_refused c.args.width f.kind f.body.now c.args.octets.now fault c.in-Some.ensures) filled.ensures.refused

@@ -9,7 +9,7 @@ use Rattle.bgp_wire.proofs.OneAttribute.{attribute_code}
 use Rattle.bgp_wire.proofs.Plainly.{parts_plainly}
 use Rattle.bgp_paths.proofs.Refusing.{refused_on}
 use Rattle.bgp_wire.proofs.update.fill_from_attributes.Goals as goal
-use Rattle.bgp_wire.proofs.update.fill_from_attributes.Goals.{then-repeats-via-then-repeats, then-repeats-via-else-repeats+then-repeats-2}
+use Rattle.bgp_wire.proofs.update.fill_from_attributes.Goals.{then-was_seen_twice-via-then-was_seen_twice, then-was_seen_twice-via-else-was_seen_twice+then-was_seen_twice-2}
 
 pub returns-in_err-read_attribute_list-clause-refused : goal.returns-in_err-read_attribute_list-clause-refused
 returns-in_err-read_attribute_list-clause-refused c =
@@ -21,15 +21,15 @@ returns-in_err-read_attribute_list-clause-refused c =
 never_twice : (kind : ℕ) (list other : List Attribute) → list ≡ other → repeats kind list ≡ false → repeats kind other ≡ true → ⊥
 never_twice kind list other e once twice = let same : repeats kind list ≡ repeats kind other = ap (repeats kind) e in cc
 
-pub returns-then-repeats-clause-refused : goal.returns-then-repeats-clause-refused
-returns-then-repeats-clause-refused c parts s =
+pub returns-then-was_seen_twice-clause-refused : goal.returns-then-was_seen_twice-clause-refused
+returns-then-was_seen_twice-clause-refused c parts s =
     let read = c.in_ok-read_attribute_list.ensures.read in
     let lists = one_list SpellsAttribute attribute_code c.args.octets.now s.list read.list s.spelled read.spelled in
-    elim c.then-repeats.branch [
-      | then-repeats-via-then-repeats w ↦
-          never_twice MP_REACH_NLRI s.list read.list lists s.said.together.reached_once (sym (c.repeats.ensures read.list read.seen) ∙ w.if-repeats.true)
-      | then-repeats-via-else-repeats+then-repeats-2 w ↦
-          never_twice MP_UNREACH_NLRI s.list read.list lists s.said.together.unreached_once (sym (w.repeats-else-repeats.ensures read.list read.seen) ∙ w.if-repeats-2.true)
+    elim c.then-was_seen_twice.branch [
+      | then-was_seen_twice-via-then-was_seen_twice w ↦
+          never_twice MP_REACH_NLRI s.list read.list lists s.said.together.reached_once (sym (c.was_seen_twice.ensures read.list read.seen) ∙ w.if-was_seen_twice.true)
+      | then-was_seen_twice-via-else-was_seen_twice+then-was_seen_twice-2 w ↦
+          never_twice MP_UNREACH_NLRI s.list read.list lists s.said.together.unreached_once (sym (w.was_seen_twice-else-was_seen_twice.ensures read.list read.seen) ∙ w.if-was_seen_twice-2.true)
     ]
 
 pub returns-in_err-fill_mp_reach-clause-refused : goal.returns-in_err-fill_mp_reach-clause-refused

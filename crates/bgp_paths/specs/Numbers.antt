@@ -1,0 +1,16 @@
+-- Private.
+-- The AS numbers of a segment, wherever they are in memory.
+use Rattle.std.specs.Prelude.{◌≡◌, ℕ, ◌≤◌, List, length, take}
+use Rattle.bgp_paths.specs.declared.as_numbers.HeldNumbers.{HeldNumbers}
+use Rattle.bgp_paths.specs.declared.as_numbers.HeldNumbers.TheVariants.{Few, Listed}
+use Rattle.bgp_paths.specs.declared.as_numbers.TheConstants.{MOST_IN_PLACE}
+
+-- the AS numbers that are held, in order
+abbrev pub held_numbers : HeldNumbers → List ℕ
+held_numbers (Few count places) = take count places
+held_numbers (Listed numbers) = numbers.items
+
+-- of the places as many have AS numbers as the count says
+abbrev pub IsHeld : HeldNumbers → Type 0
+IsHeld (Few count places) = (count ≤ MOST_IN_PLACE) × (length places ≡ MOST_IN_PLACE)
+IsHeld (Listed numbers) = Unit {0}
