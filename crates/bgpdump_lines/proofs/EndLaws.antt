@@ -7,13 +7,13 @@ use Rattle.mrt_wire.specs.declared.RecordKind.TheVariants.{CutRecord}
 use Rattle.mrt_events.specs.declared.stamp.Stamp.{Stamp}
 use Rattle.mrt_wire.specs.declared.next.Phase.TheVariants.{Ended}
 use Rattle.mrt_wire.specs.Results.{Frame, Splits, RecordResult, Found, Bad, SourceState, start_state, TakesFront}
-use Rattle.mrt_wire.specs.Record.{rest_kind}
+use Rattle.mrt_wire.specs.Record.{rest_fault_kind}
 use Rattle.mrt_wire.specs.Answered.{HasAnswered}
 use Rattle.bgpdump_lines.specs.declared.fault.WriteFault.{WriteFault}
 use Rattle.bgpdump_lines.specs.declared.fault.WriteFault.TheVariants as write
 use Rattle.bgpdump_lines.specs.declared.outcome.Outcome.{Outcome}
 use Rattle.bgpdump_lines.specs.declared.outcome.Outcome.TheVariants as outcome
-use Rattle.bgpdump_lines.specs.Run.{reports, dump_texts, Texts, Outputs, MayHold, SawEnd, Writes, WritesPrefixes, EndsWithTexts, EndedByInput, IsTaken, all_results}
+use Rattle.bgpdump_lines.specs.Run.{reports, dump_texts, Texts, Outputs, MayHold, SawEnd, Writes, WritesPrefixes, EndsWithTexts, EndedByInputFault, IsTaken, all_results}
 use Rattle.bgpdump_lines.specs.declared.dump.TheConstants.{INPUT_LIMIT}
 use Rattle.bgpdump_lines.specs.WrittenSoFar.{outcome_of_finished_run, outcome_of_source_fault, outcome_of_write_fault, has_fault, StopsAtWriting, EndsUnfinished}
 use Rattle.bgpdump_lines.proofs.WritingLaws.{dump_texts-append, WritesPrefixes-longer, WritesPrefixes-whole, Writes-kept}
@@ -29,7 +29,7 @@ reports_some [] e none = cc
 reports_some (Found event ∷ found) e none = reports_some found e none
 reports_some (Bad fault ∷ found) e none = cc
 
-pub written_all : (fault : WriteFault) → EndedByInput (outcome_of_write_fault fault) → ⊥
+pub written_all : (fault : WriteFault) → EndedByInputFault (outcome_of_write_fault fault) → ⊥
 written_all write.Write by_input = by_input
 written_all write.Memory by_input = by_input
 
@@ -57,7 +57,7 @@ WritesPrefixes-held stamp q left left' found a b s fronts octets frames rest may
 
 -- all that the input may hold was found, where the source has ended
 all_held : (stamp : Stamp) (q : SourceState) (left left' : Option (List ℕ)) (found : List RecordResult) (outcome : Outcome) → (s : HasAnswered (start_state stamp INPUT_LIMIT) q left left' found) → q.phase ≡ Ended
-    → (rest_kind s.rest ≡ CutRecord → SawEnd outcome s.frames s.rest) → (octets : List ℕ) (frames : List Frame) (rest : List ℕ) → MayHold stamp (SawEnd outcome) left left' octets → Splits stamp None octets frames rest
+    → (rest_fault_kind s.rest ≡ CutRecord → SawEnd outcome s.frames s.rest) → (octets : List ℕ) (frames : List Frame) (rest : List ℕ) → MayHold stamp (SawEnd outcome) left left' octets → Splits stamp None octets frames rest
     → found ≡ all_results stamp frames rest
 all_held stamp q left left' found outcome s ended saw octets frames rest may split =
     let first = first_held stamp q left left' found (SawEnd outcome) s saw octets frames rest may split in
@@ -112,11 +112,11 @@ EndsWithTexts-stopped stamp left left' a b outcome (inr (fault, is, stop)) octet
     (EndsWithTexts-write fault stamp left left' a b stop octets frames rest (subst (λ o. MayHold stamp (SawEnd o) left left' octets) is may) split)
 
 -- a run that the input ended has written what the frames give
-pub Writes-stopped : (stamp : Stamp) (left left' : Option (List ℕ)) (a b : Outputs) (outcome : Outcome) → EndsUnfinished (start_state stamp INPUT_LIMIT) (Err outcome) left left' a b → EndedByInput outcome
+pub Writes-stopped : (stamp : Stamp) (left left' : Option (List ℕ)) (a b : Outputs) (outcome : Outcome) → EndsUnfinished (start_state stamp INPUT_LIMIT) (Err outcome) left left' a b → EndedByInputFault outcome
     → (taken after : List ℕ) (frames : List Frame) (rest : List ℕ) → TakesFront left left' taken after → Splits stamp None taken frames rest → Writes (dump_texts (all_results stamp frames [])) a b
 Writes-stopped stamp left left' a b outcome (inl (fault, is, at)) by_input taken after frames rest took split =
-    subst (λ f. Writes (dump_texts f) a b) (whole_found stamp left left' at.found fault at.faulty (subst EndedByInput is by_input) taken after frames rest took split) at.written
-Writes-stopped stamp left left' a b outcome (inr (fault, is, stop)) by_input taken after frames rest took split = absurd (written_all fault (subst EndedByInput is by_input))
+    subst (λ f. Writes (dump_texts f) a b) (whole_found stamp left left' at.found fault at.faulty (subst EndedByInputFault is by_input) taken after frames rest took split) at.written
+Writes-stopped stamp left left' a b outcome (inr (fault, is, stop)) by_input taken after frames rest took split = absurd (written_all fault (subst EndedByInputFault is by_input))
 
 -- what was taken by a run that its writing stopped
 IsTaken-write : (fault : WriteFault) (stamp : Stamp) (left left' : Option (List ℕ)) (a b : Outputs) → StopsAtWriting (start_state stamp INPUT_LIMIT) left left' a b fault

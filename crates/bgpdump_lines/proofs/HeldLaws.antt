@@ -9,7 +9,7 @@ use Rattle.mrt_events.specs.declared.stamp.Stamp.{Stamp}
 use Rattle.mrt_wire.specs.declared.next.Phase.{Phase}
 use Rattle.mrt_wire.specs.declared.next.Phase.TheVariants.{Reading, Ended, Spent}
 use Rattle.mrt_wire.specs.Results.{Frame, Splits, spellings, RecordResult, SourceState, start_state, results, TakesFront}
-use Rattle.mrt_wire.specs.Record.{rest_kind, IsRest, IsUnfinished}
+use Rattle.mrt_wire.specs.Record.{rest_fault_kind, IsRest, IsUnfinished}
 use Rattle.mrt_wire.specs.Answered.{IsUndecided, HasAnswered, RestSoFar}
 use Rattle.mrt_wire.specs.Taken.{Stops}
 use Rattle.mrt_wire.proofs.FirstLaws.{same_taken}
@@ -19,7 +19,7 @@ use Rattle.mrt_wire.proofs.SoFarLaws.{FirstSoFar, first_so_far, front_so_far, no
 use Rattle.bgpdump_lines.specs.declared.dump.TheConstants.{INPUT_LIMIT}
 use Rattle.bgpdump_lines.specs.declared.outcome.Outcome.{Outcome}
 use Rattle.bgpdump_lines.specs.declared.outcome.Outcome.TheVariants as outcome
-use Rattle.bgpdump_lines.specs.Run.{MayHold, EndedByInput, IsTaken, IsTakenAfterFrames, all_results}
+use Rattle.bgpdump_lines.specs.Run.{MayHold, EndedByInputFault, IsTaken, MayTakeAfterFrames, all_results}
 use Rattle.bgpdump_lines.specs.WrittenSoFar.{outcome_of_source_fault, TookWithoutResult, TookUntilSourceFault}
 
 -- what a source has left behind the frames is a rest
@@ -33,7 +33,7 @@ rest_so_far p q left left' found s = by_phase q.phase s.rest_is
 
 -- what was found so far is first in whatever the input may hold, where a cut record shows that the end was seen
 pub first_held : (stamp : Stamp) (q : SourceState) (left left' : Option (List ℕ)) (found : List RecordResult) (Saw : List Frame → List ℕ → Type 0) → (s : HasAnswered (start_state stamp INPUT_LIMIT) q left left' found)
-    → (rest_kind s.rest ≡ CutRecord → Saw s.frames s.rest) → (octets : List ℕ) (frames : List Frame) (rest : List ℕ) → MayHold stamp Saw left left' octets → Splits stamp None octets frames rest
+    → (rest_fault_kind s.rest ≡ CutRecord → Saw s.frames s.rest) → (octets : List ℕ) (frames : List Frame) (rest : List ℕ) → MayHold stamp Saw left left' octets → Splits stamp None octets frames rest
     → FirstSoFar (start_state stamp INPUT_LIMIT) q found frames rest
 first_held stamp q left left' found Saw s saw octets frames rest may split =
     let p : SourceState = start_state stamp INPUT_LIMIT in
@@ -78,7 +78,7 @@ untold_held stamp left left' found Saw u octets frames rest may split =
     front_so_far p u.place left u.mid found s (no_rest p u.place left u.mid found s u.reading) (u.octets ++ may.more) frames rest split'
 
 -- what was taken
-pub IsTaken-untold : (stamp : Stamp) (left left' : Option (List ℕ)) (outcome : Outcome) (found : List RecordResult) → (u : TookWithoutResult (start_state stamp INPUT_LIMIT) left left' found) → IsTakenAfterFrames outcome u.octets
+pub IsTaken-untold : (stamp : Stamp) (left left' : Option (List ℕ)) (outcome : Outcome) (found : List RecordResult) → (u : TookWithoutResult (start_state stamp INPUT_LIMIT) left left' found) → MayTakeAfterFrames outcome u.octets
     → (taken : List ℕ) × Consumes left left' taken × IsTaken stamp outcome taken
 IsTaken-untold stamp left left' outcome found u last =
     let s = u.so_far in
@@ -96,7 +96,7 @@ IsTaken-untold stamp left left' outcome found u last =
     )
 
 -- what was taken by a source that reads or has ended
-pub IsTaken-told : (stamp : Stamp) (q : SourceState) (left left' : Option (List ℕ)) (outcome : Outcome) (found : List RecordResult) → (s : HasAnswered (start_state stamp INPUT_LIMIT) q left left' found) → q.offset ≤ INPUT_LIMIT → IsTakenAfterFrames outcome s.rest
+pub IsTaken-told : (stamp : Stamp) (q : SourceState) (left left' : Option (List ℕ)) (outcome : Outcome) (found : List RecordResult) → (s : HasAnswered (start_state stamp INPUT_LIMIT) q left left' found) → q.offset ≤ INPUT_LIMIT → MayTakeAfterFrames outcome s.rest
     → (taken : List ℕ) × Consumes left left' taken × IsTaken stamp outcome taken
 IsTaken-told stamp q left left' outcome found s within last = (
   spellings s.frames ++ s.rest,
@@ -114,12 +114,12 @@ IsTaken-told stamp q left left' outcome found s within last = (
 -- ---- a source that a fault stopped
 
 -- a fault of the input leaves a record that has begun
-begun_by_input : (fault : SourceFault) (octets : List ℕ) → EndedByInput (outcome_of_source_fault fault) → IsUndecided fault octets → IsUnfinished octets
+begun_by_input : (fault : SourceFault) (octets : List ℕ) → EndedByInputFault (outcome_of_source_fault fault) → IsUndecided fault octets → IsUnfinished octets
 begun_by_input fault octets by_input (inl begun) = begun
-begun_by_input fault octets by_input (inr (memory, whole)) = absurd (subst (λ f. EndedByInput (outcome_of_source_fault f)) memory by_input)
+begun_by_input fault octets by_input (inr (memory, whole)) = absurd (subst (λ f. EndedByInputFault (outcome_of_source_fault f)) memory by_input)
 
 -- what was found is what the frames give that were taken whole, if the input failed or was too long
-pub whole_found : (stamp : Stamp) (left left' : Option (List ℕ)) (found : List RecordResult) (fault : SourceFault) → TookUntilSourceFault (start_state stamp INPUT_LIMIT) left left' found fault → EndedByInput (outcome_of_source_fault fault)
+pub whole_found : (stamp : Stamp) (left left' : Option (List ℕ)) (found : List RecordResult) (fault : SourceFault) → TookUntilSourceFault (start_state stamp INPUT_LIMIT) left left' found fault → EndedByInputFault (outcome_of_source_fault fault)
     → (taken after : List ℕ) (frames : List Frame) (rest : List ℕ) → TakesFront left left' taken after → Splits stamp None taken frames rest → found ≡ all_results stamp frames []
 whole_found stamp left left' found fault at by_input taken after frames rest took split =
     let u = at.untold in
@@ -132,7 +132,7 @@ whole_found stamp left left' found fault at by_input taken after frames rest too
     s.found_is ∙ (λ i. results p (sym all.0 i) (none i))
 
 -- what stands behind the frames
-last_of_source : (fault : SourceFault) (octets : List ℕ) → IsUndecided fault octets → IsTakenAfterFrames (outcome_of_source_fault fault) octets
+last_of_source : (fault : SourceFault) (octets : List ℕ) → IsUndecided fault octets → MayTakeAfterFrames (outcome_of_source_fault fault) octets
 last_of_source source.Read octets (inl begun) = begun
 last_of_source source.InputTooLong octets (inl begun) = begun
 last_of_source source.Memory octets (inl begun) = inl (record { none = begun.none; stops = inl begun.cut })

@@ -5,3 +5,6 @@ pub mod EndLaws
 pub mod RunLaws
 pub mod WritingLaws
 pub mod TableLaws
+pub mod ExampleLaws
+pub mod Ipv6ExampleLaws
+pub mod As4ExampleLaws

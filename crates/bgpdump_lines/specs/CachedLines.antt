@@ -15,16 +15,21 @@ use Rattle.bgpdump_lines.specs.Heading.{peer_fields, prefix_field, fields_after_
 abbrev pub IsTableHeading : Heading → Type 0
 IsTableHeading heading = (heading.first ≡ Record) × (heading.tag ≡ TableDump2)
 
--- The first three fields of a route's line in a TABLE_DUMP_V2 record.
-abbrev pub table_line_head : Route → List ℕ
-table_line_head route = tag_word TableDump2 ++ bar ∷ (decimal route.time ++ bar ∷ route_letter TableDump2)
+-- The first three fields of the line of a route with the time `time` in a TABLE_DUMP_V2 record.
+abbrev pub table_line_head : ℕ → List ℕ
+table_line_head time = tag_word TableDump2 ++ bar ∷ (decimal time ++ bar ∷ route_letter TableDump2)
+
+-- The lines of this peer's routes with the time `time` in TABLE_DUMP_V2 records begin with `octets`, and the
+-- prefix's field follows. Their first three fields end at the offset `end`.
+pub record IsLineStart (octets : List ℕ) (end : ℕ) (peer : Peer) (time : ℕ) : Type 0 where
+  pub within : end ≤ length octets
+  pub head : take end octets ≡ table_line_head time
+  pub front : octets ≡ table_line_head time ++ peer_fields peer
 
 -- The line of this peer's route in a TABLE_DUMP_V2 record is `in_front`, the prefix, and `behind`. Its first
 -- three fields end at the offset `end` of `in_front`.
 pub record IsPrefixlessLine (in_front : List ℕ) (end : ℕ) (behind : List ℕ) (peer : Peer) (route : Route) : Type 0 where
-  pub within : end ≤ length in_front
-  pub head : take end in_front ≡ table_line_head route
-  pub front : in_front ≡ table_line_head route ++ peer_fields peer
+  pub start : IsLineStart in_front end peer route.time
   pub tail : behind ≡ fields_after_prefix route
 
 -- The text has the prefix of the line, as a field, at the offsets of the line.

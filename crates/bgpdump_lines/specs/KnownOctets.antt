@@ -6,7 +6,7 @@ use Rattle.std.specs.Io.KnownBytes.{Consumes}
 use Rattle.mrt_events.specs.declared.stamp.Stamp.{Stamp}
 use Rattle.mrt_wire.specs.Results.{Frame, RecordResult, TakesFront}
 use Rattle.bgpdump_lines.specs.declared.outcome.Outcome.{Outcome}
-use Rattle.bgpdump_lines.specs.Run.{EndsOnOctets, EndsForAllContents, MayHold, Outputs, Texts}
+use Rattle.bgpdump_lines.specs.Run.{EndsOnKnownInput, EndsForAllContents, MayHold, Outputs, Texts}
 
 -- Of an input that shows `octets`, what is left after `taken` are taken: the octets after these.
 taken_of : (old new : Option (List ℕ)) (octets taken : List ℕ) → old ≡ Some octets → Consumes old new taken → (after : List ℕ) × TakesFront old new taken after × (octets ≡ taken ++ after)
@@ -22,6 +22,6 @@ held_octets stamp Saw old new octets taken is consumed =
 
 -- A run that ends so for all octets that its input may hold ends so for the octets that the input shows.
 pub ends_on_octets : (stamp : Stamp) (outcome : Outcome) (Saw : List Frame → List ℕ → Type 0) (texts : List RecordResult → Texts) (left left' : Option (List ℕ)) (old new : Outputs) (taken : List ℕ)
-    → Consumes left left' taken → EndsForAllContents stamp outcome Saw texts left left' old new → EndsOnOctets stamp outcome texts left old new
+    → Consumes left left' taken → EndsForAllContents stamp outcome Saw texts left left' old new → EndsOnKnownInput stamp outcome texts left old new
 ends_on_octets stamp outcome Saw texts left left' old new taken consumed ends octets frames rest is splits =
     ends octets frames rest (held_octets stamp Saw left left' octets taken is consumed) splits

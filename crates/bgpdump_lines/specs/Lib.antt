@@ -1,7 +1,10 @@
 pub mod Lines
 pub mod Heading
 pub mod CachedLines
+pub mod CachedStarts
 pub mod Run
 pub mod Flushing
 pub mod KnownOctets
 pub mod WrittenSoFar
+pub mod Examples
+pub mod Ipv6Example

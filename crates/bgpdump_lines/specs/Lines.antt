@@ -16,99 +16,102 @@ use Rattle.mrt_events.specs.declared.event.Event.{Event}
 use Rattle.mrt_events.specs.Event.{ItemValue, Announced, Withdrawn, Changed}
 use Rattle.bgpdump_lines.specs.declared.heading.TheConstants.{MICROS_DIGITS}
 
--- The ASCII code of `|`, which separates the fields of a line.
+-- the ASCII code of `|`, which separates the fields of a line
 abbrev pub bar : ℕ
 bar = 124
 
--- The ASCII code of a line feed, which ends a line.
+-- the ASCII code of a line feed, which ends a line
 abbrev pub line_feed : ℕ
 line_feed = 10
 
--- The ASCII code of `.`.
+-- the ASCII code of `.`
 abbrev pub dot : ℕ
 dot = 46
 
--- The ASCII code of `0`.
+-- the ASCII code of `0`
 abbrev pub zero_digit : ℕ
 zero_digit = 48
 
--- The ASCII code of a space.
+-- the ASCII code of a space
 abbrev pub space : ℕ
 space = 32
 
--- The line of these fields: a bar between each two of them, and a line feed at the end.
+-- the line of these fields: a bar between each two of them, and a line feed at the end
 abbrev pub line_from_fields : List (List ℕ) → List ℕ
 line_from_fields [] = line_feed ∷ []
 line_from_fields (field ∷ []) = field ++ line_feed ∷ []
 line_from_fields (field ∷ next ∷ fields) = field ++ bar ∷ line_from_fields (next ∷ fields)
 
--- The first field of an event's lines: the kind of its record.
+-- the first field of an event's lines: the kind of its record
 abbrev pub tag_word : Tag → List ℕ
 tag_word TableDump = codes "TABLE_DUMP"
 tag_word TableDump2 = codes "TABLE_DUMP2"
 tag_word Bgp4mp = codes "BGP4MP"
 tag_word Bgp4mpEt = codes "BGP4MP_ET"
 
--- Microseconds in decimal, with leading zeros up to `MICROS_DIGITS` digits.
+-- microseconds in decimal, with leading zeros up to `MICROS_DIGITS` digits
 abbrev pub micros_text : ℕ → List ℕ
 micros_text micros = replicate (MICROS_DIGITS - length (decimal micros)) zero_digit ++ decimal micros
 
--- The time of a record in a line: its seconds, and for BGP4MP_ET a dot and the microseconds, 0 if there are
--- none.
+-- the time of a record in a line: its seconds, and for BGP4MP_ET a dot and the microseconds, 0 if there are
+-- none
 abbrev pub time_text : Tag → Time → List ℕ
 time_text TableDump time = decimal time.seconds
 time_text TableDump2 time = decimal time.seconds
 time_text Bgp4mp time = decimal time.seconds
 time_text Bgp4mpEt time = decimal time.seconds ++ dot ∷ micros_text (unwrap_or time.micros 0)
 
--- The time in the line of a route: the time of the route for an entry of a table, or else the time of the
--- record.
+-- the time in the line of a route: the time of the route for an entry of a table, or else the time of the
+-- record
 abbrev pub route_time_text : Time → Tag → Route → List ℕ
 route_time_text time TableDump route = decimal route.time
 route_time_text time TableDump2 route = decimal route.time
 route_time_text time Bgp4mp route = time_text Bgp4mp time
 route_time_text time Bgp4mpEt route = time_text Bgp4mpEt time
 
--- The third field of a route's line: `B` for an entry of a table, `A` for an announcement.
+-- the third field of a route's line: `B` for an entry of a table, `A` for an announcement
 abbrev pub route_letter : Tag → List ℕ
 route_letter TableDump = codes "B"
 route_letter TableDump2 = codes "B"
 route_letter Bgp4mp = codes "A"
 route_letter Bgp4mpEt = codes "A"
 
--- The field of ORIGIN, empty if it is absent.
+-- the field of ORIGIN: `IGP`, `EGP` or `INCOMPLETE`, or empty if it is absent
 abbrev pub origin_text : Option Origin → List ℕ
 origin_text (Some Igp) = codes "IGP"
 origin_text (Some Egp) = codes "EGP"
 origin_text (Some Incomplete) = codes "INCOMPLETE"
 origin_text None = []
 
--- The field of the next hop, empty if it is absent.
+-- the field of the next hop, empty if it is absent
 abbrev pub next_hop_text : Option Address → List ℕ
 next_hop_text (Some address) = address_text address
 next_hop_text None = []
 
--- The field of LOCAL_PREF or MULTI_EXIT_DISC, 0 if it is absent.
+-- the field of LOCAL_PREF or MULTI_EXIT_DISC, 0 if it is absent
 abbrev pub number_or_zero : Option ℕ → List ℕ
 number_or_zero number = decimal (unwrap_or number 0)
 
--- The field of ATOMIC_AGGREGATE: `AG` if it is there, or else `NAG`.
+-- the field of ATOMIC_AGGREGATE: `AG` if it is there, or else `NAG`
 abbrev pub atomic_word : Bool → List ℕ
 atomic_word atomic = if atomic then codes "AG" else codes "NAG"
 
--- The field of AGGREGATOR: the AS number, a space and the address, or empty if it is absent.
+-- the field of AGGREGATOR: the AS number, a space and the address, or empty if it is absent
 abbrev pub aggregator_text : Option Aggregator → List ℕ
 aggregator_text (Some aggregator) = decimal aggregator.asn ++ space ∷ address_text aggregator.addr
 aggregator_text None = []
 
--- The fields of a route's attributes in the order of a line, with an empty field at the end.
+-- the fields of a line for the attributes of a route, in order: AS path, origin, next hop, LOCAL_PREF and
+-- MULTI_EXIT_DISC (0 if absent), communities, atomic aggregate, aggregator, and an empty one
 abbrev pub attribute_fields : Attrs → List (List ℕ)
 attribute_fields attrs =
     path_text attrs.path ∷ origin_text attrs.origin ∷ next_hop_text attrs.next_hop
     ∷ number_or_zero attrs.local_pref ∷ number_or_zero attrs.med ∷ communities_text attrs.communities
     ∷ atomic_word attrs.atomic ∷ aggregator_text attrs.aggregator ∷ [] ∷ []
 
--- The line of an item of an event with this time and tag, whose first field is `first`.
+-- the line of an item of an event with this time and tag: `first`, the time, `A` or `B`, `W`, or `STATE`, the
+-- peer's address and AS number, and then the prefix and the attributes, the prefix alone, or the old and the
+-- new state
 abbrev pub line_from_first_field : List ℕ → Time → Tag → ItemValue → List ℕ
 line_from_first_field first time tag (Announced peer network route) =
     line_from_fields (first ∷ route_time_text time tag route ∷ route_letter tag
@@ -120,16 +123,18 @@ line_from_first_field first time tag (Changed peer old new) =
     line_from_fields (first ∷ time_text tag time ∷ codes "STATE"
     ∷ address_text peer.addr ∷ decimal peer.asn ∷ decimal old ∷ decimal new ∷ [])
 
--- The line of an item of an event with this time and tag.
+-- the line that `bgpdump -m` prints for an item of an event with this time and tag; its first field is the
+-- word of the tag
 abbrev pub item_line : Time → Tag → ItemValue → List ℕ
 item_line time tag = line_from_first_field (tag_word tag) time tag
 
--- The lines of an event, one for each item.
+-- the lines that `bgpdump -m` prints for an event, one for each item
 abbrev pub event_lines : Event → List ℕ
 event_lines event = flat_map (item_line event.time event.tag) event.items
 
--- The line of a route in the table of a peer, given with its prefix.
-abbrev pub rib_line : Peer → Network × Route → List ℕ
-rib_line peer entry =
+-- the line of a route of `peer` in a reply: `RIB|time|B|address|AS number|prefix|attributes`, where `entry`
+-- is the prefix and the route to it
+abbrev pub rib_reply_line : Peer → Network × Route → List ℕ
+rib_reply_line peer entry =
     line_from_fields (codes "RIB" ∷ decimal entry.1.time ∷ codes "B"
     ∷ address_text peer.addr ∷ decimal peer.asn ∷ network_text entry.0 ∷ attribute_fields entry.1.attrs)

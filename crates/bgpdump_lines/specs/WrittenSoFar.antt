@@ -7,7 +7,7 @@ use Rattle.mrt_events.specs.declared.event.Event.{Event}
 use Rattle.mrt_wire.specs.Results.{RecordResult, Found, Bad, SourceState}
 use Rattle.bgpdump_lines.specs.declared.fault.WriteFault.{WriteFault}
 use Rattle.bgpdump_lines.specs.declared.fault.WriteFault.TheVariants.{Write, Memory}
-use Rattle.bgpdump_lines.specs.Run.{AppendsPrefix, Outputs, Writes, WritesPrefixes, IsTakenAfterFrames, dump_texts}
+use Rattle.bgpdump_lines.specs.Run.{AppendsPrefix, Outputs, Writes, WritesPrefixes, MayTakeAfterFrames, dump_texts}
 use Rattle.mrt_wire.specs.Buffered.{HoldsRecord}
 use Rattle.bgpdump_lines.specs.Flushing.{AreFlushed}
 use Rattle.bgpdump_lines.specs.declared.outcome.Outcome.{Outcome}
@@ -172,7 +172,7 @@ pub record StopsAtPrefixes (p : SourceState) (left left' : Option (List ℕ)) (o
 abbrev pub StopsAtWriting : SourceState → Option (List ℕ) → Option (List ℕ) → Outputs → Outputs → WriteFault → Type 0
 StopsAtWriting p left left' old new Write = StopsAtPrefixes p left left' old new
 StopsAtWriting p left left' old new Memory =
-    ((stop : StopsUnwritten p left left' old new) × IsTakenAfterFrames outcome.Memory stop.untold.octets)
+    ((stop : StopsUnwritten p left left' old new) × MayTakeAfterFrames outcome.Memory stop.untold.octets)
     ⊎ ((stop : StopsAtPrefixes p left left' old new) × (stop.so_far.rest ≡ []))
 
 -- How a run ended, from the state `p` of its source on, before its outputs are finished: with the input, and

@@ -5,14 +5,14 @@ ghost use Rattle.std.specs.Prelude.{◌≡◌, ◌≢◌, ◌↔◌, ◌||◌, �
 ghost use Rattle.std.specs.Io.KnownBytes.{Consumes};
 ghost use Rattle.mrt_wire.specs.Results.{start_state, TakesFront};
 ghost use Rattle.mrt_wire.specs.Answered.{answer_results, is_nothing};
-ghost use Rattle.bgpdump_lines.specs.Run.{dump_texts, outputs_of, EndsOnOctets, IsTaken, SawEnd, HoldsForDevices, EndsForAllContents, WritesWholeRecords};
+ghost use Rattle.bgpdump_lines.specs.Run.{dump_texts, outputs_of, EndsOnKnownInput, IsTaken, SawEnd, HoldsForDevices, EndsForAllContents, WritesBeforeInputFault};
 ghost use Rattle.bgpdump_lines.specs.Flushing.{AreFlushed, LeavesFlushed};
 ghost use Rattle.bgpdump_lines.specs.WrittenSoFar.{is_read_fault, is_write_fault, EndsUnfinished};
 
 use crate::line_cache::LineCache;
 use crate::outcome::Outcome;
 use crate::output::{Output, finish_outputs, flush_before_waiting};
-use crate::write::write_next;
+use crate::write::write_lines_or_report;
 use ip_prefix::Text;
 use mrt_wire::{Input, Next, Source, Stamp};
 use std::alloc::Global;
@@ -28,8 +28,8 @@ pub const INPUT_LIMIT: u64 = 1 << 40;
 /// failed before.
 ///
 /// It stops at the end of the input, after a header with a length above 16,777,216 octets (which is
-/// reported), or at the first error, which the [`Outcome`] names. If nothing fails, it finishes `out` and
-/// then `err`.
+/// reported), or at the first error, which the [`Outcome`] names. If nothing fails, it calls
+/// [`Output::finish`] of `out` and then of `err`.
 pub fn run_dump<I: Input, O: Output, E: Output>(
     alloc: Global,
     input: &mut I,
@@ -41,14 +41,14 @@ pub fn run_dump<I: Input, O: Output, E: Output>(
     requires out_sound { O.failed out.old ≡ false }
     requires err_sound { E.failed err.old ≡ false }
 
-    // If the input shows its octets, the lines and reports of the records in them are written, or
-    // prefixes of these texts.
-    ensures octets { EndsOnOctets stamp result dump_texts (I.left input.old)
+    // If the input shows its octets, the lines and reports of the records in them are written: whole
+    // if the run is done or has reported faults, or else prefixes of these texts.
+    ensures octets { EndsOnKnownInput stamp result dump_texts (I.left input.old)
         (outputs_of O.written E.written out.old err.old)
         (outputs_of O.written E.written out.new err.new) }
 
-    // The lines and reports of the whole input are written, or prefixes of them, whatever octets may
-    // follow those taken. None follow if the run has met the end of the input.
+    // So they are whatever octets may follow those taken, provided that none do if the run has met the
+    // end of the input: nothing that is written depends on octets that weren't taken.
     ensures text { HoldsForDevices I.left O.written E.written
         (EndsForAllContents stamp result (SawEnd result) dump_texts)
         (input.old, out.old, err.old) (input.new, out.new, err.new) }
@@ -56,7 +56,7 @@ pub fn run_dump<I: Input, O: Output, E: Output>(
     // A run that ends as the input fails or is too long has written exactly the lines and reports of
     // the whole records taken.
     ensures whole_records { HoldsForDevices I.left O.written E.written
-        (WritesWholeRecords stamp result dump_texts)
+        (WritesBeforeInputFault stamp result dump_texts)
         (input.old, out.old, err.old) (input.new, out.new, err.new) }
 
     // No line waits: of outputs that tell what they hold back, nothing is held back at the end, nor where
@@ -82,10 +82,11 @@ pub fn run_dump<I: Input, O: Output, E: Output>(
     }
 }
 
-/// Writes the MRT records in `input` as [`run_dump`] does, but doesn't finish the outputs. Returns `true`
-/// if at least one faulty record was reported to `err`, and `false` if none was. Fails with the outcome
-/// of the program: a failed read or write, an input that is too long, or a lack of memory. `stamp`
-/// selects which time the routes of tables get: that of the dump, or that of their last change.
+/// Writes the MRT records in `input` as [`run_dump`] does, but doesn't call [`Output::finish`] after the
+/// last one. `stamp` selects which time the routes of tables get: that of the dump, or that of their last
+/// change. Returns `true` if at least one faulty record was reported to `err`, and `false` if none was.
+/// Fails with the [`Outcome`] of the program: a failed read or write, an input that is too long, or a
+/// lack of memory.
 fn dump_all<I: Input, O: Output, E: Output>(
     alloc: Global,
     input: &mut I,
@@ -104,7 +105,7 @@ fn dump_all<I: Input, O: Output, E: Output>(
 {
     let mut source = Source::new(alloc, stamp, INPUT_LIMIT);
     let mut text = Text::new(alloc);
-    let mut kept = LineCache::new(alloc);
+    let mut cache = LineCache::new(alloc);
     let mut reported = false;
     'steps: loop {
         flush_before_waiting(input, out, err)?;
@@ -112,7 +113,7 @@ fn dump_all<I: Input, O: Output, E: Output>(
         if let Next::End = next {
             return Ok(reported);
         }
-        reported |= write_next(out, err, &mut text, &mut kept, &next)?;
+        reported |= write_lines_or_report(out, err, &mut text, &mut cache, &next)?;
         source.recycle(next);
     }
 }

@@ -21,10 +21,11 @@ use std::alloc::AllocError;
 
 /// Appends the line of `item`, an announcement, withdrawal or state change, such as
 /// `BGP4MP|1700000000|W|192.0.2.1|65000|198.51.100.0/24`. `heading` gives the kind and the time of its
-/// record. Returns the description of the new line if it is an announcement's, for the next call, or
-/// `None` if it is another one's. `last`, if given, describes the last line of `text`; it requires that
-/// this line prints a route under `heading`. What both lines have in common is copied from it. Fails if
-/// memory allocation fails; `text` then ends with an unspecified part of the line.
+/// record. `last` describes the last line of `text`, or is `None`: fields that the new line has in common
+/// with that one are copied from it. Requires that the line described by `last` is that of an
+/// announcement under `heading`. Returns what the next call gets as `last`: a description of the new line
+/// if `item` is an announcement, or else `None`. Fails if memory allocation fails; `text` then ends with
+/// an unspecified part of the line.
 #[inline(always)]
 pub(crate) fn put_item_line<'a>(
     heading: &Heading,
@@ -65,30 +66,27 @@ pub(crate) fn put_item_line<'a>(
     }
 }
 
-/// Appends a line for each of `items` (announcements, withdrawals, state changes), or nothing if there
-/// are none. `heading` gives the kind and the time of their record. This is the inlined test for the
-/// usual case that there are none. Fails if memory allocation fails; `text` then ends with an unspecified
-/// part of the lines.
+/// Appends a line for each of `items` (announcements, withdrawals, state changes) in order. `heading`
+/// gives the kind and the time of their record. Fails if memory allocation fails; `text` then ends with
+/// an unspecified part of the lines.
 #[inline(always)]
 fn put_item_lines(heading: &Heading, items: &[Item], text: &mut Text) -> Result<(), AllocError>
     ensures { Prints text.old text.new (lines_under_heading heading.now (map item_value items.now)) result }
 {
+    // This is inlined, since in most events all items share a route or none do, so that `items` is often
+    // empty.
     if items.is_empty() {
         return Ok(());
     }
-    put_nonempty_item_lines(heading, items, text)
+    put_each_item_line(heading, items, text)
 }
 
-/// Appends a line for each of `items` (announcements, withdrawals, state changes; none is allowed, too).
-/// `heading` gives the kind and the time of their record. What an announcement's line has in common with
-/// the one before it is copied. Fails if memory allocation fails; `text` then ends with an unspecified
-/// part of the lines.
+/// Appends a line for each of `items` (announcements, withdrawals, state changes) in order, or nothing if
+/// there are none. `heading` gives the kind and the time of their record. What the line of an
+/// announcement has in common with that of one right before it is copied. Fails if memory allocation
+/// fails; `text` then ends with an unspecified part of the lines.
 #[inline(never)]
-fn put_nonempty_item_lines(
-    heading: &Heading,
-    items: &[Item],
-    text: &mut Text,
-) -> Result<(), AllocError>
+fn put_each_item_line(heading: &Heading, items: &[Item], text: &mut Text) -> Result<(), AllocError>
     ensures { Prints text.old text.new (lines_under_heading heading.now (map item_value items.now)) result }
 {
     // This is out of line, since in most events all items share a route or none do.

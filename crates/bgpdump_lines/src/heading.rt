@@ -5,7 +5,7 @@
 
 ghost use Rattle.std.specs.Prelude.{◌≡◌, ◌∷◌, ◌++◌};
 ghost use Rattle.bgpdump_lines.specs.WrittenSoFar.{Prints};
-ghost use Rattle.bgpdump_lines.specs.Lines.{bar, micros_text, time_text, item_line, rib_line};
+ghost use Rattle.bgpdump_lines.specs.Lines.{bar, micros_text, time_text, item_line, rib_reply_line};
 ghost use Rattle.bgpdump_lines.specs.Heading.{first_field, first_three_fields, line_under_heading};
 ghost use Rattle.bgpdump_lines.specs.CachedLines.{IsTableHeading};
 ghost use Rattle.ip_prefix.specs.Network.{Network};
@@ -23,7 +23,8 @@ use std::alloc::AllocError;
 /// zeros.
 const MICROS_DIGITS: usize = 6;
 
-/// The choice of the first field of a line.
+/// What the first field of a line names: the type of the MRT record that the line is from, or, as `RIB`,
+/// a routing table that the player of a script keeps.
 #[derive(Clone, Copy)]
 pub(crate) enum FirstField {
     /// The kind of the record that the line is from: `TABLE_DUMP`, `TABLE_DUMP2`, `BGP4MP` or
@@ -47,7 +48,8 @@ pub(crate) struct Heading {
 }
 
 impl Heading {
-    /// Returns the heading of the lines of `event`, what an MRT record reports: its kind and its time.
+    /// Returns the heading of the lines of `event`, the content of an MRT record: the type and the
+    /// timestamp of that record.
     #[inline(always)]
     pub(crate) fn of(event: &Event) -> Heading
         ensures line { line_under_heading result ≡ item_line event.now.time event.now.tag }
@@ -60,12 +62,13 @@ impl Heading {
         }
     }
 
-    /// Returns the heading of the lines of a peer's table: their first field is `RIB`, and the others are
-    /// those of a route from a TABLE_DUMP_V2 record, such as `RIB|1700000000|B`.
+    /// Returns the heading of the lines of a peer's table, which begin like `RIB|1700000000|B`: their
+    /// first field is `RIB`, and the others are those of a route from a TABLE_DUMP_V2 record. The time in
+    /// each line is that of its route ([`Route::time`]), so the time of this heading isn't used.
     #[inline(always)]
-    pub(crate) fn for_rib_lines() -> Heading
+    pub(crate) fn for_peer_table() -> Heading
         ensures { (peer : Peer) (prefix : Network) (route : Route) →
-            line_under_heading result (Announced peer prefix route) ≡ rib_line peer (prefix, route) }
+            line_under_heading result (Announced peer prefix route) ≡ rib_reply_line peer (prefix, route) }
     {
         Heading {
             first: FirstField::Rib,

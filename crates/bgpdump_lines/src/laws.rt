@@ -11,7 +11,7 @@ ghost use Rattle.bgpdump_lines.specs.Lines.{bar, line_feed, dot, zero_digit, spa
 ///   2^40,
 /// - the least number of digits that microseconds are written with: 6,
 /// - the ASCII codes of the characters that separate or end parts of a line.
-pub fn law_line_numbers()
+pub fn law_line_constants()
     ensures limit { INPUT_LIMIT ≡ 2 ^ 40 }
     ensures micros { MICROS_DIGITS ≡ 6 }
     ensures marks { bar ∷ line_feed ∷ dot ∷ zero_digit ∷ space ∷ [] ≡ codes "|\n.0 " }

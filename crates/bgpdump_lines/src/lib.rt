@@ -4,8 +4,10 @@
 //! `write.rt`.
 #![tactic(auto)]
 
+mod cached_line;
 mod dump;
 mod event_lines;
+mod example_laws;
 mod fault;
 mod fields;
 mod heading;
@@ -20,9 +22,14 @@ mod write;
 
 pub use dump::{INPUT_LIMIT, run_dump};
 pub use event_lines::put_lines;
+pub use example_laws::{
+    law_example_as4_path, law_example_cut_record, law_example_faults, law_example_ipv6_update,
+    law_example_microseconds, law_example_old_table, law_example_state_change, law_example_table,
+    law_example_too_long, law_example_update,
+};
 pub use fault::WriteFault;
 pub use fields::{put_number_field, put_peer_fields};
-pub use laws::law_line_numbers;
+pub use laws::law_line_constants;
 pub use outcome::Outcome;
 pub use output::{
     BufferedOutput, OutFault, Output, WriteOutput, finish_outputs, flush_before_waiting, put_all,

@@ -3,24 +3,22 @@
 //! prefix is copied. `table_lines.rt` looks lines up and inserts them, and `write.rt` counts records;
 //! read [`LineCache`] first.
 
-ghost use Rattle.std.specs.Prelude.{◌≡◌, ◌≤◌, ◌+◌, true, take, drop, length, IfSome, IsTrue, vec_len};
-ghost use Rattle.std.proofs.Props.{props};
+ghost use Rattle.std.specs.Prelude.{◌≡◌, ◌≤◌, IfSome, IsTrue, vec_len};
 ghost use Rattle.mrt_events.specs.declared.event.Tag.TheVariants.{TableDump2};
-ghost use Rattle.bgpdump_lines.specs.declared.line_cache.TheConstants.{LONGEST_LINE, MOST_LINES, HASH_COUNT};
+ghost use Rattle.bgpdump_lines.specs.declared.line_cache.TheConstants.{MOST_LINES, HASH_COUNT};
 ghost use Rattle.bgpdump_lines.specs.CachedLines.{IsPrefixlessLine};
+ghost use Rattle.bgpdump_lines.specs.CachedStarts.{BeginsLinesOf};
+ghost use Rattle.bgpdump_lines.specs.Heading.{fields_after_prefix};
 
-use crate::route_line::{Announcement, PrefixlessLine};
+use crate::cached_line::{CachedLine, LONGEST_TAIL, PrefixlessLine, START_ROOM};
 use ip_prefix::{Addr, Family};
-use mrt_wire::{Event, Peer, Route, Tag, same_peer, same_route};
+use mrt_wire::{Event, Peer, Route, Tag};
 use std::alloc::{AllocError, Global};
 use std::rc::Rc;
 
 /// The largest number of lines in a [`LineCache`]: 512. When it is full, the lines of further peers
 /// aren't cached.
 const MOST_LINES: usize = 512;
-
-/// The largest size of a cached line without its prefix, in octets: 512. A longer line isn't cached.
-const LONGEST_LINE: usize = 512;
 
 // With so few segments, a route takes little more memory than its line.
 /// The largest number of AS_PATH segments of a route whose line is cached: 2. The line of a route with
@@ -52,105 +50,6 @@ const TRIAL_LINES: usize = 1 << 12;
 /// multiple of the number of lines in that trial: 32.
 const PAUSE_FACTOR: usize = 32;
 
-/// The printed line of a peer's route in a table, without its prefix:
-/// `TABLE_DUMP2|1700000000|B|192.0.2.1|65000` and `|65000|IGP|192.0.2.1|0|0||NAG||`.
-#[derive(Drop)]
-struct CachedLine {
-    /// The peer that the line was printed for.
-    peer: Peer,
-    /// The route that the line was printed for.
-    route: Rc<Route>,
-    /// The octets of the line before the prefix's field, followed by those after it.
-    octets: Vec<u8>,
-    /// The end of the line's first three fields (kind, time, letter), in octets from the start of
-    /// `octets`.
-    head: usize,
-    /// The end of the fields before the prefix, in octets from the start of `octets`, where those after
-    /// the prefix begin.
-    front: usize,
-    /// Whether `octets` is the line of `peer` and `route`. It is `false` after an allocation error while
-    /// the line was replaced; the line is never found then.
-    is_valid: bool,
-    ghost short: { vec_len octets ≤ LONGEST_LINE },
-    // The term after `by` shows that the statement has at most one proof, as a ghost field must.
-    ghost within: { is_valid ≡ true → front ≤ length octets.items } by { Prim.hlevel props },
-    ghost ends: { is_valid ≡ true → IsPrefixlessLine (take front octets.items) head (drop front octets.items)
-        peer route.value } by { Prim.hlevel props },
-}
-
-impl CachedLine {
-    /// Returns a cached line with the octets `ends`, which are around its prefix. Requires that these
-    /// were printed for `peer` and `route`, and are at most 512 ([`LONGEST_LINE`]). Fails if memory
-    /// allocation fails.
-    fn of(
-        alloc: Global,
-        peer: &Peer,
-        route: &Rc<Route>,
-        ends: PrefixlessLine<'_>,
-    ) -> Result<CachedLine, AllocError>
-        requires announcement { IsPrefixlessLine ends.front.now ends.head ends.tail.now peer.now route.now.value }
-        requires short { length ends.front.now + length ends.tail.now ≤ LONGEST_LINE }
-    {
-        let mut line = CachedLine {
-            peer: *peer,
-            route: route.clone()?,
-            octets: Vec::with_capacity(alloc, LONGEST_LINE)?,
-            head: 0,
-            front: 0,
-            is_valid: false,
-        };
-        line.replace(peer, route, ends)?;
-        Ok(line)
-    }
-
-    /// Replaces this line by one with the octets `ends`, which are around its prefix. Requires that these
-    /// were printed for `peer` and `route`, and are at most 512 ([`LONGEST_LINE`]). Fails if memory
-    /// allocation fails; the line is then marked invalid, and [`find_line`](CachedLine::find_line)
-    /// returns `None` for it from then on.
-    fn replace(
-        &mut self,
-        peer: &Peer,
-        route: &Rc<Route>,
-        ends: PrefixlessLine<'_>,
-    ) -> Result<(), AllocError>
-        requires announcement { IsPrefixlessLine ends.front.now ends.head ends.tail.now peer.now route.now.value }
-        requires short { length ends.front.now + length ends.tail.now ≤ LONGEST_LINE }
-    {
-        self.is_valid = false;
-        self.octets.clear();
-        self.octets.extend_from_slice(ends.front)?;
-        self.octets.extend_from_slice(ends.tail)?;
-        self.peer = *peer;
-        self.route = route.clone()?;
-        self.head = ends.head;
-        self.front = ends.front.len();
-        self.is_valid = true;
-        Ok(())
-    }
-
-    /// Returns the octets of this line around its prefix, if it was printed for the peer of
-    /// `announcement` and for a route with equal attributes and an equal time. Returns `None` if not, or
-    /// if an error of [`replace`](CachedLine::replace) has made the line invalid.
-    #[inline(always)]
-    fn find_line(&self, announcement: Announcement<'_>) -> Option<PrefixlessLine<'_>>
-        ensures { IfSome result (λ ends. IsPrefixlessLine ends.front.now ends.head ends.tail.now
-            announcement.entry.peer.now announcement.entry.route.now) }
-    {
-        if self.is_valid
-            && same_peer(&self.peer, announcement.peer)
-            && same_route(&self.route, announcement.route)
-        {
-            let (front, tail) = self.octets.split_at(self.front);
-            return Some(PrefixlessLine {
-                front,
-                head: self.head,
-                tail,
-            });
-        }
-        None
-    }
-}
-
 /// Returns the last two octets of an address, IPv4 or IPv6, as a big-endian number. In them the addresses
 /// of peers differ most.
 #[inline(always)]
@@ -180,9 +79,9 @@ fn is_cacheable(route: &Route, time: u32) -> bool {
 }
 
 /// A cache of printed lines of tables, at most one for each peer, to copy from if a peer has an equal
-/// route to another prefix. It takes memory for at most [`MOST_LINES`] lines of [`LONGEST_LINE`] octets,
-/// and holds their routes. If it saved little during some thousands of lines (a trial), it is emptied and
-/// not used for many more lines (a pause), and then tried anew.
+/// route to another prefix. It takes memory for at most [`MOST_LINES`] lines, of [`START_ROOM`] and
+/// [`LONGEST_TAIL`] octets, and holds their routes. If it saved little during some thousands of lines (a
+/// trial), it is emptied and not used for many more lines (a pause), and then tried anew.
 #[derive(Drop)]
 pub(crate) struct LineCache {
     /// The allocator of the lines.
@@ -204,7 +103,8 @@ pub(crate) struct LineCache {
 }
 
 impl LineCache {
-    /// Returns an empty cache that is in use, without allocating memory.
+    /// Returns an empty cache at the start of a trial (see [`LineCache::end_trial`]), so that it is in
+    /// use. Allocates no memory.
     pub(crate) fn new(alloc: Global) -> LineCache {
         LineCache {
             alloc,
@@ -216,12 +116,12 @@ impl LineCache {
         }
     }
 
-    /// Returns `true` if the lines of `event` are to be copied from the cache and inserted into it: the
-    /// event, what an MRT record reports, is from a TABLE_DUMP_V2 record (RFC 6396, section 4.3), and the
-    /// cache is in use. Returns `false` for another record, or while the cache pauses because it saved
-    /// little; the lines of a TABLE_DUMP_V2 record shorten the pause.
+    /// Returns `true` if the lines of `event`, the content of an MRT record, are to be copied from the
+    /// cache or else inserted into it. Returns `false` if they aren't from a TABLE_DUMP_V2 record (RFC
+    /// 6396, section 4.3), or during a pause, in which the cache isn't used because it saved little
+    /// before. Called once for each event, as the lines of such a record shorten the pause.
     #[inline(always)]
-    pub(crate) fn accepts(&mut self, event: &Event) -> bool
+    pub(crate) fn should_use_for(&mut self, event: &Event) -> bool
         ensures { IsTrue result → event.now.tag ≡ TableDump2 }
     {
         match event.tag {
@@ -230,8 +130,9 @@ impl LineCache {
         }
     }
 
-    /// Returns `true` if the cache is in use. If it pauses because it saved little, counts `lines`
-    /// printed lines, but at least one, towards the end of the pause, and returns `false`.
+    /// Returns `true` if the cache is to be used for a record of `lines` lines, which are printed next.
+    /// Returns `false` during a pause, in which it isn't used because it saved little before; the record
+    /// then shortens the pause by its lines, or by one if it has none.
     #[inline(always)]
     fn begin(&mut self, lines: usize) -> bool {
         if self.pause == 0 {
@@ -241,8 +142,10 @@ impl LineCache {
         false
     }
 
-    /// Adds `lines`, the number of lines of a record that used the cache, to those of the trial in which
-    /// the cache is judged. If these are [`TRIAL_LINES`] or more, ends the trial.
+    /// Counts the lines of a record that was printed by use of the cache: adds `lines` to those of the
+    /// current trial, in which the cache is judged. If these are [`TRIAL_LINES`] or more, ends the trial
+    /// by [`LineCache::end_trial`], after which a pause may follow. Called once for each such record,
+    /// after its lines.
     #[inline(always)]
     pub(crate) fn end(&mut self, lines: usize) {
         self.printed = self.printed.saturating_add(lines);
@@ -265,25 +168,54 @@ impl LineCache {
         self.missed = 0;
     }
 
-    /// Returns the octets around the prefix of the cached line for the peer and the route of
-    /// `announcement`, or `None` if the cache has no line of this peer and an equal route. The prefix of
-    /// `announcement` doesn't matter.
+    /// Returns the cached line of `peer` and its index, if its start, the octets up to the prefix, is
+    /// that of the lines of `peer` for routes with the time `time`, in seconds since 1970. Returns `None`
+    /// if not, or if there is no cached line for the hash of the peer. What the line has after the prefix
+    /// may be of another route.
     #[inline(always)]
-    pub(crate) fn find_line(&self, announcement: Announcement<'_>) -> Option<PrefixlessLine<'_>>
-        ensures { IfSome result (λ ends. IsPrefixlessLine ends.front.now ends.head ends.tail.now
-            announcement.entry.peer.now announcement.entry.route.now) }
+    pub(crate) fn line_of(&self, peer: &Peer, time: u32) -> Option<(usize, &CachedLine)>
+        ensures { IfSome result (λ found. BeginsLinesOf found.1.now peer.now time) }
     {
-        let number = self.line_indexes.get(peer_hash(announcement.peer))?;
-        self.lines
-            .get(usize::from(*number))?
-            .find_line(announcement)
+        let index = usize::from(*self.line_indexes.get(peer_hash(peer))?);
+        let line = self.lines.get(index)?;
+        if line.begins_lines_of(peer, time) {
+            return Some((index, line));
+        }
+        None
     }
 
-    /// Inserts the line of `peer` and `route` with the octets `ends`, which are around its prefix.
-    /// Requires that these were printed for them. It replaces a line of the same hash of peers. Does
-    /// nothing if the line may not be cached (too long, too many AS_PATH segments, or a route's time
-    /// other than `time`, the time of the record in seconds), or if the cache is full. Fails if memory
-    /// allocation fails; the line isn't in the cache then.
+    /// Replaces the octets after the prefix of the cached line with the index `index`, which
+    /// [`LineCache::line_of`] returned, by `tail`. `time` is the time of the record, in seconds since
+    /// 1970. Does nothing if `tail` has more than [`LONGEST_TAIL`] octets, or if [`is_cacheable`] refuses
+    /// `route`. Requires that `tail` was printed for `route`. Fails if memory allocation fails; the line
+    /// is then used for its start only.
+    #[inline(never)]
+    pub(crate) fn replace_tail(
+        &mut self,
+        index: usize,
+        route: &Rc<Route>,
+        tail: &[u8],
+        time: u32,
+    ) -> Result<(), AllocError>
+        requires { tail.now ≡ fields_after_prefix route.now.value }
+    {
+        self.missed = self.missed.saturating_add(1);
+        if tail.len() > LONGEST_TAIL || !is_cacheable(route, time) {
+            return Ok(());
+        }
+        match self.lines.get_mut(index) {
+            Some(line) => line.replace_tail(route, tail),
+            None => Ok(()),
+        }
+    }
+
+    /// Inserts the line of `route` from `peer`. `ends` are the octets of the line before and after the
+    /// prefix. The cache has at most one line for each hash of a peer ([`peer_hash`]): one that is there
+    /// already, of this peer or of another one, is replaced. `time` is the time of the record, in seconds
+    /// since 1970. The line isn't inserted if [`is_cacheable`] refuses the route for that time, if it has
+    /// more than [`START_ROOM`] octets before the prefix or [`LONGEST_TAIL`] after it, or if the cache is
+    /// full and the line replaces none. Requires that `ends` were printed for `peer` and `route`. Fails
+    /// if memory allocation fails; at most the start of the line is then in the cache.
     #[inline(never)]
     pub(crate) fn insert(
         &mut self,
@@ -294,7 +226,8 @@ impl LineCache {
     ) -> Result<(), AllocError>
         requires { IsPrefixlessLine ends.front.now ends.head ends.tail.now peer.now route.now.value }
     {
-        if ends.front.len().saturating_add(ends.tail.len()) > LONGEST_LINE
+        if ends.front.len() > START_ROOM
+            || ends.tail.len() > LONGEST_TAIL
             || !is_cacheable(route, time)
         {
             self.missed = self.missed.saturating_add(1);

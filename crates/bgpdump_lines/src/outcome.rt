@@ -4,8 +4,9 @@
 ghost use Rattle.std.specs.Prelude.{◌≡◌};
 ghost use Rattle.bgpdump_lines.specs.WrittenSoFar.{exit_status};
 
-/// How an execution of the program ended, once it had its input and outputs: `bgpdump -m`, or a script.
-/// It determines the exit status.
+/// How an execution of the program (`bgpdump -m`, or a script) ended, once its command line was
+/// understood and its input and outputs were opened. It determines the exit status. If there is no memory
+/// for the buffers of the input and outputs, so that nothing is read, the outcome is `Memory`.
 #[derive(Clone, Copy, Debug, PartialEq, Eq)]
 pub enum Outcome {
     /// It came to its end, and nothing was reported as faulty.

@@ -39,14 +39,17 @@ pub trait Output {
         ensures octets { WriteAppends (written self.old) (written self.new) result octets.now }
         ensures failed { failed self.new ≡ (failed self.old || is_err result) };
 
-    /// Passes all octets that were written to the device. Called before a wait for input that may be
-    /// long, so that no line waits in a buffer.
+    /// Passes all octets that were written on to the device, so that none waits in a buffer. Called
+    /// before a wait for input that may be long. Fails if the device fails; how many of the octets it has
+    /// got is unspecified then.
     fn flush(&mut self) -> Result<(), OutFault>
         ensures octets { Keeps (written self.old) (written self.new) }
         ensures flushed { OnOk result (IsFlushed (pending self.new)) }
         ensures failed { failed self.new ≡ (failed self.old || is_err result) };
 
-    /// Passes all octets that were written to the device, once no more will be written.
+    /// Passes all octets that were written on to the device, as [`Output::flush`] does, after the last of
+    /// them was written. Fails if the device fails; how many of the octets it has got is unspecified
+    /// then.
     fn finish(&mut self) -> Result<(), OutFault>
         ensures octets { Keeps (written self.old) (written self.new) }
         ensures flushed { OnOk result (IsFlushed (pending self.new)) }
@@ -57,12 +60,15 @@ pub trait Output {
 /// more, is an [`OutFault`].
 #[derive(Drop)]
 pub struct WriteOutput<W> {
+    /// The writer that octets are written to.
     writer: W,
+    /// Whether a call has failed. Only contracts read it: later calls go to the writer even so.
     failed: bool,
 }
 
 impl<W: Write> WriteOutput<W> {
-    /// Returns an output that writes to `writer`, and hasn't failed.
+    /// Returns an output that writes to `writer`. Contracts count an output as failed once a call of its
+    /// methods has failed; the new one doesn't count as failed, whatever happened to `writer` before.
     pub fn new(writer: W) -> Self
         ensures written { ⟦<WriteOutput<W> as Output>⟧.written result ≡ W.contents writer }
         ensures failed { ⟦<WriteOutput<W> as Output>⟧.failed result ≡ false }
@@ -120,7 +126,8 @@ pub struct BufferedOutput<W: Write + Drop> {
 }
 
 impl<W: Write + Drop> BufferedOutput<W> {
-    /// Returns an output that writes to `writer`, and hasn't failed.
+    /// Returns an output that writes to `writer`. Contracts count an output as failed once a call of its
+    /// methods has failed; the new one doesn't count as failed, whatever happened to `writer` before.
     pub fn new(writer: BufWriter<W>) -> Self
         ensures written { ⟦<BufferedOutput<W> as Output>⟧.written result
             ≡ writer_contents W.contents writer }
@@ -203,9 +210,9 @@ pub fn flush_before_waiting<I: Input, O: Output, E: Output>(
     err.flush()
 }
 
-/// Finishes `out` and then `err` at the end of the program's work, and returns how it ended: `WriteFault`
-/// if one of them fails, or else `Reported` if `reported`, which says whether a faulty record or bad line
-/// was reported, or else `Done`. Requires that no output has failed.
+/// Calls [`Output::finish`] of `out` and then of `err` at the end of the program's work, and returns how
+/// it ended: `WriteFault` if one of the calls fails, or else `Reported` if `reported`, which says whether
+/// a faulty record or bad line was reported, or else `Done`. Requires that no output has failed.
 pub fn finish_outputs<O: Output, E: Output>(out: &mut O, err: &mut E, reported: bool) -> Outcome
     requires sound { (O.failed out.old || E.failed err.old) ≡ false }
     ensures outcome { result ≡ outcome_of_finished_run (O.failed out.new || E.failed err.new) reported }

@@ -6,8 +6,10 @@ ghost use Rattle.std.specs.Prelude.{◌≡◌, ◌≤◌, ◌++◌, take, length
 ghost use Rattle.mrt_events.specs.Event.{Announced};
 ghost use Rattle.bgpdump_lines.specs.Heading.{peer_fields, prefix_field, fields_after_prefix, line_under_heading, AreOffsetsOrdered, HasFieldsAt, EndsInLine, head_at, front_at, prefix_at, tail_at};
 ghost use Rattle.bgpdump_lines.specs.CachedLines.{HoldsPrefixOf};
+ghost use Rattle.bgpdump_lines.specs.CachedStarts.{start_octets, BeginsLinesOf, HasFieldsByCached};
 ghost use Rattle.bgpdump_lines.specs.WrittenSoFar.{Prints};
 
+use crate::cached_line::{CachedLine, PrefixlessLine};
 use crate::fields::{put_attribute_fields, put_peer_fields, put_prefix_field};
 use crate::heading::{Heading, put_first_three_fields};
 use ip_prefix::{Prefix, Text};
@@ -109,13 +111,13 @@ pub(crate) fn repeat_with_prefix(
     })
 }
 
-/// Appends the last line of `text` once more, with `peer` and the attributes of `route` in place of its
-/// own; the first three fields and the prefix are copied. Requires that `last` has the offsets of that
-/// line's fields in `text`; `route` is one whose time that line shows, as the time isn't changed. Returns
-/// the offsets of the new line's fields. Fails if memory allocation fails; `text` then ends with an
-/// unspecified part of the line.
+/// Appends the last line of `text` once more, with `peer` and the attributes of `route` in place of those
+/// in it; the first three fields (kind, time, letter) and the prefix are copied. Requires that `last` has
+/// the offsets of that line's fields in `text`. As the time is copied, callers pass a `route` whose time
+/// that line shows. Returns the offsets of the new line's fields. Fails if memory allocation fails;
+/// `text` then ends with an unspecified part of the line.
 #[inline(always)]
-fn repeat_with_route(
+fn repeat_with_peer_and_route(
     last: FieldOffsets,
     peer: &Peer,
     route: &Route,
@@ -142,17 +144,6 @@ fn repeat_with_route(
         front,
         tail,
     })
-}
-
-/// The octets of a route's line without its prefix's field: those before it and those after it.
-#[derive(Clone, Copy)]
-pub(crate) struct PrefixlessLine<'a> {
-    /// The octets before the prefix's field, such as `TABLE_DUMP2|1700000000|B|192.0.2.1|65000`.
-    pub(crate) front: &'a [u8],
-    /// The end of the first three fields (kind, time, letter), in octets from the start of `front`.
-    pub(crate) head: usize,
-    /// The octets after the prefix's field: the fields of the attributes, with the line feed.
-    pub(crate) tail: &'a [u8],
 }
 
 /// Returns the octets of the last line of `text` without its prefix's field. Requires that `last` has the
@@ -193,46 +184,65 @@ fn copy_or_put_prefix_field(
     }
 }
 
-/// Appends the line that consists of the octets before the prefix in `ends` (`ends.front`), the field of
-/// `prefix`, and the octets after it (`ends.tail`). `last`, if given, describes the last line of `text`,
-/// from which the prefix's field is copied if its prefix is equal. Returns the offsets of the new line's
-/// fields in `text`. Fails if memory allocation fails; `text` then ends with an unspecified part of the
-/// line.
+/// Appends the fields after the prefix of the line of `route`, with the line feed. They are copied from
+/// `line`, a cached line, if that was printed for an equal route, and otherwise formatted. Returns `true`
+/// if they were copied, and `false` if they were formatted. Fails if memory allocation fails; `text` then
+/// ends with an unspecified part of them.
 #[inline(always)]
-pub(crate) fn put_line_around_prefix(
-    ends: PrefixlessLine<'_>,
-    prefix: &Prefix,
+fn copy_or_put_tail(line: &CachedLine, route: &Route, text: &mut Text) -> Result<bool, AllocError>
+    ensures { Prints text.old text.new (fields_after_prefix route.now) result }
+{
+    if let Some(tail) = line.tail_if_equal(route) {
+        text.extend_from_slice(tail)?;
+        return Ok(true);
+    }
+    put_attribute_fields(&route.attrs, text)?;
+    Ok(false)
+}
+
+/// Appends the line of a route of a table. Its start, up to the prefix, is copied from `line`, a cached
+/// line; the fields after the prefix are copied from there too if its route is equal, and formatted if
+/// not. Requires that the start of `line` was printed for the announcement's peer and the time of its
+/// route. `last`, if given, describes the last line of `text`, from which the prefix's field is copied if
+/// its prefix is equal. Returns the offsets of the new line's fields in `text`, and `true` if the fields
+/// after the prefix were copied from `line`, or `false` if they were formatted. Fails if memory
+/// allocation fails; `text` then ends with an unspecified part of the line.
+#[inline(always)]
+pub(crate) fn put_line_by_cached(
+    line: &CachedLine,
+    announcement: Announcement<'_>,
     last: Option<LastLine<'_>>,
     text: &mut Text,
-) -> Result<FieldOffsets, AllocError>
-    requires within { ends.head ≤ length ends.front.now }
+) -> Result<(FieldOffsets, bool), AllocError>
+    requires start { BeginsLinesOf line.now announcement.peer.now announcement.route.now.time }
     requires last { IfSome last (λ line. HoldsPrefixOf line text.old) }
-    ensures printed { Prints text.old text.new
-        (ends.entry.front.now ++ (prefix_field prefix.now ++ ends.entry.tail.now)) result }
-    ensures parts { IfOk result (HasFieldsAt text.new
-        (take ends.entry.head ends.entry.front.now) ends.entry.front.now
-        (prefix_field prefix.now) ends.entry.tail.now) }
+    ensures printed { Prints text.old text.new (start_octets line.now
+        ++ (prefix_field announcement.entry.prefix.now
+        ++ fields_after_prefix announcement.entry.route.now)) result }
+    ensures parts { IfOk result (λ put. HasFieldsByCached text.new line.now announcement.entry put.0) }
 {
     let start = text.len();
-    text.extend_from_slice(ends.front)?;
+    text.extend_from_padded(&line.start.octets, line.start.size)?;
     let front = text.len();
-    copy_or_put_prefix_field(prefix, last, text)?;
+    copy_or_put_prefix_field(announcement.prefix, last, text)?;
     let tail = text.len();
-    text.extend_from_slice(ends.tail)?;
-    let head = start + ends.head;
-    Ok(FieldOffsets {
+    let is_copied = copy_or_put_tail(line, announcement.route, text)?;
+    let head = start + line.start.head;
+    let offsets = FieldOffsets {
         start,
         head,
         front,
         tail,
-    })
+    };
+    Ok((offsets, is_copied))
 }
 
 /// Appends the line of a route, such as
-/// `BGP4MP|1700000000|A|192.0.2.1|65000|198.51.100.0/24|65000|IGP|192.0.2.1|0|0||NAG||`, and returns its
-/// description for the next call. `last`, if given, describes the last line of `text`; it requires that
-/// this line prints a route under `heading`. What both lines have in common is copied from it. Fails if
-/// memory allocation fails; `text` then ends with an unspecified part of the line.
+/// `BGP4MP|1700000000|A|192.0.2.1|65000|198.51.100.0/24|65000|IGP|192.0.2.1|0|0||NAG||`, and returns a
+/// description of it, which the next call gets as `last`. Requires that `last`, if given, describes the
+/// last line of `text`, and that this line prints a route under `heading`; what the new line has in
+/// common with it is copied. Fails if memory allocation fails; `text` then ends with an unspecified part
+/// of the line.
 #[inline(always)]
 pub(crate) fn put_route_line<'a>(
     heading: &Heading,
@@ -250,7 +260,7 @@ pub(crate) fn put_route_line<'a>(
         Some(line)
             if same_prefix(line.announcement.prefix, announcement.prefix)
                 && line.announcement.route.time == announcement.route.time => {
-            repeat_with_route(line.offsets, announcement.peer, announcement.route, text)?
+            repeat_with_peer_and_route(line.offsets, announcement.peer, announcement.route, text)?
         }
         Some(line)
             if same_peer(line.announcement.peer, announcement.peer)

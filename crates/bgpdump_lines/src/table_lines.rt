@@ -12,26 +12,27 @@ use crate::event_lines::put_item_line;
 use crate::heading::Heading;
 use crate::line_cache::LineCache;
 use crate::route_line::{
-    Announcement, LastLine, prefixless_last_line, put_line_around_prefix, put_route_line,
+    Announcement, LastLine, prefixless_last_line, put_line_by_cached, put_route_line,
 };
 use ip_prefix::Text;
 use mrt_wire::{Item, Route};
 use std::alloc::AllocError;
 use std::rc::Rc;
 
-/// Appends the line of the route of a table, inserts it into the cache `kept` of printed lines (unless
-/// that doesn't take it), and returns its description for the next call. Requires that `route` equals
-/// `announcement.route`, and that `heading` is that of a table. `last`, if given, describes the last line
-/// of `text`; it requires that this line prints a route under `heading`. What both lines have in common
-/// is copied from it. Fails if memory allocation fails; `text` then ends with an unspecified part of the
-/// line.
+/// Appends the line of `announcement`, a route of a table, inserts it into `cache`, which holds printed
+/// lines ([`LineCache::insert`], which may leave it out), and returns a description of it, which the
+/// next call gets as `last`. Requires that `route`, which the cache keeps, equals `announcement.route`,
+/// that `heading` is of a TABLE_DUMP_V2 record, and that `last`, if given, describes the last line of
+/// `text`, which prints a route under `heading`; what the new line has in common with that is copied.
+/// Fails if memory allocation fails; `text` then ends with an unspecified part of the line, which isn't
+/// cached.
 #[inline(always)]
 fn put_and_cache<'a>(
     heading: &Heading,
     announcement: Announcement<'a>,
     route: &Rc<Route>,
     last: Option<LastLine<'a>>,
-    kept: &mut LineCache,
+    cache: &mut LineCache,
     text: &mut Text,
 ) -> Result<LastLine<'a>, AllocError>
     requires tables { IsTableHeading heading.now }
@@ -42,7 +43,7 @@ fn put_and_cache<'a>(
     ensures last { IfOk result (λ line. EndsInLine heading.now line text.new) }
 {
     let line = put_route_line(heading, announcement, last, text)?;
-    kept.insert(
+    cache.insert(
         announcement.peer,
         route,
         prefixless_last_line(text, line.offsets),
@@ -51,19 +52,22 @@ fn put_and_cache<'a>(
     Ok(line)
 }
 
-/// Appends the line of the route of a table, and returns its description for the next call. If the cache
-/// `kept` of printed lines has one of this peer and an equal route, all but the prefix is copied from
-/// that; otherwise the line is inserted there. Requires that `route` equals `announcement.route`, and
-/// that `heading` is that of a table. `last`, if given, describes the last line of `text`; it requires
-/// that this line prints a route under `heading`. What both lines have in common is copied from it. Fails
-/// if memory allocation fails; `text` then ends with an unspecified part of the line.
+/// Appends the line of `announcement`, a route of a table, and returns a description of it, which the
+/// next call gets as `last`. If `cache`, which holds printed lines, has one of this peer and of the
+/// route's time, the start of the new line is copied from it, and the fields after the prefix are copied
+/// too if its route is equal. Otherwise what the new line has in common with that of `last` is copied.
+/// What wasn't copied from the cache is put into it, unless it refuses the line ([`LineCache::insert`]).
+/// Requires that `last`, if given, describes the last line of `text`, which prints a route under
+/// `heading`, that `heading` is of a TABLE_DUMP_V2 record, and that `route`, which the cache keeps,
+/// equals `announcement.route`. Fails if memory allocation fails; `text` then ends with an unspecified
+/// part of the line.
 #[inline(always)]
 fn put_entry_line<'a>(
     heading: &Heading,
     announcement: Announcement<'a>,
     route: &Rc<Route>,
     last: Option<LastLine<'a>>,
-    kept: &mut LineCache,
+    cache: &mut LineCache,
     text: &mut Text,
 ) -> Result<LastLine<'a>, AllocError>
     requires tables { IsTableHeading heading.now }
@@ -73,29 +77,34 @@ fn put_entry_line<'a>(
         (Announced announcement.entry.peer.now announcement.entry.prefix.now announcement.entry.route.now)) result }
     ensures last { IfOk result (λ line. EndsInLine heading.now line text.new) }
 {
-    if let Some(ends) = kept.find_line(announcement) {
-        let offsets = put_line_around_prefix(ends, announcement.prefix, last, text)?;
-        return Ok(LastLine {
-            announcement,
-            offsets,
-        });
+    let Some((index, line)) = cache.line_of(announcement.peer, announcement.route.time) else {
+        return put_and_cache(heading, announcement, route, last, cache, text);
+    };
+    let (offsets, is_copied) = put_line_by_cached(line, announcement, last, text)?;
+    if !is_copied {
+        let tail = prefixless_last_line(text, offsets).tail;
+        cache.replace_tail(index, route, tail, heading.time.seconds)?;
     }
-    put_and_cache(heading, announcement, route, last, kept, text)
+    Ok(LastLine {
+        announcement,
+        offsets,
+    })
 }
 
-/// Appends the line of `item`, which is a route of a table (or a withdrawal or state change). Requires
-/// that `heading` is that of a table. Returns the description of the new line for the next call if it is
-/// a route's, or else `None`. A route's line is copied from the cache `kept` of printed lines, but for
-/// its prefix, if that has it, or else inserted there. `last`, if given, describes the last line of
-/// `text`; it requires that this line prints a route under `heading`. What both lines have in common is
-/// copied from it. Fails if memory allocation fails; `text` then ends with an unspecified part of the
-/// line.
+/// Appends the line of `item`, which is a route of a table (or a withdrawal or state change). Returns a
+/// description of the new line, which the next call gets as `last`, or `None` if `item` isn't a route. If
+/// `cache`, which holds printed lines, has one of the same peer and time, what the line of a route has in
+/// common with that is copied; otherwise, what it has in common with the line of `last`. What wasn't
+/// copied from the cache is put into it, unless it refuses the line ([`LineCache::insert`]). Requires
+/// that `last`, if given, describes the last line of `text`, which prints a route under `heading`, and
+/// that `heading` is of a TABLE_DUMP_V2 record. Fails if memory allocation fails; `text` then ends with
+/// an unspecified part of the line.
 #[inline(always)]
 pub(crate) fn put_table_item_line<'a>(
     heading: &Heading,
     item: &'a Item,
     last: Option<LastLine<'a>>,
-    kept: &mut LineCache,
+    cache: &mut LineCache,
     text: &mut Text,
 ) -> Result<Option<LastLine<'a>>, AllocError>
     requires tables { IsTableHeading heading.now }
@@ -110,7 +119,7 @@ pub(crate) fn put_table_item_line<'a>(
                 prefix,
                 route,
             };
-            Ok(Some(put_entry_line(heading, announcement, route, last, kept, text)?))
+            Ok(Some(put_entry_line(heading, announcement, route, last, cache, text)?))
         }
         Item::Withdraw(_, _) | Item::State(_, _, _) => put_item_line(heading, item, last, text),
     }

@@ -1,6 +1,6 @@
-//! Writes the lines and reports of records, and the lines of peers' tables, to outputs. Their `text` is a
-//! buffer: lines are appended to it, and it is written and cleared when it gets long. Read [`write_next`]
-//! first.
+//! Writes the lines and reports of records, and the lines of peers' tables, to outputs. Their `text` is
+//! a buffer: lines are appended to it, and it is written and cleared when it gets long. Read
+//! [`write_lines_or_report`] first.
 
 ghost use Rattle.std.specs.Prelude.{◌≡◌, ◌||◌, ◌≤◌, [], false, All, map, take, drop, length, IfOk, OnOk, flat_map};
 ghost use Rattle.mrt_events.specs.declared.event.Route.{Route};
@@ -12,7 +12,7 @@ ghost use Rattle.mrt_wire.specs.Answered.{answer_results};
 ghost use Rattle.bgpdump_lines.specs.Heading.{EndsInLineOfRoute, lines_under_heading};
 ghost use Rattle.bgpdump_lines.specs.declared.heading.Heading.{Heading};
 ghost use Rattle.bgpdump_lines.specs.CachedLines.{IsTableHeading};
-ghost use Rattle.bgpdump_lines.specs.Lines.{event_lines, rib_line};
+ghost use Rattle.bgpdump_lines.specs.Lines.{event_lines, rib_reply_line};
 ghost use Rattle.bgpdump_lines.specs.Run.{fault_report, outputs_of};
 ghost use Rattle.bgpdump_lines.specs.WrittenSoFar.{PutsThroughBufferOrFront, Puts, PutsFindings, PutsAllOrFront, is_output_fault, has_fault};
 
@@ -49,13 +49,14 @@ fn write_if_long<O: Output>(out: &mut O, text: &mut Text) -> Result<bool, WriteF
     Ok(true)
 }
 
-/// Appends a line for each of `items` (announcements, withdrawals, state changes) to `text`, which holds
-/// lines that are still to be written to `out`. Whenever it has more than [`LONG_TEXT`] octets, it is
-/// written to `out` and cleared before the next line. `heading` gives the kind and the time of the items'
-/// record. Fails if memory allocation or `out` fails; some of the first lines may have been written to
-/// `out` then, and `text` holds unspecified octets.
+/// Appends a line for each of `items` (announcements, withdrawals, state changes), or nothing if there
+/// are none, to `text`, which holds lines that are still to be written to `out`. Whenever `text` has more
+/// than [`LONG_TEXT`] octets, it is written to `out` and cleared before the next line; the last lines are
+/// left in it for the caller to write. `heading` gives the kind and the time of the items' record. Fails
+/// if memory allocation or `out` fails; some of the first lines may have been written to `out` then, and
+/// `text` holds unspecified octets.
 #[inline(never)]
-fn write_nonempty_item_lines<O: Output>(
+fn buffer_each_item_line<O: Output>(
     out: &mut O,
     heading: &Heading,
     items: &[Item],
@@ -75,14 +76,14 @@ fn write_nonempty_item_lines<O: Output>(
     Ok(())
 }
 
-/// Appends a line for each of `items` (announcements, withdrawals, state changes) to `text`, or nothing
-/// if there are none. `text` holds lines that are still to be written to `out`: only when it has more
-/// than [`LONG_TEXT`] octets is it written there and cleared before the next line, so that the last lines
-/// are left in `text` for the caller to write. `heading` gives the kind and the time of the items'
-/// record. Fails if memory allocation or `out` fails; some of the first lines may have been written to
-/// `out` then, and `text` holds unspecified octets.
+/// Appends a line for each of `items` (announcements, withdrawals, state changes), or nothing if there
+/// are none, to `text`, which holds lines that are still to be written to `out`. Whenever `text` has more
+/// than [`LONG_TEXT`] octets, it is written to `out` and cleared before the next line; the last lines are
+/// left in it for the caller to write. `heading` gives the kind and the time of the items' record. Fails
+/// if memory allocation or `out` fails; some of the first lines may have been written to `out` then, and
+/// `text` holds unspecified octets.
 #[inline(always)]
-fn write_item_lines<O: Output>(
+fn buffer_item_lines<O: Output>(
     out: &mut O,
     heading: &Heading,
     items: &[Item],
@@ -96,17 +97,18 @@ fn write_item_lines<O: Output>(
     if items.is_empty() {
         return Ok(());
     }
-    write_nonempty_item_lines(out, heading, items, text)
+    buffer_each_item_line(out, heading, items, text)
 }
 
-/// Writes the octets of `text` from offset `end` on to `out` and truncates `text` to `end`, if they are
-/// more than [`LONG_TEXT`]. Requires that `end` isn't above the length of `text`, and that the octets
-/// before it are one line, a template for the next lines, with its fields at the offsets `kept`. `last`
-/// has the offsets of the last line. Returns the offsets of the line that is the last one afterwards:
-/// `kept` if it wrote, or else `last`. Fails if `out` fails.
+/// Writes the octets of `text` from offset `end` on to `out`, and truncates `text` to `end`, if these
+/// octets are more than [`LONG_TEXT`]; otherwise does nothing. Requires that `end` isn't above the
+/// length of `text`. The octets before `end` are one line, a template for the next lines, with its
+/// fields at the offsets `template`; `last` has the offsets of the last line's fields. Returns the
+/// offsets of the line that is the last one afterwards: `template` if it wrote, or else `last`. Fails if
+/// `out` fails; some of the octets may have been written then, and `text` is unchanged.
 fn write_rest_if_long<O: Output>(
     out: &mut O,
-    kept: FieldOffsets,
+    template: FieldOffsets,
     end: usize,
     last: FieldOffsets,
     text: &mut Text,
@@ -117,7 +119,7 @@ fn write_rest_if_long<O: Output>(
     ensures kept { OnOk result (take end text.new ≡ take end text.old) }
     ensures within { OnOk result (end ≤ length text.new) }
     ensures last { (heading : Heading) (peer : Peer) (route : Route) →
-        EndsInLineOfRoute heading peer route kept (take end text.old) →
+        EndsInLineOfRoute heading peer route template (take end text.old) →
         EndsInLineOfRoute heading peer route last text.old →
         IfOk result (λ offsets. EndsInLineOfRoute heading peer route offsets text.new) }
     ensures failed { O.failed out.new ≡ (O.failed out.old || is_output_fault result) }
@@ -127,7 +129,7 @@ fn write_rest_if_long<O: Output>(
     }
     put_all(out, &text.as_slice()[end..])?;
     text.truncate(end);
-    Ok(kept)
+    Ok(template)
 }
 
 /// Writes to `out` first `text`, the lines that are still to be written, and then a line for each of
@@ -138,7 +140,7 @@ fn write_rest_if_long<O: Output>(
 /// holds unspecified octets.
 #[cold]
 #[inline(never)]
-fn write_many_prefixes<O: Output>(
+fn write_remaining_prefixes<O: Output>(
     out: &mut O,
     heading: &Heading,
     first: Announcement<'_>,
@@ -154,11 +156,11 @@ fn write_many_prefixes<O: Output>(
     text.clear();
     // The line of `first` stays at the start of the text and isn't written, so that after each write the
     // next line has one to be copied from.
-    let kept = put_whole_route_line(heading, first, text)?;
+    let template = put_whole_route_line(heading, first, text)?;
     let end = text.len();
-    let mut last = kept;
+    let mut last = template;
     'items: for item in items {
-        let offsets = write_rest_if_long(out, kept, end, last, text)?;
+        let offsets = write_rest_if_long(out, template, end, last, text)?;
         last = put_another_prefix(heading, first, offsets, item, text)?;
     }
     put_all(out, &text.as_slice()[end..])?;
@@ -167,13 +169,14 @@ fn write_many_prefixes<O: Output>(
 }
 
 /// Appends a line for each of `items` to `text`, which holds lines that are still to be written to `out`.
-/// Requires that each item announces the peer and the route of `first`, and that `offsets` are those of
-/// the fields of the last line of `text`, which prints them. If `text` gets more than [`LONG_TEXT`]
-/// octets, it is written to `out` with all lines that follow, and cleared; or else the lines are left in
-/// `text`. Fails if memory allocation or `out` fails; some of the first lines may have been written to
-/// `out` then, and `text` holds unspecified octets.
+/// If `text` has more than [`LONG_TEXT`] octets before a line, it is written to `out` with that line and
+/// all after it, and is empty then; otherwise nothing is written. Requires that each item announces the
+/// peer and the route of `first`, and that the last line of `text` prints these, to any prefix, with its
+/// fields at `offsets`; it is repeated with the other prefixes. Fails if memory allocation or `out`
+/// fails; some of the first lines may have been written to `out` then, and `text` holds unspecified
+/// octets.
 #[inline(always)]
-fn write_other_prefixes<O: Output>(
+fn buffer_other_prefixes<O: Output>(
     out: &mut O,
     heading: &Heading,
     first: Announcement<'_>,
@@ -190,7 +193,7 @@ fn write_other_prefixes<O: Output>(
     let mut offsets = offsets;
     'items: for place in 0..items.len() {
         if text.len() > LONG_TEXT {
-            return write_many_prefixes(out, heading, first, &items[place..], text);
+            return write_remaining_prefixes(out, heading, first, &items[place..], text);
         }
         offsets = put_another_prefix(heading, first, offsets, &items[place], text)?;
     }
@@ -198,12 +201,12 @@ fn write_other_prefixes<O: Output>(
 }
 
 /// Appends a line for each of `items` to `text`, which holds lines that are still to be written to `out`.
-/// Requires that all items are announcements of one route of one peer. Whenever it has more than
+/// Requires that all items are announcements of one route of one peer. Whenever `text` has more than
 /// [`LONG_TEXT`] octets, it is written to `out` and cleared before the next line; the last lines may be
-/// left in `text`. Fails if memory allocation or `out` fails; some of the first lines may have been
-/// written to `out` then, and `text` holds unspecified octets.
+/// left in it for the caller to write. Fails if memory allocation or `out` fails; some of the first lines
+/// may have been written to `out` then, and `text` holds unspecified octets.
 #[inline(always)]
-fn write_shared_route<O: Output>(
+fn buffer_shared_route<O: Output>(
     out: &mut O,
     heading: &Heading,
     items: &[Item],
@@ -219,7 +222,7 @@ fn write_shared_route<O: Output>(
     };
     write_if_long(out, text)?;
     let offsets = put_whole_route_line(heading, first, text)?;
-    write_other_prefixes(out, heading, first, offsets, rest, text)
+    buffer_other_prefixes(out, heading, first, offsets, rest, text)
 }
 
 /// Writes the lines of `event`, what an MRT record reports, to `out`: one for each announcement,
@@ -238,25 +241,26 @@ fn write_event_lines<O: Output>(
     let heading = Heading::of(event);
     let items = event.items.as_slice();
     let shared = event.items.longest_shared_range();
-    write_item_lines(out, &heading, &items[..shared.start], text)?;
-    write_shared_route(out, &heading, &items[shared.start..shared.end], text)?;
-    write_item_lines(out, &heading, &items[shared.end..], text)?;
+    buffer_item_lines(out, &heading, &items[..shared.start], text)?;
+    buffer_shared_route(out, &heading, &items[shared.start..shared.end], text)?;
+    buffer_item_lines(out, &heading, &items[shared.end..], text)?;
     put_all(out, text.as_slice())?;
     Ok(())
 }
 
 /// Appends a line for each of `items`, which are from a TABLE_DUMP_V2 record, to `text`, which holds
-/// lines that are still to be written to `out`. Whenever it has more than [`LONG_TEXT`] octets, it is
-/// written to `out` and cleared before the next line; the last lines are left in `text`. Lines are copied
-/// from the cache `kept` of printed lines if it has them, and inserted there if not. Requires that
-/// `heading` is that of a table. Fails if memory allocation or `out` fails; some of the first lines may
-/// have been written to `out` then, and `text` holds unspecified octets.
+/// lines that are still to be written to `out`. Whenever `text` has more than [`LONG_TEXT`] octets, it
+/// is written to `out` and cleared before the next line; the last lines are left in it for the caller to
+/// write. Lines are copied from `cache`, which holds printed lines, if it has them, and inserted there
+/// if not. Requires that `heading` is of a TABLE_DUMP_V2 record. Fails if memory allocation or `out`
+/// fails; some of the first lines may have been written to `out` then, and `text` holds unspecified
+/// octets.
 #[inline(never)]
-fn write_table_items<O: Output>(
+fn buffer_table_items<O: Output>(
     out: &mut O,
     heading: &Heading,
     items: &[Item],
-    kept: &mut LineCache,
+    cache: &mut LineCache,
     text: &mut Text,
 ) -> Result<(), WriteFault>
     requires { IsTableHeading heading.now }
@@ -269,20 +273,20 @@ fn write_table_items<O: Output>(
         if write_if_long(out, text)? {
             last = None;
         }
-        last = put_table_item_line(heading, item, last, kept, text)?;
+        last = put_table_item_line(heading, item, last, cache, text)?;
     }
     Ok(())
 }
 
 /// Writes the lines of `event`, what an MRT record reports, to `out`. Requires that it is from a
-/// TABLE_DUMP_V2 record. Lines are copied from the cache `kept` of printed lines if it has them, and
+/// TABLE_DUMP_V2 record. Lines are copied from `cache`, which holds printed lines, if it has them, and
 /// inserted there if not. Overwrites `text`, a buffer. Fails if memory allocation or `out` fails; some of
 /// the first lines may have been written to `out` then, and `text` holds unspecified octets.
 #[inline(always)]
 fn write_table_event<O: Output>(
     out: &mut O,
     text: &mut Text,
-    kept: &mut LineCache,
+    cache: &mut LineCache,
     event: &Event,
 ) -> Result<(), WriteFault>
     requires { event.now.tag ≡ TableDump2 }
@@ -292,29 +296,29 @@ fn write_table_event<O: Output>(
     text.clear();
     let heading = Heading::of(event);
     let items = event.items.as_slice();
-    write_table_items(out, &heading, items, kept, text)?;
-    kept.end(items.len());
+    buffer_table_items(out, &heading, items, cache, text)?;
+    cache.end(items.len());
     put_all(out, text.as_slice())?;
     Ok(())
 }
 
 /// Writes the lines of `event`, what an MRT record reports, to `out`: one for each announcement,
-/// withdrawal or state change. The cache `kept` of printed lines is used if it accepts the event: for
-/// TABLE_DUMP_V2 records, as long as that saves work. Overwrites `text`, a buffer. Fails if memory
-/// allocation or `out` fails; some of the first lines may have been written to `out` then, and `text`
-/// holds unspecified octets.
+/// withdrawal or state change. `cache`, which holds printed lines, is used if
+/// [`LineCache::should_use_for`] returns `true` for the event: for TABLE_DUMP_V2 records, as long as
+/// that saves work. Overwrites `text`, a buffer. Fails if memory allocation or `out` fails; some of the
+/// first lines may have been written to `out` then, and `text` holds unspecified octets.
 #[inline(always)]
 fn write_event<O: Output>(
     out: &mut O,
     text: &mut Text,
-    kept: &mut LineCache,
+    cache: &mut LineCache,
     event: &Event,
 ) -> Result<(), WriteFault>
     ensures text { PutsAllOrFront (O.written out.old) (O.written out.new) (event_lines event.now) result }
     ensures failed { O.failed out.new ≡ (O.failed out.old || is_output_fault result) }
 {
-    if kept.accepts(event) {
-        write_table_event(out, text, kept, event)
+    if cache.should_use_for(event) {
+        write_table_event(out, text, cache, event)
     } else {
         write_event_lines(out, text, event)
     }
@@ -332,10 +336,10 @@ pub fn write_rib_lines<O: Output>(
     text: &mut Text,
 ) -> Result<(), WriteFault>
     ensures text { PutsAllOrFront (O.written out.old) (O.written out.new)
-        (flat_map (λ f. rib_line peer.now (f.0, f.1.now.value)) routes.now) result }
+        (flat_map (λ f. rib_reply_line peer.now (f.0, f.1.now.value)) routes.now) result }
     ensures failed { O.failed out.new ≡ (O.failed out.old || is_output_fault result) }
 {
-    let heading = Heading::for_rib_lines();
+    let heading = Heading::for_peer_table();
     let mut last = None;
     text.clear();
     'routes: for entry in routes {
@@ -365,7 +369,7 @@ pub fn write_rib_line<O: Output>(
     text: &mut Text,
 ) -> Result<(), WriteFault>
     ensures text { Puts (O.written out.old) (O.written out.new)
-        (rib_line peer.now (prefix.now, route.now)) result }
+        (rib_reply_line peer.now (prefix.now, route.now)) result }
     ensures failed { O.failed out.new ≡ (O.failed out.old || is_output_fault result) }
 {
     let announcement = Announcement {
@@ -374,7 +378,7 @@ pub fn write_rib_line<O: Output>(
         route,
     };
     text.clear();
-    put_route_line(&Heading::for_rib_lines(), announcement, None, text)?;
+    put_route_line(&Heading::for_peer_table(), announcement, None, text)?;
     put_all(out, text.as_slice())?;
     Ok(())
 }
@@ -398,14 +402,14 @@ pub fn write_report<E: Output>(
 
 /// Writes what reading a record gave: the lines of an event to `out`, the report of a faulty record to
 /// `err`, or nothing at the end of the input. Returns `true` if a report was written, and `false`
-/// otherwise. `kept` is a cache of printed lines. Overwrites `text`, a buffer. Fails if memory allocation
+/// otherwise. `cache` holds printed lines. Overwrites `text`, a buffer. Fails if memory allocation
 /// or an output fails; some of the first lines, or a part of the report, may have been written then.
 #[inline(always)]
-pub(crate) fn write_next<O: Output, E: Output>(
+pub(crate) fn write_lines_or_report<O: Output, E: Output>(
     out: &mut O,
     err: &mut E,
     text: &mut Text,
-    kept: &mut LineCache,
+    cache: &mut LineCache,
     next: &Next,
 ) -> Result<bool, WriteFault>
     ensures found { PutsFindings (answer_results next.now)
@@ -417,7 +421,7 @@ pub(crate) fn write_next<O: Output, E: Output>(
 {
     match next {
         Next::Event(event) => {
-            write_event(out, text, kept, event)?;
+            write_event(out, text, cache, event)?;
             Ok(false)
         }
         Next::Bad(fault) => {

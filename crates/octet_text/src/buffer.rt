@@ -2,7 +2,7 @@
 //! [`Text`] first, then [`make_room`], which all appends call.
 
 ghost use Rattle.std.specs.Prelude.{◌≡◌, ◌+◌, ◌-◌, ◌*◌, ◌<◌, ◌≤◌, ◌++◌, ◌∷◌, [], OnOk, OnErr, length, map, take, drop, slice_range, decimal};
-ghost use Rattle.octet_text.specs.Written.{ended_words};
+ghost use Rattle.octet_text.specs.Written.{IsWritten, ended_words};
 
 use crate::cursor::{
     DECIMAL_ROOM, ENDED_ROOM, WORD_ROOM, WordFormat, WriteTextAt, put_octets, write_decimal,
@@ -20,6 +20,11 @@ const LEAST_ROOM: usize = 512;
 /// The size of a buffer, in octets, up to which [`Text::clear`] keeps it for the next text. A
 /// larger buffer is freed, so that one long text doesn't occupy memory from then on.
 const MOST_KEPT: usize = 1 << 18;
+
+/// The number of octets that [`Text::extend_from_within`] copies at once if the part has no more. A
+/// fixed number takes a few instructions, and another one a call. The octets after the part are
+/// copied too, as far as they are needed to fill the number, but aren't in the text.
+const CHUNK: usize = 32;
 
 /// A growable string of octets, not necessarily UTF-8. Unlike `Vec<u8>`, it can write numbers right
 /// into its spare octets. Each method that appends returns `AllocError` if memory allocation fails.
@@ -103,8 +108,8 @@ impl Text {
         self.len = self.len.min(len);
     }
 
-    /// Removes all octets from the text. Its memory is kept for the next octets, unless it is more
-    /// than 2^18 octets, which are freed.
+    /// Removes all octets from the text. Its memory is kept for the next octets, or freed as a
+    /// whole if it is more than 2^18 octets.
     #[inline]
     pub fn clear(&mut self)
         ensures { self.new ≡ [] }
@@ -267,6 +272,25 @@ impl Text {
         Ok(())
     }
 
+    /// Appends the first `len` octets of `padded`. That takes less time than
+    /// [`Text::extend_from_slice`] for a short text, since all `N` octets are copied, a number that
+    /// is fixed at compile time. Requires that `len` is at most `N`. Returns `AllocError` if memory
+    /// allocation fails; the text is unchanged then.
+    #[inline(always)]
+    pub fn extend_from_padded<const N: usize>(
+        &mut self,
+        padded: &[u8; N],
+        len: usize,
+    ) -> Result<(), AllocError>
+        requires { len ≤ N }
+        ensures appended { OnOk result (self.new ≡ self.old ++ take len padded.now) }
+        ensures unchanged { OnErr result (self.new ≡ self.old) }
+    {
+        make_room(&mut self.buffer, self.len, N)?;
+        self.len = put_first_octets(padded, len, self.buffer.as_mut_slice(), self.len);
+        Ok(())
+    }
+
     /// Appends a copy of a part of the text itself: its octets from index `start` to before index
     /// `end`. Requires that `start` is at most `end`, and `end` at most the length. Returns
     /// `AllocError` if memory allocation fails; the text is unchanged then.
@@ -276,10 +300,8 @@ impl Text {
         ensures appended { OnOk result (self.new ≡ self.old ++ slice_range self.old start end) }
         ensures unchanged { OnErr result (self.new ≡ self.old) }
     {
-        let at = self.len;
-        make_room(&mut self.buffer, at, end - start)?;
-        copy_within(self.buffer.as_mut_slice(), start, end, at);
-        self.len = at + (end - start);
+        make_room(&mut self.buffer, self.len, (end - start).max(CHUNK))?;
+        self.len = repeat_part(self.buffer.as_mut_slice(), start, end, self.len);
         Ok(())
     }
 }
@@ -362,4 +384,52 @@ fn copy_within(octets: &mut [u8], start: usize, end: usize, at: usize)
 {
     let (front, back) = octets.split_at_mut(at);
     back[..end - start].copy_from_slice(&front[start..end]);
+}
+
+/// Writes the first `len` octets of `octets` into `text` at offset `at`, and returns the offset of
+/// the octet after them. All of `octets` is copied, since a fixed number of octets is copied
+/// faster; what `text` has after the first `len` is then unspecified. Requires that `octets` has at
+/// least `len` octets, and that `text` has room for all of `octets` from `at` on.
+#[inline(always)]
+fn put_first_octets(octets: &[u8], len: usize, text: &mut [u8], at: usize) -> usize
+    requires within { len ≤ length octets.now }
+    requires room { at + length octets.now ≤ length text.old }
+    ensures { IsWritten text.old at (take len octets.now) text.new result }
+{
+    put_octets(octets, text, at);
+    at + len
+}
+
+/// Writes a copy of a part of `octets`, from index `start` to before index `end`, into the same
+/// slice at offset `at`, and returns the offset of the octet after it. Requires that
+/// `start <= end <= at`, and that `octets` has room for the part, and for [`CHUNK`] octets, from
+/// `at` on. The octets after the copy are then unspecified.
+#[inline(always)]
+fn repeat_part(octets: &mut [u8], start: usize, end: usize, at: usize) -> usize
+    requires order { (start ≤ end) × (end ≤ at) }
+    requires room { at + (end - start) ≤ length octets.old }
+    requires chunk { at + CHUNK ≤ length octets.old }
+    ensures { IsWritten octets.old at (slice_range octets.old start end) octets.new result }
+{
+    if end - start <= CHUNK && CHUNK <= at - start {
+        return repeat_short_part(octets, start, end, at);
+    }
+    copy_within(octets, start, end, at);
+    at + (end - start)
+}
+
+/// Writes a copy of a part of `octets`, from index `start` to before index `end`, into the same
+/// slice at offset `at`, and returns the offset of the octet after it. Copies [`CHUNK`] octets in
+/// any case, a fixed number, which takes less time; the octets after the copy are then unspecified.
+/// Requires that the part is at most [`CHUNK`] octets long and begins at least as many before `at`,
+/// and that `octets` has room for [`CHUNK`] octets from `at` on.
+#[inline(always)]
+fn repeat_short_part(octets: &mut [u8], start: usize, end: usize, at: usize) -> usize
+    requires order { (start ≤ end) × (end ≤ start + CHUNK) × (start + CHUNK ≤ at) }
+    requires room { at + CHUNK ≤ length octets.old }
+    ensures { IsWritten octets.old at (slice_range octets.old start end) octets.new result }
+{
+    let mut chunk = [0; CHUNK];
+    chunk.copy_from_slice(&octets[start..start + CHUNK]);
+    put_first_octets(&chunk, end - start, octets, at)
 }

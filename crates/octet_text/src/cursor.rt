@@ -88,7 +88,8 @@ fn write_large_decimal(number: u32, text: &mut [u8], at: usize) -> usize
 
 /// Writes `number` in decimal, without leading zeros, into `text` at offset `at`, and returns the
 /// offset of the octet after it. Requires that `number` is below 1,000,000, and that `text` has at
-/// least `3 + ROW` octets from `at` on, of which those after the number are then unspecified.
+/// least seven octets (`3 + ROW`) from `at` on, of which those after the number are then
+/// unspecified.
 #[inline(always)]
 fn write_below_million(number: u32, text: &mut [u8], at: usize) -> usize
     requires { (number < MILLION) × (at + 3 + ROW ≤ length text.old) }
@@ -103,8 +104,8 @@ fn write_below_million(number: u32, text: &mut [u8], at: usize) -> usize
 }
 
 /// Writes `number` in decimal, without leading zeros, into `text` at offset `at`, and returns the
-/// offset of the octet after it. Requires that `number` is below 1,000, and that `text` has [`ROW`]
-/// octets from `at` on, of which those after the number are then unspecified.
+/// offset of the octet after it. Requires that `number` is below 1,000, and that `text` has four
+/// octets ([`ROW`]) from `at` on, of which those after the number are then unspecified.
 #[inline(always)]
 pub fn write_below_thousand(number: u32, text: &mut [u8], at: usize) -> usize
     requires { (number < THOUSAND) × (at + ROW ≤ length text.old) }
@@ -117,8 +118,8 @@ pub fn write_below_thousand(number: u32, text: &mut [u8], at: usize) -> usize
 }
 
 /// Writes `number` in three decimal digits, with leading zeros, as in `007`, into `text` at offset
-/// `at`, and returns `at + 3`. Requires that `number` is below 1,000, and that `text` has [`ROW`]
-/// octets from `at` on. The octet after the digits is then unspecified.
+/// `at`, and returns `at + 3`. Requires that `number` is below 1,000, and that `text` has four
+/// octets ([`ROW`]) from `at` on. The octets after the digits are then unspecified.
 #[inline(always)]
 fn write_three_digits(number: u32, text: &mut [u8], at: usize) -> usize
     requires { (number < THOUSAND) × (at + ROW ≤ length text.old) }
@@ -207,15 +208,16 @@ pub trait WriteTextAt {
 /// many as two decimals, each followed by an octet.
 pub const WORD_ROOM: usize = 2 * ENDED_ROOM;
 
-/// A format of 32-bit numbers as words of text, such as that of BGP communities. A type that stands
-/// for a format is the type parameter of [`Text::put_ended_words`](crate::Text::put_ended_words).
+/// A format of 32-bit numbers as text, such as that of BGP communities. The text of one number is
+/// its word. A type that stands for a format is the type parameter of
+/// [`Text::put_ended_words`](crate::Text::put_ended_words).
 pub trait WordFormat {
     /// In contracts, the word of a number, as octets.
     ghost word: { ℕ → List ℕ };
 
-    /// Writes the word of `number` and then the octet `end` into `text` at offset `at`, and returns
-    /// the offset of the octet after `end`. Requires that `text` has [`WORD_ROOM`] octets from `at`
-    /// on, of which those after `end` are then unspecified.
+    /// Writes the word of `number`, which is its text in this format, and then the octet `end` into
+    /// `text` at offset `at`. Returns the offset of the octet after `end`. Requires that `text` has
+    /// [`WORD_ROOM`] octets from `at` on, of which those after `end` are then unspecified.
     fn write_ended(number: u32, end: u8, text: &mut [u8], at: usize) -> usize
         requires { at + WORD_ROOM ≤ length text.old }
         ensures written { IsWritten text.old at (word number ++ end ∷ []) text.new result }

@@ -70,7 +70,7 @@ returns-in_err-reported-clause-ends g c =
       c.in_err-reported.field-0.0,
       refl,
       Stops-writing (start_state c.args.stamp INPUT_LIMIT) c.steps.source c.next.new.self _ (g.I.Input.left c.steps.input) _
-          (record { out = g.O.Output.written c.args.out.now; err = g.E.Output.written c.args.err.now }) (record { out = g.O.Output.written c.flush_before_waiting.new.out; err = g.E.Output.written c.flush_before_waiting.new.err }) (record { out = g.O.Output.written c.write_next.new.out; err = g.E.Output.written c.write_next.new.err })
+          (record { out = g.O.Output.written c.args.out.now; err = g.E.Output.written c.args.err.now }) (record { out = g.O.Output.written c.flush_before_waiting.new.out; err = g.E.Output.written c.flush_before_waiting.new.err }) (record { out = g.O.Output.written c.write_lines_or_report.new.out; err = g.E.Output.written c.write_lines_or_report.new.err })
           c.steps.reported c.in_ok-next.next c.in_err-reported.field-0.0 (going g b) promised (not_end c.in_ok-next.next c.in_default.not-End) c.in_err-reported.ensures.found c.next.ensures.within,
     ))
 
@@ -81,7 +81,7 @@ steps-preserved g c =
     (c.in_ok-next.ensures.next, λ e. (ap told_by (c.in_ok-next.ensures.ended e).0, (c.in_ok-next.ensures.ended e).1, ap g.I.Input.left (c.in_ok-next.ensures.ended e).2)) in
     rw c.recycle.ensures record {
       going = WrittenSoFar-answer (start_state c.args.stamp INPUT_LIMIT) c.steps.source c.next.new.self _ (g.I.Input.left c.steps.input) _
-          (record { out = g.O.Output.written c.args.out.now; err = g.E.Output.written c.args.err.now }) (record { out = g.O.Output.written c.flush_before_waiting.new.out; err = g.E.Output.written c.flush_before_waiting.new.err }) (record { out = g.O.Output.written c.write_next.new.out; err = g.E.Output.written c.write_next.new.err })
+          (record { out = g.O.Output.written c.args.out.now; err = g.E.Output.written c.args.err.now }) (record { out = g.O.Output.written c.flush_before_waiting.new.out; err = g.E.Output.written c.flush_before_waiting.new.err }) (record { out = g.O.Output.written c.write_lines_or_report.new.out; err = g.E.Output.written c.write_lines_or_report.new.err })
           c.steps.reported _ c.in_ok-next.next (going g b) promised c.in_ok-reported.ensures.found c.in_ok-reported.ensures.reported c.next.ensures.within;
       read = search (rules, c.in_ok-next.ensures.failed, c.steps.invariant.read);
       sound = search (rules, c.in_ok-reported.ensures.failed, c.in_ok-flush_before_waiting.ensures.failed, c.steps.invariant.sound);

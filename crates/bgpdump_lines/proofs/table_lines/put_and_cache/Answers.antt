@@ -9,10 +9,12 @@ insert-requires c =
     let line = c.in_ok-line.line in
     let announcement = c.in_ok-line.ensures.announcement in
     let same = ap (λ s. s.route.now) announcement ∙ sym c.requires.same in
-    let head : first_three_fields c.args.heading.now line.announcement.route.now ≡ table_line_head c.args.route.now.value = first_three_fields-tables c.args.heading.now line.announcement.route.now c.requires.tables ∙ ap table_line_head same in
+    let head : first_three_fields c.args.heading.now line.announcement.route.now ≡ table_line_head c.args.route.now.value.time = first_three_fields-tables c.args.heading.now line.announcement.route.now c.requires.tables ∙ ap (λ route. table_line_head route.time) same in
     record {
-      within = c.prefixless_last_line.ensures.within;
-      head = c.prefixless_last_line.ensures.head ∙ c.in_ok-line.ensures.last.head ∙ head;
-      front = c.prefixless_last_line.ensures.front ∙ c.in_ok-line.ensures.last.front ∙ (λ i. head i ++ peer_fields (announcement i).peer.now);
+      start = record {
+        within = c.prefixless_last_line.ensures.within;
+        head = c.prefixless_last_line.ensures.head ∙ c.in_ok-line.ensures.last.head ∙ head;
+        front = c.prefixless_last_line.ensures.front ∙ c.in_ok-line.ensures.last.front ∙ (λ i. head i ++ peer_fields (announcement i).peer.now);
+      };
       tail = c.prefixless_last_line.ensures.tail ∙ c.in_ok-line.ensures.last.tail ∙ ap fields_after_prefix same;
     }

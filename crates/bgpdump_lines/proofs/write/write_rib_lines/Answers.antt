@@ -5,7 +5,7 @@ use Rattle.ip_prefix.specs.Network.{Network}
 use Rattle.mrt_events.specs.declared.event.Route.{Route}
 use Rattle.mrt_events.specs.declared.peer.Peer.{Peer}
 use Rattle.bgpdump_lines.specs.Run.{AppendsPrefix}
-use Rattle.bgpdump_lines.specs.Lines.{rib_line}
+use Rattle.bgpdump_lines.specs.Lines.{rib_reply_line}
 use Rattle.std.specs.Io.KnownBytes.{Appends}
 use Rattle.bgpdump_lines.specs.WrittenSoFar.{PutsThroughBuffer}
 use Rattle.bgpdump_lines.proofs.WritingLaws.{AppendsPrefix-passed, PutsThroughBuffer-end, PutsThroughBuffer-end-stops, PutsThroughBuffer-items, PutsThroughBuffer-next}
@@ -13,7 +13,7 @@ use Rattle.bgpdump_lines.proofs.write.write_rib_lines.Goals as goal
 
 -- the line of a prefix and the route that is pointed to
 abbrev pointed_line : Peer → Network × Bor (Rc Route Global) → List ℕ
-pointed_line peer entry = rib_line peer (entry.0, entry.1.now.value)
+pointed_line peer entry = rib_reply_line peer (entry.0, entry.1.now.value)
 
 pub returns-in_err-write_if_long-clause-text : goal.returns-in_err-write_if_long-clause-text
 returns-in_err-write_if_long-clause-text g c =
@@ -31,7 +31,7 @@ routes-preserved g c =
     let peer = c.args.peer.now in
     let item = c.entry-item.result in
     let after = c.write_if_long.new.text in
-    let own = c.for_rib_lines-heading.ensures peer item.0 c.deref.result.now ∙ ap (λ route. rib_line peer (item.0, route)) c.deref.ensures ∙ ap (pointed_line peer) c.entry-item.is in
+    let own = c.for_peer_table-heading.ensures peer item.0 c.deref.result.now ∙ ap (λ route. rib_reply_line peer (item.0, route)) c.deref.ensures ∙ ap (pointed_line peer) c.entry-item.is in
     record {
       passed = PutsThroughBuffer-next (pointed_line peer) c.args.routes.now c.routes.entry-index item _ _ _ [] c.routes.text after _ c.routes-test.true
           c.routes.invariant.passed c.in_ok-write_if_long.ensures.text (c.in_ok-put_route_line.ensures.printed.0 ∙ ap (λ l. after ++ l) own);
