@@ -3,7 +3,7 @@ use Rattle.std.proofs.Common.{◌≡◌, ◌∙◌, ◌⊎◌, ap, sym, refl, su
 use Rattle.std.specs.Io.KnownBytes.{Appends, Keeps}
 use Rattle.std.proofs.KnownBytes.{Appends-kept}
 use Rattle.mrt_wire.specs.declared.Stamp.{Stamp}
-use Rattle.bgpdump_tool.specs.Run.{AppendsPrefix, EndedByInput, EndsWithTexts, Outputs, Texts, Writes, WritesPrefixes, outputs_of}
+use Rattle.bgpdump_tool.specs.Run.{AppendsPrefix, EndedByInputFault, EndsWithTexts, Outputs, Texts, Writes, WritesPrefixes, outputs_of}
 use Rattle.bgpdump_tool.specs.declared.Outcome.{Outcome}
 use Rattle.bgpdump_tool.specs.declared.Outcome.TheVariants.{Done, Reported, ReadFault, WriteFault, InputTooLong, ScriptTooLong, Memory}
 use Rattle.mrt_wire.specs.Results.{RecordResult}
@@ -46,11 +46,11 @@ leaves_ended contents contents' before old mid outcome told texts (Some both) is
     subst (λ o. EndsWithTexts told texts o new) is (subst (λ t. EndsWithTexts t texts old new) (sym same) (EndsWithTexts-kept outcome texts old mid new ends kept))
 
 pub leaves_written : {O E : Type 0} (contents : O → Option (List ℕ)) (contents' : E → Option (List ℕ)) (before old mid : Outputs) (outcome told : Outcome) (texts : Texts) (writers : Option (O × E))
-    → old ≡ before → EndedByInput told → (EndedByInput outcome → Writes texts old mid) → IsTold outcome told writers → HoldsForWriters contents contents' (KeepsBoth mid) writers → HoldsForWriters contents contents' (Writes texts before) writers
+    → old ≡ before → EndedByInputFault told → (EndedByInputFault outcome → Writes texts old mid) → IsTold outcome told writers → HoldsForWriters contents contents' (KeepsBoth mid) writers → HoldsForWriters contents contents' (Writes texts before) writers
 leaves_written contents contents' before old mid outcome told texts None is by wrote same kept = tt
 leaves_written contents contents' before old mid outcome told texts (Some both) is by wrote same kept =
     let new = outputs_of contents contents' both.0 both.1 in
-    subst (λ o. Writes texts o new) is (Writes-kept texts old mid new (wrote (subst EndedByInput same by)) kept)
+    subst (λ o. Writes texts o new) is (Writes-kept texts old mid new (wrote (subst EndedByInputFault same by)) kept)
 
 -- a run that wrote nothing
 pub leaves_untouched : {O E : Type 0} (contents : O → Option (List ℕ)) (contents' : E → Option (List ℕ)) (before old mid : Outputs) (writers : Option (O × E))
@@ -72,11 +72,11 @@ lost_outcomes ScriptTooLong = inl refl
 lost_outcomes Memory = inr refl
 
 -- a run that the input ended is told as such
-pub told_by_input : {W : Type 0} (outcome told : Outcome) (writers : Option W) → IsTold outcome told writers → (IsNone writers → told ≡ outcome_without_writers outcome) → EndedByInput told → told ≡ outcome
+pub told_by_input : {W : Type 0} (outcome told : Outcome) (writers : Option W) → IsTold outcome told writers → (IsNone writers → told ≡ outcome_without_writers outcome) → EndedByInputFault told → told ≡ outcome
 told_by_input outcome told (Some both) same lost by = same
 told_by_input outcome told None same lost by = elim (lost_outcomes outcome) [
-  | inl fault ↦ absurd (subst EndedByInput (lost refl ∙ fault) by)
-  | inr memory ↦ absurd (subst EndedByInput (lost refl ∙ memory) by)
+  | inl fault ↦ absurd (subst EndedByInputFault (lost refl ∙ fault) by)
+  | inr memory ↦ absurd (subst EndedByInputFault (lost refl ∙ memory) by)
 ]
 
 -- and it is, unless the writers are gone

@@ -6,7 +6,7 @@ use Rattle.std.specs.Io.Buffered.{reader_remaining, writer_contents}
 use Rattle.mrt_wire.specs.declared.BufferedInput.{BufferedInput}
 use Rattle.mrt_wire.specs.declared.Stamp.{Stamp}
 use Rattle.mrt_wire.specs.Results.{TakesFront, RecordResult, Splits, Frame}
-use Rattle.bgpdump_tool.specs.Run.{EndedByInput, EndsWithTexts, Outputs, HoldsForTaken, Texts, Writes, all_results, outputs_of}
+use Rattle.bgpdump_tool.specs.Run.{EndedByInputFault, EndsWithTexts, Outputs, HoldsForTaken, Texts, Writes, all_results, outputs_of}
 use Rattle.bgpdump_tool.specs.Course.{HoldsForLines, play_texts}
 use Rattle.bgpdump_tool.specs.declared.play.TheConstants.{LONGEST_SCRIPT}
 use Rattle.bgpdump.specs.declared.run.Devices.{Devices}
@@ -15,7 +15,7 @@ use Rattle.bgpdump.specs.declared.run.BufferedStreams.{BufferedStreams}
 use Rattle.bgpdump_tool.specs.WrittenSoFar.{exit_status}
 use Rattle.bgpdump_tool.specs.declared.Outcome.{Outcome}
 use Rattle.bgpdump_tool.specs.declared.Outcome.TheVariants.{ReadFault, WriteFault, InputTooLong, ScriptTooLong, Memory}
-use Rattle.bgpdump.specs.declared.ending.Instructions.{Instructions}
+use Rattle.bgpdump.specs.declared.ending.UnreadableText.{UnreadableText}
 use Rattle.bgpdump.specs.declared.ending.Ending.{Ending}
 use Rattle.bgpdump.specs.declared.ending.Ending.TheVariants.{Usage, NotOpened, NotRead, Ran}
 use Rattle.bgpdump_tool.specs.declared.UsageFault.TheVariants as usage
@@ -73,7 +73,7 @@ WritersHoldTexts contents contents' stamp texts octets ended =
 -- taken. Holds if the run gives no input or no writers back.
 abbrev pub LeavesWholeRecords : {R O E : Type 0} → (R → Option (List ℕ)) → (O → Option (List ℕ)) → (E → Option (List ℕ)) → Stamp → (List RecordResult → Texts) → Devices R O E → FinishedRun R O E → Type 0
 LeavesWholeRecords remaining contents contents' stamp texts devices ended =
-    EndedByInput ended.outcome
+    EndedByInputFault ended.outcome
     → HoldsForInput remaining (λ left left'. HoldsForTaken stamp left left' (λ frames rest. Leaves contents contents' (Writes (texts (all_results stamp frames []))) devices ended))
     devices.reader ended.input
 
@@ -97,7 +97,7 @@ ending_status (Usage (usage.Help text)) = 0
 ending_status (Usage usage.Memory) = exit_status Memory
 ending_status (Usage fault) = 2
 ending_status (NotOpened name cause) = 3
-ending_status (NotRead instructions error) = exit_status ReadFault
+ending_status (NotRead text error) = exit_status ReadFault
 ending_status (Ran outcome) = exit_status outcome
 
 -- The outcome is one of a run that an error of reading keeps from starting: ReadFault or Memory.
@@ -105,10 +105,10 @@ abbrev pub IsOutcomeOfReadError : Outcome → Type 0
 IsOutcomeOfReadError outcome = (outcome ≡ ReadFault) ⊎ (outcome ≡ Memory)
 
 -- The program ends as it couldn't read these instructions, or had no memory for them.
-abbrev pub IsEndingOfReadError : Instructions → Ending → Type 0
-IsEndingOfReadError instructions (Ran outcome) = outcome ≡ Memory
-IsEndingOfReadError instructions (NotRead others error) = others ≡ instructions
-IsEndingOfReadError instructions other = ⊥
+abbrev pub IsEndingOfReadError : UnreadableText → Ending → Type 0
+IsEndingOfReadError text (Ran outcome) = outcome ≡ Memory
+IsEndingOfReadError text (NotRead others error) = others ≡ text
+IsEndingOfReadError text other = ⊥
 
 -- The outcome of a run that ended with this outcome, and whose writers then failed: Memory stays, any other
 -- one becomes WriteFault.
@@ -122,7 +122,7 @@ abbrev pub ending_message : Ending → Option (List ℕ)
 ending_message (Usage usage.Mode) = Some (codes "choose one of -m and --play")
 ending_message (Usage usage.TwoInputs) = Some (codes "standard input named twice")
 ending_message (Usage usage.Memory) = Some (codes "out of memory")
-ending_message (NotRead instructions error) = Some (codes "read fault")
+ending_message (NotRead text error) = Some (codes "read fault")
 ending_message (Ran ReadFault) = Some (codes "read fault")
 ending_message (Ran WriteFault) = Some (codes "write fault")
 ending_message (Ran InputTooLong) = Some (codes "input too long")

@@ -19,9 +19,10 @@ pub enum OpenFailure {
     IsAlsoRead,
 }
 
-/// A text that tells the program what to do, and that may be unreadable.
+/// A text with instructions for the program: the arguments of its command line, or the script that it
+/// executes. [`Ending::NotRead`] names by it which of the two can't be read.
 #[derive(Clone, Copy, PartialEq, Eq)]
-pub enum Instructions {
+pub enum UnreadableText {
     /// The arguments of the command line.
     Words,
     /// The script whose commands are executed (`--play`).
@@ -37,7 +38,7 @@ pub enum Ending<'a> {
     NotOpened(&'a str, OpenFailure),
     /// The command line or the script can't be read: an argument isn't UTF-8 text, or the system failed
     /// with this error.
-    NotRead(Instructions, io::Error),
+    NotRead(UnreadableText, io::Error),
     /// The program's work over the input ended with this outcome, or memory allocation failed before it
     /// began.
     Ran(Outcome),
@@ -87,9 +88,9 @@ impl Ending<'_> {
         }
     }
 
-    /// Prints the last message, if there is one: help to standard output, any other message to standard
-    /// error, such as `bgpdump: cannot open table.mrt`. Fails if it can't be written; a part of it may
-    /// have been written then.
+    /// Prints the message with which the program ends, if there is one: help to standard output, any
+    /// other message to standard error, such as `bgpdump: cannot open table.mrt`. Fails if it can't be
+    /// written; a part of it may have been written then.
     pub fn print(&self, rt: &HostRuntime) -> io::Result<()> {
         match self {
             Ending::Usage(UsageFault::Help(text)) => print!(rt; "{text}"),
@@ -102,9 +103,10 @@ impl Ending<'_> {
         }
     }
 
-    /// Returns the last message without the program's name, such as `read fault`. Returns `None` if the
-    /// program ends without one, and also if its text isn't fixed: help and texts of `clap`, and files
-    /// that aren't opened, which [`print`](Ending::print) writes by itself.
+    /// Returns the message with which the program ends, without the program's name ahead of it, such as
+    /// `read fault`. Returns `None` if there is no message, or if its text isn't fixed: for help and
+    /// other texts of `clap`, and for files that aren't opened, which [`print`](Ending::print) handles by
+    /// itself.
     pub(crate) fn message(&self) -> Option<&'static str>
         ensures { option_map (λ text. text.now) result ≡ ending_message self.now }
     {

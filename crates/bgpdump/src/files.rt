@@ -5,7 +5,7 @@ ghost use Rattle.std.specs.Prelude.{◌≡◌, ◌≢◌, ◌↔◌, ◌+◌, �
 ghost use Rattle.std.specs.IoError.{error_kind};
 ghost use Rattle.bgpdump.specs.Endings.{IsOutcomeOfReadError, IsEndingOfReadError};
 
-use crate::ending::{Ending, Instructions, OpenFailure};
+use crate::ending::{Ending, OpenFailure, UnreadableText};
 use bgpdump_tool::{LONGEST_SCRIPT, Mode, Outcome, STANDARD_INPUT, Settings};
 use std::alloc::Global;
 use std::fs::{self, File, Metadata};
@@ -21,8 +21,9 @@ const STANDARD_STREAMS: i32 = 3;
 /// system with an empty `/dev` has only the second.
 const STANDARD_INPUT_PATHS: [&str; 2] = ["/dev/stdin", "/proc/self/fd/0"];
 
-/// What tells whether two names are of the same file: its device, and its inode there. A block device has
-/// its own device number, whatever its path, and inode 0.
+/// The identity of a file, which is equal for all names of one file: the number of the device that holds
+/// it, and the number of its inode there. The identity of a block device is its own device number and
+/// inode 0, whatever its path.
 #[derive(Clone, Copy, PartialEq, Eq)]
 struct FileIdentity {
     device: u64,
@@ -41,8 +42,8 @@ pub fn outcome_of_read_error(error: &io::Error) -> Outcome
     }
 }
 
-/// Returns how the program ends after the system refused to open the file `name` with `error`: with the
-/// outcome `Memory` for `ErrorKind::OutOfMemory`, or else as `NotOpened`.
+/// Returns the [`Ending`] of the program after the system refused to open the file `name` with `error`:
+/// the outcome `Memory` for `ErrorKind::OutOfMemory`, or else [`Ending::NotOpened`].
 fn ending_of_open_error<'a>(name: &'a str, error: &io::Error) -> Ending<'a>
     ensures memory { error_kind error.now ≡ ErrorKind.OutOfMemory →
         result ≡ Ending.Ran Outcome.Memory }
@@ -55,18 +56,18 @@ fn ending_of_open_error<'a>(name: &'a str, error: &io::Error) -> Ending<'a>
     }
 }
 
-/// Returns how the program ends after reading the command line or the script (`instructions`) failed with
-/// `error`: with the outcome `Memory` for `ErrorKind::OutOfMemory`, or else as `NotRead`.
-pub fn ending_of_read_error<'a>(instructions: Instructions, error: &io::Error) -> Ending<'a>
+/// Returns the [`Ending`] of the program after reading the command line or the script (`text`)
+/// failed with `error`: the outcome `Memory` for `ErrorKind::OutOfMemory`, or else [`Ending::NotRead`].
+pub fn ending_of_read_error<'a>(text: UnreadableText, error: &io::Error) -> Ending<'a>
     ensures memory { error_kind error.now ≡ ErrorKind.OutOfMemory →
         result ≡ Ending.Ran Outcome.Memory }
     ensures other { error_kind error.now ≢ ErrorKind.OutOfMemory →
-        result ≡ Ending.NotRead instructions error.now }
-    ensures either { IsEndingOfReadError instructions result }
+        result ≡ Ending.NotRead text error.now }
+    ensures either { IsEndingOfReadError text result }
 {
     match outcome_of_read_error(error) {
         Outcome::Memory => Ending::Ran(Outcome::Memory),
-        _ => Ending::NotRead(instructions, *error),
+        _ => Ending::NotRead(text, *error),
     }
 }
 
@@ -85,15 +86,15 @@ pub fn reserve_standard_descriptors(rt: &HostRuntime) {
     }
 }
 
-/// Opens the file `name` for reading. Fails with how the program ends then: as a file that isn't opened,
-/// or with the outcome `Memory`.
+/// Opens the file `name` for reading. Fails with the [`Ending`] of the program: [`Ending::NotOpened`]
+/// with the system's error, or the outcome `Memory` if that error is `ErrorKind::OutOfMemory`.
 pub fn open<'a>(rt: &HostRuntime, name: &'a str) -> Result<File, Ending<'a>> {
     File::open(rt, name).map_err(|error| ending_of_open_error(name, &error))
 }
 
-/// Creates the file `name` for writing, or empties it if it exists. Fails with how the program ends, and
-/// leaves the file unchanged, if it is also the input or the script of `settings`; fails too if the
-/// system refuses to open it.
+/// Creates the file `name` for writing, or empties it if it exists. Fails with the [`Ending`] of the
+/// program if the file is also the input or the script of `settings`, which is then left unchanged. Fails
+/// too if the system refuses to open it, or to tell whether it is one of these.
 pub fn create<'a>(
     rt: &HostRuntime,
     settings: &Settings,
@@ -179,18 +180,19 @@ fn is_same_identity(one: FileIdentity, other: FileIdentity) -> bool
     one == other
 }
 
-/// Reads the script from `reader`: all of it, or its first octets, one more than [`LONGEST_SCRIPT`],
-/// which show that it is too long to be executed. Fails with how the program ends: as a script that can't
-/// be read, or with the outcome `Memory`.
+/// Reads the script from `reader` to its end, or its first [`LONGEST_SCRIPT`] + 1 octets if it has more.
+/// A script of so many octets isn't refused here, but when it is to be executed, as too long. Fails with
+/// the [`Ending`] of the program: [`Ending::NotRead`] if `reader` fails, or the outcome `Memory` if
+/// memory allocation fails.
 pub fn read_script<'a, R: Read + Drop>(alloc: Global, reader: R) -> Result<Vec<u8>, Ending<'a>>
     ensures octets { IfOk result (λ script. (octets : List ℕ) → R.remaining reader ≡ Some octets →
         script.items ≡ take (LONGEST_SCRIPT + 1) octets) }
-    ensures fault { IfErr result (IsEndingOfReadError Instructions.Script) }
+    ensures fault { IfErr result (IsEndingOfReadError UnreadableText.Script) }
 {
     let mut script = Vec::new(alloc);
     let mut front = reader.take(LONGEST_SCRIPT as u64 + 1);
     match front.read_to_end(&mut script) {
         Ok(_) => Ok(script),
-        Err(error) => Err(ending_of_read_error(Instructions::Script, &error)),
+        Err(error) => Err(ending_of_read_error(UnreadableText::Script, &error)),
     }
 }

@@ -21,8 +21,8 @@ pub fn are_hints_wanted(rt: &HostRuntime) -> bool {
     rt.stderr().is_terminal()
 }
 
-/// A format of compressed files, such as gzip, which an input seems to be in: with it a hint names the
-/// program to unpack the input by.
+/// A format of compressed files, such as gzip, that an input or a script seems to be in. A hint names it
+/// to the user, with the program that unpacks it.
 #[derive(Clone, Copy, Debug, PartialEq, Eq)]
 pub struct CompressedFormat {
     /// The name of the format, such as `gzip`.
@@ -42,16 +42,16 @@ pub struct FirstOctets {
 }
 
 impl FirstOctets {
-    /// Returns the first octets of an input that begins with `octets`. Only as many as a header has are
-    /// kept.
+    /// Returns the first octets of an input or a script that begins with `octets`: as many as the header
+    /// of an MRT record has (12, [`HEADER_SIZE`]), or all of `octets` if these are fewer.
     pub fn read_from(octets: &[u8]) -> Self {
         let mut front = FirstOctets::default();
         front.add_octets(octets);
         front
     }
 
-    /// Adds `octets`, the next ones of the input, to those noted. Those beyond the size of a header are
-    /// ignored.
+    /// Adds `octets`, the next ones of the input, to the octets noted so far, until these are 12
+    /// ([`HEADER_SIZE`]). Ignores the others.
     fn add_octets(&mut self, octets: &[u8]) {
         for octet in octets {
             if self.len >= HEADER_SIZE {
@@ -69,17 +69,17 @@ impl FirstOctets {
         // xz are in 1986, 1991 and 2104, when no router writes; `BZh` is in 2005, so that the block mark
         // is compared too.
         let front = &self.octets[..self.len.min(HEADER_SIZE)];
-        let form = |name, printer| Some(CompressedFormat { name, printer });
+        let format = |name, printer| Some(CompressedFormat { name, printer });
         if front.starts_with(b"\x1F\x8B\x08") {
-            form("gzip", "zcat")
+            format("gzip", "zcat")
         } else if front.starts_with(b"BZh")
             && self.octets[BZIP2_BLOCK_OFFSET..].starts_with(b"1AY&SY")
         {
-            form("bzip2", "bzcat")
+            format("bzip2", "bzcat")
         } else if front.starts_with(b"\xFD7zXZ\0") {
-            form("xz", "xzcat")
+            format("xz", "xzcat")
         } else if front.starts_with(b"\x28\xB5\x2F\xFD") {
-            form("zstd", "zstdcat")
+            format("zstd", "zstdcat")
         } else {
             None
         }
@@ -107,8 +107,9 @@ impl FirstOctets {
     }
 }
 
-/// What a [`NotedReader`] notes of the input while it is read: its first octets, and the last error of
-/// the reader. After the program's work, hints to a person say by them what seems wrong.
+/// What a [`NotedReader`] notes while the input is read: its first octets, and the last error of the
+/// reader. After the program's work, hints to the user are drawn from them, such as that the input looks
+/// compressed.
 #[derive(Clone, Copy, Default)]
 pub struct InputNotes {
     /// The first octets of the input.
@@ -142,7 +143,8 @@ impl<R> NotedReader<R> {
         self.notes.set(notes);
     }
 
-    /// Notes `octets`, which were just read, as far as they are among the first of the input.
+    /// Adds `octets`, which were just read, to the first octets of the input in the [`InputNotes`], until
+    /// these are 12 ([`HEADER_SIZE`]). Ignores the others.
     fn note_octets(&self, octets: &[u8]) {
         let mut notes = self.notes.get();
         notes.front.add_octets(octets);
@@ -167,16 +169,17 @@ impl<R: Read> Read for NotedReader<R> {
     }
 }
 
-/// The reader and the writers that the program works with, of which the reader notes what it reads.
+/// The reader and the writers that the program works with, and the notes of its input. The reader is a
+/// [`NotedReader`], which updates these notes as it reads; of the writers nothing is noted.
 #[derive(Drop)]
-pub struct NotedDevices<R, O, E> {
+pub struct DevicesAndInputNotes<R, O, E> {
     /// The notes of the input so far: its first octets, and the last error of its reader.
     pub notes: Rc<Cell<InputNotes>>,
     /// The devices. Their reader updates `notes`.
     pub devices: Devices<NotedReader<R>, O, E>,
 }
 
-impl<R: Drop, O: Drop, E: Drop> NotedDevices<R, O, E> {
+impl<R: Drop, O: Drop, E: Drop> DevicesAndInputNotes<R, O, E> {
     /// Returns `devices` with a [`NotedReader`] in place of their reader, and empty notes. Fails if
     /// memory allocation fails; `devices` are dropped then.
     pub fn new(alloc: Global, devices: Devices<R, O, E>) -> Result<Self, AllocError>
@@ -188,6 +191,6 @@ impl<R: Drop, O: Drop, E: Drop> NotedDevices<R, O, E> {
         let Devices { reader, out, err } = devices;
         let reader = NotedReader::new(notes.clone()?, reader);
         let devices = Devices { reader, out, err };
-        Ok(NotedDevices { notes, devices })
+        Ok(DevicesAndInputNotes { notes, devices })
     }
 }

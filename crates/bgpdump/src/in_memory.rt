@@ -6,7 +6,7 @@ ghost use Rattle.std.specs.Prelude.{◌≡◌, [], Some, IfOk};
 ghost use Rattle.bgpdump_tool.specs.Run.{dump_texts};
 ghost use Rattle.bgpdump.specs.Endings.{WritersHoldTexts, WritersHoldReplies};
 
-use crate::hints::{NotedDevices, NotedReader};
+use crate::hints::{DevicesAndInputNotes, NotedReader};
 use crate::run::{Devices, FinishedRun, dump, play};
 use bgpdump_tool::Outcome;
 use mrt_wire::Stamp;
@@ -16,8 +16,9 @@ use std::io::{Read, Write};
 
 /// Prints the MRT file that consists of `octets` as `bgpdump -m` does, but to writers in memory, and
 /// returns how the program would end; what was written is dropped. `stamp` selects which time the routes
-/// of tables get: that of the dump, or that of their last change. Fails if memory allocation fails before
-/// the first record is read. Used for proofs only.
+/// of tables get: that of the dump, or that of their last change. Fails if memory allocation for the
+/// reader, the notes of the input or the writers fails; any later failure is in the outcome. Used for
+/// proofs only.
 pub fn dump_octets(alloc: Global, stamp: Stamp, octets: &[u8]) -> Result<Outcome, AllocError> {
     let mut held = Vec::new(alloc);
     held.extend_from_slice(octets)?;
@@ -31,7 +32,8 @@ pub fn dump_octets(alloc: Global, stamp: Stamp, octets: &[u8]) -> Result<Outcome
 /// Executes the commands of `script` over the MRT file that consists of `octets` as `bgpdump --play`
 /// does, but with writers in memory, and returns how the program would end; what was written is dropped.
 /// `stamp` selects which time the routes of tables get: that of the dump, or that of their last change.
-/// Fails if memory allocation fails before the first command. Used for proofs only.
+/// Fails if memory allocation for the reader, the notes of the input or the writers fails; any later
+/// failure is in the outcome. Used for proofs only.
 pub fn play_octets(
     alloc: Global,
     stamp: Stamp,
@@ -48,9 +50,10 @@ pub fn play_octets(
 }
 
 /// Prints the MRT file in `devices.reader` as `bgpdump -m` does, to the writers in `devices`, and returns
-/// the outcome with these writers. Requires that the reader holds just `octets`, and that the writers are
-/// empty. `stamp` selects which time the routes of tables get: that of the dump, or that of their last
-/// change. Fails if memory allocation fails before the first record is read.
+/// the outcome with the reader and the writers. `stamp` selects which time the routes of tables get: that
+/// of the dump, or that of their last change. `octets` is read by the contract alone: requires that the
+/// reader yields exactly these, and that the writers are empty. Fails if memory allocation for the notes
+/// of the input fails; any later failure is in the outcome.
 fn dump_in_memory<R: Read + Drop, O: Write + Drop, E: Write + Drop>(
     alloc: Global,
     stamp: Stamp,
@@ -62,15 +65,16 @@ fn dump_in_memory<R: Read + Drop, O: Write + Drop, E: Write + Drop>(
     requires err { E.contents devices.err ≡ Some [] }
     ensures { IfOk result (WritersHoldTexts O.contents E.contents stamp dump_texts octets.now) }
 {
-    let noted = NotedDevices::new(alloc, devices)?;
+    let noted = DevicesAndInputNotes::new(alloc, devices)?;
     Ok(dump(alloc, stamp, noted.devices))
 }
 
 /// Executes the commands of `script` over the MRT file in `devices.reader` as `bgpdump --play` does,
-/// writes to the writers in `devices`, and returns the outcome with these writers. Requires that the
-/// reader holds just `octets`, and that the writers are empty. `stamp` selects which time the routes of
-/// tables get: that of the dump, or that of their last change. Fails if memory allocation fails before
-/// the first command.
+/// writes to the writers in `devices`, and returns the outcome with the reader and the writers. `stamp`
+/// selects which time the routes of tables get: that of the dump, or that of their last change. `octets`
+/// is read by the contract alone: requires that the reader yields exactly these, and that the writers are
+/// empty. Fails if memory allocation for the notes of the input fails; any later failure is in the
+/// outcome.
 fn play_in_memory<R: Read + Drop, O: Write + Drop, E: Write + Drop>(
     alloc: Global,
     stamp: Stamp,
@@ -83,6 +87,6 @@ fn play_in_memory<R: Read + Drop, O: Write + Drop, E: Write + Drop>(
     requires err { E.contents devices.err ≡ Some [] }
     ensures { IfOk result (WritersHoldReplies O.contents E.contents stamp script.now octets.now) }
 {
-    let noted = NotedDevices::new(alloc, devices)?;
+    let noted = DevicesAndInputNotes::new(alloc, devices)?;
     Ok(play(alloc, stamp, script, noted.devices))
 }

@@ -13,9 +13,9 @@ mod run_hints;
 mod script_hints;
 
 use bgpdump_tool::{LONGEST_SCRIPT, Mode, Outcome, STANDARD_INPUT, Settings, settings};
-use ending::{Ending, Instructions};
+use ending::{Ending, UnreadableText};
 use files::{create, ending_of_read_error, open, read_script, reserve_standard_descriptors};
-use hints::{InputNotes, NotedDevices, are_hints_wanted};
+use hints::{DevicesAndInputNotes, InputNotes, are_hints_wanted};
 use run::{Devices, dump, play};
 use run_hints::{write_ending_hint, write_input_hints};
 use script_hints::write_script_hints;
@@ -23,9 +23,10 @@ use std::io::{Read, Write};
 use std::process::ExitCode;
 use std::{env, io};
 
-/// How the program's work over its input ended, with what a hint needs to know about the input.
+/// The outcome of the program's work over its input, with the notes of the input, from which hints to the
+/// user are drawn.
 #[derive(Drop)]
-struct Ran {
+struct OutcomeAndInputNotes {
     /// How it ended.
     outcome: Outcome,
     /// The notes of the input: its first octets, and the last error of its reader.
@@ -41,10 +42,13 @@ fn main(rt: HostRuntime) -> ExitCode {
     }
 }
 
-/// Parses the command line. Fails with how the program ends if that selects no settings: with help, with
-/// a fault of usage, because an argument isn't UTF-8 text, or because memory allocation failed.
+/// Parses the command line. Fails with the [`Ending`] of the program if that selects no settings: help is
+/// requested, the usage is wrong, an argument isn't UTF-8 text, or memory allocation fails.
 fn read_settings<'a>(rt: &HostRuntime) -> Result<Settings, Ending<'a>> {
-    let words = read_words(rt).map_err(|error| ending_of_read_error(Instructions::Words, &error))?;
+    let words = read_words(rt).map_err(|error| ending_of_read_error(
+        UnreadableText::Words,
+        &error,
+    ))?;
     settings(rt.alloc(), words).map_err(|fault| Ending::Usage(fault))
 }
 
@@ -54,9 +58,10 @@ fn read_words(rt: &HostRuntime) -> io::Result<Vec<String>> {
     Ok(env::args(rt)?.collect(rt.alloc())?)
 }
 
-/// Opens the files that `settings` name, does the program's work over them, prints the last message, and
-/// returns the exit status. If the status isn't 0 and standard error is a terminal, a hint follows there:
-/// on the failure, and on what seems to be wrong with the input (such as that it is compressed).
+/// Opens the files that `settings` name, does the program's work over them, and returns the exit status.
+/// If the program ends with a failure, prints a message that says which to standard error. If the status
+/// isn't 0 and standard error is a terminal, hints follow there: on the failure, and on what seems to be
+/// wrong with the input (such as that it is compressed).
 fn run_and_report(rt: &HostRuntime, settings: &Settings) -> ExitCode {
     match open_files_and_run(rt, settings) {
         Ok(ran) => {
@@ -71,10 +76,14 @@ fn run_and_report(rt: &HostRuntime, settings: &Settings) -> ExitCode {
     }
 }
 
-/// Reads the script, and opens the input and then the output, that `settings` name, and does the
-/// program's work over them. Fails with how the program ends if that doesn't begin: a file can't be
-/// opened or read, or memory allocation fails.
-fn open_files_and_run<'a>(rt: &HostRuntime, settings: &'a Settings) -> Result<Ran, Ending<'a>> {
+/// Opens the files that `settings` name (first the script, which is read at once, then the input and the
+/// output), and does the program's work over them. Returns the [`Outcome`] of the work, which may be a
+/// failure, with the notes of the input. Fails with the [`Ending`] of the program if the work doesn't
+/// begin: a file can't be opened, the script can't be read, or memory allocation fails.
+fn open_files_and_run<'a>(
+    rt: &HostRuntime,
+    settings: &'a Settings,
+) -> Result<OutcomeAndInputNotes, Ending<'a>> {
     let script = read_script_for_mode(rt, &settings.mode)?;
     let name = settings.input.as_str();
     let input: Box<dyn Read + Drop> = if name == STANDARD_INPUT {
@@ -86,8 +95,8 @@ fn open_files_and_run<'a>(rt: &HostRuntime, settings: &'a Settings) -> Result<Ra
 }
 
 /// Reads the script that `mode` names, or standard input for the name `-`. Returns `None` for
-/// `Mode::Lines`, which has no script. Fails with how the program ends: the script can't be opened or
-/// read, or memory allocation fails.
+/// `Mode::Lines`, which has no script. Fails with the [`Ending`] of the program: the script can't be
+/// opened or read, or memory allocation fails.
 fn read_script_for_mode<'a>(
     rt: &HostRuntime,
     mode: &'a Mode,
@@ -102,22 +111,24 @@ fn read_script_for_mode<'a>(
 }
 
 /// Opens the output that `settings` name (standard output if they name none), and does the program's work
-/// from `input` to it: executes the commands of `script`, or prints lines if that is `None`. Fails with
-/// how the program ends if that doesn't begin: the output can't be opened, or memory allocation fails.
+/// from `input` to it: executes the commands of `script`, or prints lines if that is `None`. Returns the
+/// [`Outcome`] of the work, which may be a failure, with the notes of the input. Fails with the
+/// [`Ending`] of the program if the work doesn't begin: the output can't be opened, or memory allocation
+/// fails.
 fn open_output_and_run<'a>(
     rt: &HostRuntime,
     settings: &'a Settings,
     script: Option<&[u8]>,
     input: Box<dyn Read + Drop>,
-) -> Result<Ran, Ending<'a>> {
+) -> Result<OutcomeAndInputNotes, Ending<'a>> {
     // In boxes all inputs have one type, and all outputs, so that the program has the run's code once.
     let out: Box<dyn Write + Drop> = match &settings.output {
         Some(name) => Box::new(rt.alloc(), create(rt, settings, name.as_str())?)?,
         None => Box::new(rt.alloc(), rt.stdout())?,
     };
     let (reader, err) = (input, rt.stderr());
-    let noted = NotedDevices::new(rt.alloc(), Devices { reader, out, err })?;
-    let NotedDevices { notes, devices } = noted;
+    let noted = DevicesAndInputNotes::new(rt.alloc(), Devices { reader, out, err })?;
+    let DevicesAndInputNotes { notes, devices } = noted;
     let outcome = match script {
         None => dump(rt.alloc(), settings.stamp, devices).outcome,
         Some(script) => {
@@ -126,7 +137,7 @@ fn open_output_and_run<'a>(
         }
     };
     let notes = notes.get();
-    Ok(Ran { outcome, notes })
+    Ok(OutcomeAndInputNotes { outcome, notes })
 }
 
 /// Writes hints to standard error on the lines of `script` that are no commands. Does nothing if standard
@@ -138,9 +149,10 @@ fn write_bad_line_hints(rt: &HostRuntime, script: &[u8]) {
     }
 }
 
-/// Prints the last message, and a hint if standard error is a terminal, and returns the exit status. If
-/// help can't be printed, prints the message of a write fault and returns its status instead; other
-/// messages that can't be printed are lost.
+/// Prints the message with which the program ends, if there is one, and returns the exit status. Help
+/// goes to standard output, any other message to standard error; a hint may follow there if that is a
+/// terminal. If help can't be printed, prints the message of a write fault instead and returns the status
+/// of that; any other message that can't be printed is lost.
 fn end(rt: &HostRuntime, ending: &Ending<'_>) -> ExitCode {
     let is_printed = ending.print(rt).is_ok();
     if is_printed || ending.status() > 0 {

@@ -4,7 +4,7 @@
 ghost use Rattle.std.specs.Prelude.{◌≡◌, ◌≤◌, ◌<◌, ◌⊎◌, ℕ, List, false, length, Some, None, IfSome, IfOk, IfErr, IsNone};
 ghost use Rattle.std.specs.Io.Buffered.{writer_contents};
 ghost use Rattle.std.specs.Io.KnownBytes.{Consumes, Keeps};
-ghost use Rattle.bgpdump_tool.specs.Course.{HoldsForLines, cut_texts, play_texts};
+ghost use Rattle.bgpdump_tool.specs.Course.{HoldsForLines, texts_before_input_fault, play_texts};
 ghost use Rattle.bgpdump_tool.specs.Run.{dump_texts, outputs_of};
 ghost use Rattle.bgpdump.specs.Endings.{outcome_without_writers, HoldsForInput, Leaves, LeavesTexts, LeavesWholeRecords, TookInputLimit, KeepsBoth, HoldsForWriters, buffered_outputs, has_failed};
 
@@ -122,7 +122,7 @@ pub fn play<R: Read + Drop, O: Write + Drop, E: Write + Drop>(
     // If the reader failed or has too many octets, the writers have got exactly the replies to the
     // completed commands, and the reports of the whole records read and of the bad lines before.
     ensures whole_records { HoldsForLines script.now (λ lines.
-        LeavesWholeRecords R.remaining O.contents E.contents stamp (cut_texts lines) devices result) }
+        LeavesWholeRecords R.remaining O.contents E.contents stamp (texts_before_input_fault lines) devices result) }
 
     // The octets that are read.
     ensures taken { length script.now ≤ LONGEST_SCRIPT → HoldsForInput R.remaining

@@ -3,7 +3,7 @@
 //! lost.
 
 use crate::command_words::{PipedCommand, ShellQuoted};
-use crate::ending::{Ending, Instructions, OpenFailure};
+use crate::ending::{Ending, OpenFailure, UnreadableText};
 use crate::hints::{CompressedFormat, InputNotes};
 use bgpdump_tool::{LONGEST_SCRIPT, Outcome, STANDARD_INPUT, Settings, UsageFault};
 use mrt_frames::LONGEST_BODY;
@@ -39,10 +39,10 @@ pub fn write_ending_hint(rt: &HostRuntime, ending: &Ending<'_>) {
             "bgpdump: only one of SCRIPT and INPUT may be -"
         ),
         Ending::NotOpened(name, cause) => write_open_failure(rt, name, cause),
-        Ending::NotRead(Instructions::Words, _) => eprintln!(rt;
+        Ending::NotRead(UnreadableText::Words, _) => eprintln!(rt;
             "bgpdump: a word of the command is not UTF-8 text"
         ),
-        Ending::NotRead(Instructions::Script, error) => write_read_error(rt, "the script", error),
+        Ending::NotRead(UnreadableText::Script, error) => write_read_error(rt, "the script", error),
         Ending::Ran(Outcome::ScriptTooLong) => eprintln!(rt;
             "bgpdump: a script has at most {LONGEST_SCRIPT} octets"
         ),
@@ -61,7 +61,7 @@ pub fn write_input_hints(rt: &HostRuntime, settings: &Settings, notes: &InputNot
         notes.front.find_compressed_format(),
         notes.front.find_first_body_size(),
     ) {
-        (Some(form), _) => write_compression_hint(rt, settings, form),
+        (Some(format), _) => write_compression_hint(rt, settings, format),
         (None, Some(size)) if size > LONGEST_BODY => eprintln!(rt;
             "bgpdump: the input may be no MRT file: its first record would have {size} octets"
         ),
@@ -69,26 +69,28 @@ pub fn write_input_hints(rt: &HostRuntime, settings: &Settings, notes: &InputNot
     };
 }
 
-/// Writes a hint to standard error with the command that unpacks an input in the format `form`, such as
-/// `bgpdump: a.gz looks like gzip; try zcat a.gz | bgpdump -m -`, for what `settings` select. Fails if
-/// standard error can't be written; some of the hint may have been written then.
+/// Writes a hint to standard error that the input looks compressed in `format`, with a command that
+/// unpacks it for this program, such as
+/// `bgpdump: a.gz looks like gzip; try zcat a.gz | bgpdump -m -`. `settings` give the input's name and
+/// the options of that command. Fails if standard error can't be written; some of the hint may have been
+/// written then.
 fn write_compression_hint(
     rt: &HostRuntime,
     settings: &Settings,
-    form: CompressedFormat,
+    format: CompressedFormat,
 ) -> io::Result<()> {
     let CompressedFormat {
-        name: form,
+        name: format,
         printer,
-    } = form;
+    } = format;
     let command = PipedCommand(settings);
     if settings.input.as_str() == STANDARD_INPUT {
         return eprintln!(rt;
-            "bgpdump: standard input looks like {form}; try {printer} FILE | {command}"
+            "bgpdump: standard input looks like {format}; try {printer} FILE | {command}"
         );
     }
     let name = ShellQuoted(settings.input.as_str());
-    eprintln!(rt; "bgpdump: {name} looks like {form}; try {printer} {name} | {command}")
+    eprintln!(rt; "bgpdump: {name} looks like {format}; try {printer} {name} | {command}")
 }
 
 /// Writes a hint to standard error on the unknown argument that `text`, the text of an error of `clap`,
@@ -133,9 +135,10 @@ fn find_leading_option(argument: &str, options: &[&'static str]) -> Option<&'sta
         .find(|option| argument.starts_with(*option))
 }
 
-/// Writes a hint to standard error on why the file `name` isn't opened (`cause`), such as `bgpdump:
-/// permission denied`. Fails if standard error can't be written; some of the hint may have been written
-/// then.
+/// Writes a hint to standard error on why a file isn't opened, as `cause` states, such as
+/// `bgpdump: permission denied`. `name` is the name of the file. It isn't in the hint; only an empty one
+/// gets a hint of its own, `bgpdump: the name is empty`. Fails if standard error can't be written; some
+/// of the hint may have been written then.
 fn write_open_failure(rt: &HostRuntime, name: &str, cause: &OpenFailure) -> io::Result<()> {
     match cause {
         OpenFailure::IsAlsoRead => eprintln!(rt;
@@ -154,10 +157,10 @@ fn write_open_failure(rt: &HostRuntime, name: &str, cause: &OpenFailure) -> io::
     }
 }
 
-/// Writes a hint to standard error on why `what` (such as `the input`) can't be read, by its `error`. A
-/// directory may also be a standard stream that was closed: the program puts a directory in its place, so
-/// that the hint names both. Fails if standard error can't be written; some of the hint may have been
-/// written then.
+/// Writes a hint to standard error on why `what`, such as `the input`, can't be read: the system's
+/// `error`. If that says that it is a directory, the hint also names another cause, a standard stream
+/// that was closed, since the program opens a directory in the place of such a stream. Fails if standard
+/// error can't be written; some of the hint may have been written then.
 fn write_read_error(rt: &HostRuntime, what: &str, error: &io::Error) -> io::Result<()> {
     match error.kind() {
         ErrorKind::IsADirectory => eprintln!(rt; "bgpdump: {what} is a folder or a closed stream"),

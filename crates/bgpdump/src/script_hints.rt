@@ -15,7 +15,7 @@ const SHOWN: usize = 60;
 /// What a word in a script's line is to be, by its place after the name of a command: a number, an
 /// address or a prefix. A hint on a bad line names it.
 #[derive(Clone, Copy, PartialEq, Eq)]
-enum ScriptArgumentKind {
+enum CommandArgumentKind {
     /// A number of steps to move, at least 1: the argument of `next` and `back`. (A step is one played
     /// event.)
     Times,
@@ -33,32 +33,32 @@ enum ScriptArgumentKind {
 }
 
 /// The arguments of a command without any: `where` and `peers`.
-const NO_ARGUMENTS: &[ScriptArgumentKind] = &[];
+const NO_ARGUMENTS: &[CommandArgumentKind] = &[];
 
 /// The argument of `next` and `back`: the number of steps to move.
-const TIMES: &[ScriptArgumentKind] = &[ScriptArgumentKind::Times];
+const TIMES: &[CommandArgumentKind] = &[CommandArgumentKind::Times];
 
 /// The argument of `forget`: the number of steps to keep.
-const NUMBER: &[ScriptArgumentKind] = &[ScriptArgumentKind::Number];
+const NUMBER: &[CommandArgumentKind] = &[CommandArgumentKind::Number];
 
 /// The argument of `goto`: the position to go to.
-const STEP: &[ScriptArgumentKind] = &[ScriptArgumentKind::Step];
+const STEP: &[CommandArgumentKind] = &[CommandArgumentKind::Step];
 
 /// The arguments of `table` and `lose`: the address and the AS number of a peer.
-const PEER: &[ScriptArgumentKind] = &[ScriptArgumentKind::Address, ScriptArgumentKind::AsNumber];
+const PEER: &[CommandArgumentKind] = &[CommandArgumentKind::Address, CommandArgumentKind::AsNumber];
 
 /// The arguments of `route`: the address and the AS number of a peer, and a prefix.
-const PEER_AND_PREFIX: &[ScriptArgumentKind] = &[
-    ScriptArgumentKind::Address,
-    ScriptArgumentKind::AsNumber,
-    ScriptArgumentKind::Prefix,
+const PEER_AND_PREFIX: &[CommandArgumentKind] = &[
+    CommandArgumentKind::Address,
+    CommandArgumentKind::AsNumber,
+    CommandArgumentKind::Prefix,
 ];
 
 /// The arguments of `lookup`: the address and the AS number of a peer, and an address to look up.
-const PEER_AND_ADDRESS: &[ScriptArgumentKind] = &[
-    ScriptArgumentKind::Address,
-    ScriptArgumentKind::AsNumber,
-    ScriptArgumentKind::Address,
+const PEER_AND_ADDRESS: &[CommandArgumentKind] = &[
+    CommandArgumentKind::Address,
+    CommandArgumentKind::AsNumber,
+    CommandArgumentKind::Address,
 ];
 
 /// The reason for which a line of a script is no command. Displayed, it is the text of a hint.
@@ -73,9 +73,9 @@ enum LineFlaw<'a> {
     /// No command has this name, the line's first word.
     NoCommand(EscapedOctets<'a>),
     /// The line ends before an argument of this kind.
-    Missing(ScriptArgumentKind),
+    Missing(CommandArgumentKind),
     /// This word isn't of the kind that its place in the line asks for.
-    Wrong(&'a [u8], ScriptArgumentKind),
+    Wrong(&'a [u8], CommandArgumentKind),
     /// This word follows the last argument of the command.
     Extra(EscapedOctets<'a>),
 }
@@ -122,9 +122,9 @@ fn is_bad(line: &[u8]) -> bool {
     !line.is_empty() && read_command(line).is_none()
 }
 
-/// Returns why `line`, which isn't a command, is none: by the first of its words that is wrong, missing
-/// or too many. Returns `None` if no such word is found. (Of `next` alone, which is a command, it would
-/// say that a number is missing.)
+/// Returns what is wrong with `line`, which isn't a command: a carriage return at its end, a tab, or else
+/// the first of its words that is wrong, missing or too many. Returns `None` if none of these is found.
+/// (Of `next` and `back` alone, which are commands, it would say that a number is missing.)
 fn find_flaw(line: &[u8]) -> Option<LineFlaw<'_>> {
     if line.ends_with(b"\r") {
         return Some(LineFlaw::CarriageReturn);
@@ -158,7 +158,7 @@ fn find_flaw(line: &[u8]) -> Option<LineFlaw<'_>> {
 
 /// Returns the kinds of the arguments of the command `name`, in order, or `None` if there is no such
 /// command.
-fn find_argument_kinds(name: &[u8]) -> Option<&'static [ScriptArgumentKind]> {
+fn find_argument_kinds(name: &[u8]) -> Option<&'static [CommandArgumentKind]> {
     match name {
         b"next" | b"back" => Some(TIMES),
         b"goto" => Some(STEP),
@@ -202,27 +202,28 @@ fn find_digits_after_as(word: &[u8]) -> Option<&[u8]> {
     }
 }
 
-impl ScriptArgumentKind {
+impl CommandArgumentKind {
     /// Returns `true` if `word` is a valid argument of this kind, and `false` if not.
     fn is_spelled_by(self, word: &[u8]) -> bool {
         let is_number = parse_digits(word).is_some() && !has_leading_zero(word);
         match self {
-            ScriptArgumentKind::Times => is_number && parse_digits(word) != Some(0),
-            ScriptArgumentKind::Number | ScriptArgumentKind::Step | ScriptArgumentKind::AsNumber =>
-                is_number,
-            ScriptArgumentKind::Address => Addr::parse(word).is_some(),
-            ScriptArgumentKind::Prefix => Prefix::parse(word).is_some(),
+            CommandArgumentKind::Times => is_number && parse_digits(word) != Some(0),
+            CommandArgumentKind::Number
+            | CommandArgumentKind::Step
+            | CommandArgumentKind::AsNumber => is_number,
+            CommandArgumentKind::Address => Addr::parse(word).is_some(),
+            CommandArgumentKind::Prefix => Prefix::parse(word).is_some(),
         }
     }
 
     /// Returns the name of the kind with its article, such as `an address`, for a hint.
     fn kind_with_article(self) -> &'static str {
         match self {
-            ScriptArgumentKind::Times | ScriptArgumentKind::Number => "a number",
-            ScriptArgumentKind::Step => "the number of a step",
-            ScriptArgumentKind::AsNumber => "an AS number",
-            ScriptArgumentKind::Address => "an address",
-            ScriptArgumentKind::Prefix => "a prefix",
+            CommandArgumentKind::Times | CommandArgumentKind::Number => "a number",
+            CommandArgumentKind::Step => "the number of a step",
+            CommandArgumentKind::AsNumber => "an AS number",
+            CommandArgumentKind::Address => "an address",
+            CommandArgumentKind::Prefix => "a prefix",
         }
     }
 }
@@ -254,27 +255,27 @@ impl fmt::Display for LineFlaw<'_> {
 fn write_wrong_word<W: fmt::Write>(
     f: &mut fmt::Formatter<W>,
     word: &[u8],
-    argument: ScriptArgumentKind,
+    argument: CommandArgumentKind,
 ) -> fmt::Result {
     let shown = EscapedOctets(word);
     match argument {
-        ScriptArgumentKind::Address if Prefix::parse(word).is_some() => {
+        CommandArgumentKind::Address if Prefix::parse(word).is_some() => {
             write!(f, "{shown} is a prefix; an address is wanted")
         }
-        ScriptArgumentKind::Prefix if Addr::parse(word).is_some() => {
+        CommandArgumentKind::Prefix if Addr::parse(word).is_some() => {
             write!(f, "{shown} is an address; a prefix also has / and a length")
         }
-        ScriptArgumentKind::Address | ScriptArgumentKind::Prefix => {
+        CommandArgumentKind::Address | CommandArgumentKind::Prefix => {
             let name = argument.kind_with_article();
             write!(f, "{shown} is not {name}")
         }
-        ScriptArgumentKind::Times if parse_digits(word) == Some(0) && !has_leading_zero(word) => {
+        CommandArgumentKind::Times if parse_digits(word) == Some(0) && !has_leading_zero(word) => {
             write!(f, "{shown} is too small; the least is 1")
         }
-        ScriptArgumentKind::Times
-        | ScriptArgumentKind::Number
-        | ScriptArgumentKind::Step
-        | ScriptArgumentKind::AsNumber => { write_wrong_number(f, word, argument) }
+        CommandArgumentKind::Times
+        | CommandArgumentKind::Number
+        | CommandArgumentKind::Step
+        | CommandArgumentKind::AsNumber => { write_wrong_number(f, word, argument) }
     }
 }
 
@@ -283,7 +284,7 @@ fn write_wrong_word<W: fmt::Write>(
 fn write_wrong_number<W: fmt::Write>(
     f: &mut fmt::Formatter<W>,
     word: &[u8],
-    argument: ScriptArgumentKind,
+    argument: CommandArgumentKind,
 ) -> fmt::Result {
     let shown = EscapedOctets(word);
     let (name, most) = (argument.kind_with_article(), u32::MAX);

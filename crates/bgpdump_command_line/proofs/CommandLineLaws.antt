@@ -8,7 +8,7 @@ use Rattle.clap.specs.declared.ArgMatches.{ArgMatches}
 use Rattle.clap.specs.declared.Error.{Error}
 use Rattle.clap.specs.declared.error.ErrorKind.TheVariants.{DisplayHelp, OutOfMemory}
 use Rattle.clap.specs.declared.builder.value_parser.ValueParser.{ValueParser}
-use Rattle.bgpdump_command_line.specs.CommandLine.{Answers, GivesSettings, TakesTimes, command_line, input_of, equals_text}
+use Rattle.bgpdump_command_line.specs.CommandLine.{Answers, GivesSettings, TakesTimeChoices, command_line, input_of, equals_text}
 use Rattle.bgpdump_command_line.specs.Arguments.{IsCommandLine, IsFaultOf}
 use Rattle.bgpdump_command_line.specs.declared.usage.Settings.{Settings}
 use Rattle.bgpdump_command_line.specs.declared.usage.UsageFault.{UsageFault}
@@ -36,7 +36,7 @@ is_one_level : (times : ValueParser) → is_simple (command_line times) ≡ true
 is_one_level times = refl
 
 -- what the matches give is the answer, where the parse had no fault
-answers_matches : (times : ValueParser) (words : List Text) (rows : List Row) (result : Result Settings UsageFault) → TakesTimes times → fault_of (command_line times) words ≡ [] → rows ≡ matches_of (command_line times) words
+answers_matches : (times : ValueParser) (words : List Text) (rows : List Row) (result : Result Settings UsageFault) → TakesTimeChoices times → fault_of (command_line times) words ≡ [] → rows ≡ matches_of (command_line times) words
     → GivesSettings rows result → Answers words result
 answers_matches times words rows (Ok settings) takes none is gives = (times, takes, (none, subst (λ r. GivesSettings r (Ok settings)) is gives))
 answers_matches times words rows (Err usage.Mode) takes none is gives = (times, takes, (none, subst (λ r. GivesSettings r (Err usage.Mode)) is gives))

@@ -11,15 +11,15 @@ use Rattle.clap.specs.Words.{App, IsParsedFrom, IsPlainArg, Row, Rule, first_val
 use Rattle.bgpdump_command_line.specs.declared.usage.Mode.{Mode}
 use Rattle.bgpdump_command_line.specs.declared.usage.UsageFault.{UsageFault}
 use Rattle.bgpdump_command_line.specs.declared.usage.UsageFault.TheVariants as usage
-use Rattle.bgpdump_command_line.specs.CommandLine.{times_rule, command_line, TakesTimes, has_one_mode, IsMode}
+use Rattle.bgpdump_command_line.specs.CommandLine.{times_rule, command_line, TakesTimeChoices, has_one_mode, IsMode}
 
 -- The rule of the argument `-t`, with a parser that takes the values `dump` and `change`.
 abbrev pub IsTimesRule : Rule → Type 0
-IsTimesRule rule = (times : ValueParser) × TakesTimes times × (rule ≡ times_rule times)
+IsTimesRule rule = (times : ValueParser) × TakesTimeChoices times × (rule ≡ times_rule times)
 
 -- The command of the program, with a parser of the value of `-t` that takes `dump` and `change`.
 abbrev pub IsCommandLine : App → Type 0
-IsCommandLine app = (times : ValueParser) × TakesTimes times × (app ≡ command_line times)
+IsCommandLine app = (times : ValueParser) × TakesTimeChoices times × (app ≡ command_line times)
 
 -- The argument excludes no other one, and isn't an argument of subcommands.
 abbrev pub ExcludesNone : Arg → Type 0

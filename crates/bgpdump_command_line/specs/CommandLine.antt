@@ -17,80 +17,84 @@ use Rattle.bgpdump_command_line.specs.declared.usage.UsageFault.TheVariants as u
 
 -- ---- the command line: `bgpdump (-m | --play SCRIPT) [-t dump|change] [-O FILE] INPUT`
 
--- The rule of `-m`: a flag.
+-- the rule of `-m`: a flag
 abbrev pub lines_rule : Rule
 lines_rule = record (new_rule (codes "lines")) { short = Some 109; action = Some SetTrue }
 
--- The rule of `--play SCRIPT`.
+-- the rule of `--play SCRIPT`
 abbrev pub script_rule : Rule
 script_rule = record (new_rule (codes "script")) { long = Some (codes "play"); value_names = 1 }
 
--- The rule of `-t TIME`, whose default is `dump`.
+-- the rule of `-t TIME`, whose default is `dump`
 abbrev pub times_rule : ValueParser → Rule
 times_rule times = record (new_rule (codes "times")) { short = Some 116; value_names = 1; parser = Some times; defaults = codes "dump" ∷ [] }
 
--- The rule of `-O FILE`.
+-- the rule of `-O FILE`
 abbrev pub output_rule : Rule
 output_rule = record (new_rule (codes "output")) { short = Some 79; value_names = 1 }
 
--- The rule of INPUT, which is required.
+-- the rule of INPUT, which is required
 abbrev pub input_rule : Rule
 input_rule = record (new_rule (codes "input")) { value_names = 1; required = true; action = Some Set }
 
--- The command of the program, where `times` parses the value of `-t`.
+-- the command line that `bgpdump` takes, as `clap` is told it: `-m`, `--play`, `-t`, whose value `times`
+-- parses, `-O` and INPUT
 abbrev pub command_line : ValueParser → App
 command_line times =
     with_rule (with_rule (with_rule (with_rule (with_rule (new_app (codes "bgpdump")) lines_rule) script_rule) (times_rule times)) output_rule) input_rule
 
--- The parser takes the values `dump` and `change`.
-abbrev pub TakesTimes : ValueParser → Type 0
-TakesTimes (parser.Names taken) = map (λ name. name.now) taken.now ≡ codes "dump" ∷ codes "change" ∷ []
-TakesTimes other = ⊥
+-- the parser, for the value of `-t`, takes just `dump` and `change`
+abbrev pub TakesTimeChoices : ValueParser → Type 0
+TakesTimeChoices (parser.Names taken) = map (λ name. name.now) taken.now ≡ codes "dump" ∷ codes "change" ∷ []
+TakesTimeChoices other = ⊥
 
 -- ---- the settings that the matches of a parse select
 
--- Whether there is a value, and it is `text`.
+-- whether there is a value, and it is `text`
 abbrev pub equals_text : Text → Option Text → Bool
 equals_text text found = option_map_or (bytes_eq text) found false
 
--- Whether `-m` is among the matches.
+-- whether `-m` is among the matches
 abbrev pub has_lines_flag : List Row → Bool
 has_lines_flag rows = equals_text (codes "true") (one_of (codes "lines") rows)
 
--- The value of `--play`, if it is among the matches.
+-- the value of `--play`, if it is among the matches
 abbrev pub script_of : List Row → Option Text
 script_of = first_of (codes "script")
 
--- The value of INPUT, if it is among the matches.
+-- the value of INPUT, if it is among the matches
 abbrev pub input_of : List Row → Option Text
 input_of = first_of (codes "input")
 
--- The choice of the time that the routes of tables get: `Change` for `-t change`, or else `Dump`.
+-- the choice of the time that the routes of tables get: `Change` for `-t change`, or else `Dump`
 abbrev pub selected_stamp : List Row → Stamp
 selected_stamp rows = if equals_text (codes "change") (first_of (codes "times") rows) then Change else Dump
 
--- Whether just one of `-m` and `--play` is among the matches.
+-- whether just one of `-m` and `--play` is among the matches
 abbrev pub has_one_mode : List Row → Bool
 has_one_mode rows = if has_lines_flag rows then not (is_some (script_of rows)) else is_some (script_of rows)
 
--- Whether the script and the input are both standard input.
+-- whether the script and the input are both standard input
 abbrev pub reads_stdin_twice : List Row → Bool
 reads_stdin_twice rows = equals_text (codes "-") (script_of rows) && equals_text (codes "-") (input_of rows)
 
--- The mode is one that the matches select.
+-- `rows`, the options and values that a parse found, select this mode: `Lines` by `-m`, or `Play` by
+-- `--play`, with its value as the script
 abbrev pub IsMode : List Row → Mode → Type 0
 IsMode rows mode.Lines = has_lines_flag rows ≡ true
 IsMode rows (mode.Play script) = script_of rows ≡ Some (string_bytes script)
 
--- Each field of the settings is the value that the matches have for it.
+-- the fields of `settings` are what `rows`, the options and values that a parse found, have for them: the
+-- mode, the choice of `-t` (or `dump`), the FILE of `-O`, if it is there, and INPUT
 pub record AreSettings (rows : List Row) (settings : Settings) : Type 0 where
   pub mode : IsMode rows settings.mode
   pub stamp : settings.stamp ≡ selected_stamp rows
   pub output : option_map string_bytes settings.output ≡ first_of (codes "output") rows
   pub input : input_of rows ≡ Some (string_bytes settings.input)
 
--- What the matches give: their settings, the fault `Mode` unless they have just one mode, or else the fault
--- `TwoInputs` if the script and the input are both standard input. `Memory` may be given in any case.
+-- `rows`, the options and values that a parse found, may give this result: `Mode` unless they have just one
+-- mode, or else `TwoInputs` if script and input are both standard input, or else their settings; `Memory` in
+-- any case, and no other fault
 abbrev pub GivesSettings : List Row → Result Settings UsageFault → Type 0
 GivesSettings rows (Ok settings) = (has_one_mode rows ≡ true) × (reads_stdin_twice rows ≡ false) × AreSettings rows settings
 GivesSettings rows (Err usage.Mode) = has_one_mode rows ≡ false
@@ -100,15 +104,17 @@ GivesSettings rows (Err fault) = ⊥
 
 -- ---- what the words of a command line give
 
--- What these words give, unless memory allocation fails, where `times` parses the value of `-t`: what their
--- matches give, if the parse has no fault; `Help` only if it has the fault of help, and `Words` only if it
--- has another one.
+-- the words of a command line, where `times` parses the value of `-t`, may give this result: `Help` if the
+-- parse may have the fault of help, `Words` if it may have another one, and else, only if it can have none,
+-- what the options and values that it finds may give (`GivesSettings`)
 abbrev pub GivesSettingsFor : ValueParser → List Text → Result Settings UsageFault → Type 0
 GivesSettingsFor times words (Err (usage.Help text)) = IsAmong DisplayHelp (fault_of (command_line times) words)
 GivesSettingsFor times words (Err (usage.Words text)) = (kind : ErrorKind) × IsAmong kind (fault_of (command_line times) words) × (kind ≢ DisplayHelp)
 GivesSettingsFor times words result = (fault_of (command_line times) words ≡ []) × GivesSettings (matches_of (command_line times) words) result
 
--- What these words give. `Memory` may be given in any case.
+-- the words of a command line may give this result: the settings that they state, or a fault, as
+-- `GivesSettingsFor` says with a parser of `dump` and `change` for `-t`. Any words may give the fault
+-- `Memory`
 abbrev pub Answers : List Text → Result Settings UsageFault → Type 0
 Answers words (Err usage.Memory) = ⊤
-Answers words result = (times : ValueParser) × TakesTimes times × GivesSettingsFor times words result
+Answers words result = (times : ValueParser) × TakesTimeChoices times × GivesSettingsFor times words result

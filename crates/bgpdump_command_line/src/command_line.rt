@@ -15,8 +15,8 @@ use std::alloc::Global;
 
 /// Parses the arguments of the command line, `words`, of which the first is the name of the
 /// program, into the settings of the program. Fails with the [`UsageFault`] to report: invalid
-/// arguments, a mode that isn't one, standard input as both script and input, a lack of memory, or,
-/// for a request of help, [`UsageFault::Help`] with its text.
+/// arguments, not exactly one of `-m` and `--play`, standard input as both script and input, or a
+/// lack of memory. A request of help fails too, with [`UsageFault::Help`] and its text.
 pub fn settings(alloc: Global, words: Vec<String>) -> Result<Settings, UsageFault>
     ensures answers { Answers (map string_bytes words.items) result }
 {

@@ -8,7 +8,7 @@ use Rattle.std.proofs.KnownBytes.{Appends-kept, Appends-nil}
 use Rattle.mrt_events.specs.declared.peer.Peer.{Peer}
 use Rattle.mrt_events.specs.declared.event.Event.{Event}
 use Rattle.rib_player.specs.Tables.{Routes, table}
-use Rattle.rib_player.specs.Timeline.{Timeline, undoable, ahead_of, end_of, current, after_play, forgettable, after_forget}
+use Rattle.rib_player.specs.Timeline.{Timeline, undoable, ahead_of, end_of, current, after_play, forgotten_count, after_forget}
 use Rattle.rib_player.specs.Calls.{StandsFor}
 use Rattle.rib_player.proofs.TimelineLaws.{StandsFor-current, StandsFor-end, StandsFor-after_play, StandsFor-after_forget}
 use Rattle.mrt_wire.specs.Results.{RecordResult, SourceState}
@@ -19,7 +19,7 @@ use Rattle.bgpdump_lines.specs.declared.outcome.Outcome.{Outcome}
 use Rattle.bgpdump_lines.specs.Run.{AppendsPrefix, reports}
 use Rattle.bgpdump_lines.specs.WrittenSoFar.{outcome_of_write_fault, with_outcome_error, Puts, PutsAllOrFront}
 use Rattle.bgpdump_tool.specs.Replies.{at_text, labelled_numbers_line}
-use Rattle.bgpdump_tool.specs.Meaning.{events, results_needed, loss, answer, retreat, advance, meaning, meets_end, faults_taken}
+use Rattle.bgpdump_tool.specs.Meaning.{events, results_needed, loss, answer, retreat_to, advance, meaning, meets_end, faults_taken}
 use Rattle.bgpdump_tool.specs.Execution.{Progress, RunState, HasFound, HasProgress, state_with_unread, at_cursor, progress_after, HasRoom, MovesForward, StepsFrom, Steps, IsLed, ExecutesFrom}
 use Rattle.bgpdump_tool.proofs.WalkLaws.{PutsAllOrFront-put, PutsAllOrFront-behind}
 use Rattle.bgpdump_tool.proofs.StepLaws.{kept-Appends, kept-AppendsPrefix}
@@ -244,10 +244,10 @@ Execution-still command from left s t old u out out' reply text result found end
     }) is replied
 
 -- the cursor goes back
-Execution-retreat : (command : Command) (from : SourceState) (left : Option (List ℕ)) (s : Progress) (old : RunState) (u : Timeline) (cursor : ℕ) (out out' : Option (List ℕ)) (result : Result (Unit {0}) WriteFault) → HasProgress from left old s → u ≡ at_cursor cursor old.player
-    → s.floor ≤ cursor → cursor ≤ s.cursor → ((more : List RecordResult) → meaning command (state_with_unread s more) ≡ retreat cursor (state_with_unread s more)) → Puts out out' (at_text u.cursor false) result
+Execution-retreat_to : (command : Command) (from : SourceState) (left : Option (List ℕ)) (s : Progress) (old : RunState) (u : Timeline) (cursor : ℕ) (out out' : Option (List ℕ)) (result : Result (Unit {0}) WriteFault) → HasProgress from left old s → u ≡ at_cursor cursor old.player
+    → s.floor ≤ cursor → cursor ≤ s.cursor → ((more : List RecordResult) → meaning command (state_with_unread s more) ≡ retreat_to cursor (state_with_unread s more)) → Puts out out' (at_text u.cursor false) result
     → ExecutesFrom command from left s old (record old { player = u }) out out' (with_outcome_error result)
-Execution-retreat command from left s old u cursor out out' result stands is floor within means put =
+Execution-retreat_to command from left s old u cursor out out' result stands is floor within means put =
     let stood : HasProgress from left (record old { player = at_cursor cursor old.player }) (record s { cursor = cursor }) = record {
       history = record { floor = omega (arith, floor, stands.floor); cursor = omega (arith, within, stands.cursor, stands.history.cursor); tables = stands.history.tables; steps = stands.history.steps };
       cursor = refl;
@@ -267,7 +267,7 @@ pub Execution-back : (n : ℕ) (from : SourceState) (left : Option (List ℕ)) (
     → u ≡ at_cursor (old.player.cursor - min n (undoable old.player)) old.player → Puts out out' (at_text u.cursor false) result
     → ExecutesFrom (Back n) from left s old (record old { player = u }) out out' (with_outcome_error result)
 Execution-back n from left s old u out out' result stands is put =
-    Execution-retreat (Back n) from left s old u (s.cursor - min n (s.cursor - s.floor)) out out' result stands (is ∙ (λ i. at_cursor (stands.cursor i - min n (stands.cursor i - stands.floor i)) old.player))
+    Execution-retreat_to (Back n) from left s old u (s.cursor - min n (s.cursor - s.floor)) out out' result stands (is ∙ (λ i. at_cursor (stands.cursor i - min n (stands.cursor i - stands.floor i)) old.player))
     (omega (arith, floor_behind from left s old stands)) (omega arith) (λ more. refl) put
 
 -- `goto` that goes back
@@ -277,7 +277,7 @@ pub Execution-retreats : (k count : ℕ) (from : SourceState) (left : Option (Li
 Execution-retreats k count from left s old u out out' result below number stands is put =
     let stood = floor_behind from left s old stands in
     let back : nat_lt k s.cursor ≡ true = grind (arith, nat_tests, below, stands.cursor) in
-    Execution-retreat (Goto k) from left s old u (max k s.floor) out out' result stands (is ∙ ap (λ n. at_cursor n old.player) (omega (arith, below, number, stands.floor, stands.cursor, stood)))
+    Execution-retreat_to (Goto k) from left s old u (max k s.floor) out out' result stands (is ∙ ap (λ n. at_cursor n old.player) (omega (arith, below, number, stands.floor, stands.cursor, stood)))
     (omega arith) (omega (arith, below, stands.cursor, stood)) (λ more. rw back refl) put
 
 -- a question
@@ -318,11 +318,11 @@ Execution-lose peer from left s old u out out' at dropped result stands is at_is
 
 -- `forget`
 pub Execution-forget : (n : ℕ) (from : SourceState) (left : Option (List ℕ)) (s : Progress) (old : RunState) (u : Timeline) (out out' : Option (List ℕ)) (at floor number : ℕ) (result : Result (Unit {0}) WriteFault) → HasProgress from left old s
-    → u ≡ after_forget old.player n → at ≡ u.cursor → floor ≡ u.floor → number ≡ forgettable old.player n → Puts out out' (labelled_numbers_line ((codes "at ", at) ∷ (codes " floor ", floor) ∷ (codes " forgot ", number) ∷ [])) result
+    → u ≡ after_forget old.player n → at ≡ u.cursor → floor ≡ u.floor → number ≡ forgotten_count old.player n → Puts out out' (labelled_numbers_line ((codes "at ", at) ∷ (codes " floor ", floor) ∷ (codes " forgot ", number) ∷ [])) result
     → ExecutesFrom (Forget n) from left s old (record old { player = u }) out out' (with_outcome_error result)
 Execution-forget n from left s old u out out' at floor number result stands is at_is floor_is number_is put =
     let raised : ℕ = max s.floor (s.cursor - n) in
-    let same : old.player.floor + forgettable old.player n ≡ raised = omega (arith, stands.floor, stands.cursor) in
+    let same : old.player.floor + forgotten_count old.player n ≡ raised = omega (arith, stands.floor, stands.cursor) in
     let cursor : u.cursor ≡ s.cursor = ap (λ x. x.cursor) is ∙ stands.cursor in
     let rises : u.floor ≡ raised = ap (λ x. x.floor) is ∙ same in
     let count : number ≡ raised - s.floor = omega (arith, number_is, same, stands.floor) in
@@ -359,8 +359,8 @@ HasRoom-up t q lost most few room = record { floor = room.floor; cursor = room.c
 -- where steps were forgotten there is room too
 pub HasRoom-forget : (t u : Timeline) (keep : ℕ) (q : SourceState) (lost : ℕ) → u ≡ after_forget t keep → HasRoom t q lost → HasRoom u q lost
 HasRoom-forget t u keep q lost is room =
-    let few : forgettable t keep ≤ length t.steps = omega (arith, room.floor, room.cursor) in
-    let end : end_of (after_forget t keep) ≡ end_of t = omega (arith, few, length-drop (forgettable t keep) t.steps) in
+    let few : forgotten_count t keep ≤ length t.steps = omega (arith, room.floor, room.cursor) in
+    let end : end_of (after_forget t keep) ≡ end_of t = omega (arith, few, length-drop (forgotten_count t keep) t.steps) in
     subst (λ x. HasRoom x q lost) (sym is) (record {
       floor = omega (arith, room.floor);
       cursor = omega (arith, room.cursor, end);

@@ -11,7 +11,7 @@ use Rattle.mrt_wire.specs.Results.{Frame, Splits, spellings, RecordResult, Sourc
 use Rattle.mrt_wire.specs.Answered.{HasAnswered}
 use Rattle.mrt_wire.proofs.FirstLaws.{same_taken}
 use Rattle.mrt_wire.proofs.SplitLaws.{frames_all}
-use Rattle.mrt_wire.specs.Record.{rest_kind}
+use Rattle.mrt_wire.specs.Record.{rest_fault_kind}
 use Rattle.mrt_wire.proofs.SoFarLaws.{FirstSoFar}
 use Rattle.bgpdump_lines.specs.declared.dump.TheConstants.{INPUT_LIMIT}
 use Rattle.bgpdump_lines.specs.declared.fault.WriteFault.{WriteFault}
@@ -19,9 +19,9 @@ use Rattle.bgpdump_lines.specs.declared.fault.WriteFault.TheVariants as write
 use Rattle.bgpdump_lines.specs.declared.outcome.Outcome.{Outcome}
 use Rattle.bgpdump_lines.specs.declared.outcome.Outcome.TheVariants as outcome
 use Rattle.bgpdump_lines.specs.WrittenSoFar.{outcome_of_finished_run, outcome_of_source_fault, outcome_of_write_fault}
-use Rattle.bgpdump_lines.specs.Run.{Texts, Outputs, MayHold, Writes, EndsWithTexts, EndedByInput, IsTaken, IsTakenAfterFrames, HoldsForAllContents, all_results}
+use Rattle.bgpdump_lines.specs.Run.{Texts, Outputs, MayHold, Writes, EndsWithTexts, EndedByInputFault, IsTaken, MayTakeAfterFrames, HoldsForAllContents, all_results}
 use Rattle.bgpdump_tool.specs.Script.{Line, AreLines, IsScript, script_lines}
-use Rattle.bgpdump_tool.specs.Course.{course, play_texts, cut_texts, TakesWanted, IsEndSeen, ScriptSawEnd, WritesBeyond, HasBegun}
+use Rattle.bgpdump_tool.specs.Course.{course, play_texts, texts_before_input_fault, TakesWanted, IsEndSeen, ScriptSawEnd, WritesBeyond, HasBegun}
 use Rattle.bgpdump_tool.specs.Execution.{RunState, HasFound, HasExecuted, ExecutionBrokenOff, ExecutesScript}
 use Rattle.bgpdump_lines.proofs.WritingLaws.{AppendsPrefix-none, WritesPrefixes-whole, Writes-kept}
 use Rattle.bgpdump_lines.proofs.HeldLaws.{rest_so_far, first_held, front_held, untold_held, whole_found, IsTaken-told, IsTaken-faulty, length-faulty}
@@ -33,7 +33,7 @@ use Rattle.bgpdump_tool.proofs.CommandLaws.{one_reading, first_reading}
 
 -- what was found is first in it, and all of it where the source has ended, if the end counts as seen where a record is cut or a command met it
 pub played_held : (stamp : Stamp) (q : SourceState) (left left' : Option (List ℕ)) (found : List RecordResult) (ended : Bool) (Saw : List Frame → List ℕ → Type 0) → (t : HasFound (start_state stamp INPUT_LIMIT) left q left' found ended)
-    → (rest_kind t.so_far.rest ≡ CutRecord → (t.so_far.rest ≢ []) ⊎ (ended ≡ true) → Saw t.so_far.frames t.so_far.rest)
+    → (rest_fault_kind t.so_far.rest ≡ CutRecord → (t.so_far.rest ≢ []) ⊎ (ended ≡ true) → Saw t.so_far.frames t.so_far.rest)
     → (octets : List ℕ) (frames : List Frame) (rest : List ℕ) → MayHold stamp Saw left left' octets → Splits stamp None octets frames rest → FirstSoFar (start_state stamp INPUT_LIMIT) q found frames rest
 played_held stamp q left left' found ended Saw t saw octets frames rest may split = elim (cases_none t.so_far.rest) [
   | inr some ↦ first_held stamp q left left' found Saw t.so_far (λ cut. saw cut (inl some)) octets frames rest may split
@@ -133,13 +133,13 @@ PlayEnds-stopped stamp left script scene old new outcome (done, line, first, oth
     subst (λ t. EndsWithTexts (outcome_of_write_fault fault) t old new) (λ i. play_texts (sym all i) (sym found.first i)) (by_fault (λ o. EndsWithTexts o (play_texts ((done ++ line ∷ []) ++ behind) (p.found ++ found.later)) old new) fault fronts fronts))
 
 -- a run that the input ended has written what the frames give
-pub Writes-cut : (stamp : Stamp) (left : Option (List ℕ)) (script : List ℕ) (scene : RunState) (old new : Outputs) (outcome : Outcome) → ExecutesScript (start_state stamp INPUT_LIMIT) left script scene old new (Err outcome) → EndedByInput outcome
-    → (lines : List Line) → IsScript lines script → (taken after : List ℕ) (frames : List Frame) (rest : List ℕ) → TakesFront left scene.left taken after → Splits stamp None taken frames rest → Writes (cut_texts lines (all_results stamp frames [])) old new
+pub Writes-cut : (stamp : Stamp) (left : Option (List ℕ)) (script : List ℕ) (scene : RunState) (old new : Outputs) (outcome : Outcome) → ExecutesScript (start_state stamp INPUT_LIMIT) left script scene old new (Err outcome) → EndedByInputFault outcome
+    → (lines : List Line) → IsScript lines script → (taken after : List ℕ) (frames : List Frame) (rest : List ℕ) → TakesFront left scene.left taken after → Splits stamp None taken frames rest → Writes (texts_before_input_fault lines (all_results stamp frames [])) old new
 Writes-cut stamp left script scene old new outcome (done, line, first, others, whole, are, inl (fault, is, p)) by_input lines reading taken after frames rest took split =
     let (behind, all) = first_reading (done ++ line ∷ []) lines first others are (subst (AreLines lines) whole reading) in
-    let found = whole_found stamp left scene.left p.found fault p.faulty (subst EndedByInput is by_input) taken after frames rest took split in
-    subst (λ t. Writes t old new) (λ i. cut_texts (sym all i) (found i)) (p.exact behind)
-Writes-cut stamp left script scene old new outcome (done, line, first, others, whole, are, inr (fault, is, p)) by_input lines reading taken after frames rest took split = absurd (written_all fault (subst EndedByInput is by_input))
+    let found = whole_found stamp left scene.left p.found fault p.faulty (subst EndedByInputFault is by_input) taken after frames rest took split in
+    subst (λ t. Writes t old new) (λ i. texts_before_input_fault (sym all i) (found i)) (p.exact behind)
+Writes-cut stamp left script scene old new outcome (done, line, first, others, whole, are, inr (fault, is, p)) by_input lines reading taken after frames rest took split = absurd (written_all fault (subst EndedByInputFault is by_input))
 
 -- ---- what was taken
 
@@ -150,7 +150,7 @@ IsTaken-finished stamp left script scene old new failed outcome (done, are, p) i
     let last = rest_so_far (start_state stamp INPUT_LIMIT) scene.place left scene.left p.standing.found t.so_far in
     subst (λ o. (taken : List ℕ) × Consumes left scene.left taken × IsTaken stamp o taken) (sym is)
     (IsTaken-told stamp scene.place left scene.left (outcome_of_finished_run failed scene.reported) p.standing.found t.so_far t.within
-    (by_end (λ o. IsTakenAfterFrames o t.so_far.rest) failed scene.reported last last last))
+    (by_end (λ o. MayTakeAfterFrames o t.so_far.rest) failed scene.reported last last last))
 
 pub IsTaken-ended : (stamp : Stamp) (left : Option (List ℕ)) (script : List ℕ) (scene : RunState) (old new : Outputs) (outcome : Outcome) → ExecutesScript (start_state stamp INPUT_LIMIT) left script scene old new (Err outcome)
     → (taken : List ℕ) × Consumes left scene.left taken × IsTaken stamp outcome taken
@@ -161,7 +161,7 @@ IsTaken-ended stamp left script scene old new outcome (done, line, first, others
     let last = rest_so_far (start_state stamp INPUT_LIMIT) scene.place left scene.left p.found t.so_far in
     subst (λ o. (taken : List ℕ) × Consumes left scene.left taken × IsTaken stamp o taken) (sym is)
     (IsTaken-told stamp scene.place left scene.left (outcome_of_write_fault fault) p.found t.so_far t.within
-    (by_fault (λ o. IsTakenAfterFrames o t.so_far.rest) fault last (inl last)))
+    (by_fault (λ o. MayTakeAfterFrames o t.so_far.rest) fault last (inl last)))
 
 pub length-ended : (stamp : Stamp) (left : Option (List ℕ)) (script : List ℕ) (scene : RunState) (old new : Outputs) (how : Outcome) → ExecutesScript (start_state stamp INPUT_LIMIT) left script scene old new (Err how) → how ≡ outcome.InputTooLong
     → (taken after : List ℕ) → TakesFront left scene.left taken after → length taken ≡ INPUT_LIMIT
@@ -191,7 +191,7 @@ TakesWanted-finished stamp left script scene old new failed outcome (done, are, 
     let none = ap (λ l. (course false lines l).left) (same ∙ sym (append-nil found)) ∙ ap (λ c. c.left) (course_of_done (start_state stamp INPUT_LIMIT) left lines scene old new [] p (λ _. refl)) in
     subst (λ o. TakesWanted stamp o lines frames rest) (sym is) (by_end (λ o. TakesWanted stamp o lines frames rest) failed scene.reported tt none none)
 
-wanted_source : (fault : SourceFault) (stamp : Stamp) (lines : List Line) (frames : List Frame) (rest : List ℕ) → (EndedByInput (outcome_of_source_fault fault) → (course true lines (all_results stamp frames [])).ended ≡ true) → TakesWanted stamp (outcome_of_source_fault fault) lines frames rest
+wanted_source : (fault : SourceFault) (stamp : Stamp) (lines : List Line) (frames : List Frame) (rest : List ℕ) → (EndedByInputFault (outcome_of_source_fault fault) → (course true lines (all_results stamp frames [])).ended ≡ true) → TakesWanted stamp (outcome_of_source_fault fault) lines frames rest
 wanted_source source.Read stamp lines frames rest ended = ended tt
 wanted_source source.InputTooLong stamp lines frames rest ended = ended tt
 wanted_source source.Memory stamp lines frames rest ended = tt

@@ -15,7 +15,7 @@ use Rattle.std.specs.FinMap.{len-entries}
 use Rattle.bgpdump_lines.specs.declared.fault.WriteFault.{WriteFault}
 use Rattle.bgpdump_lines.specs.declared.fault.WriteFault.TheVariants.{Write, Memory}
 use Rattle.bgpdump_lines.specs.Run.{AppendsPrefix}
-use Rattle.bgpdump_lines.specs.Lines.{rib_line}
+use Rattle.bgpdump_lines.specs.Lines.{rib_reply_line}
 use Rattle.bgpdump_tool.specs.Counts.{count_line, peer_counts_text}
 use Rattle.bgpdump_tool.specs.Replies.{peer_line, peer_lines, peers_text, labelled_numbers_line, table_text}
 use Rattle.bgpdump_lines.specs.WrittenSoFar.{Puts, PutsAllOrFront}
@@ -77,19 +77,19 @@ module _ {A : Type 0} (line : A → List ℕ) (all : List A) where
 
 -- the lines of routes that are pointed to
 abbrev pub pointed_lines : Peer → List (Network × Bor (Rc Route Global)) → List ℕ
-pointed_lines peer found = flat_map (λ f. rib_line peer (f.0, f.1.now.value)) found
+pointed_lines peer found = flat_map (λ f. rib_reply_line peer (f.0, f.1.now.value)) found
 
-pub lines-dereferenced : (peer : Peer) (found : List (Network × Bor (Rc Route Global))) → pointed_lines peer found ≡ flat_map (rib_line peer) (pointed_routes found)
+pub lines-dereferenced : (peer : Peer) (found : List (Network × Bor (Rc Route Global))) → pointed_lines peer found ≡ flat_map (rib_reply_line peer) (pointed_routes found)
 lines-dereferenced peer [] = refl
-lines-dereferenced peer (f ∷ found) = ap (λ l. rib_line peer (f.0, f.1.now.value) ++ l) (lines-dereferenced peer found)
+lines-dereferenced peer (f ∷ found) = ap (λ l. rib_reply_line peer (f.0, f.1.now.value) ++ l) (lines-dereferenced peer found)
 
 -- a table's lines were written, and then how many they are
-pub table_told : (routes : Routes) (peer : Peer) (ahead : List (Network × Route)) (old mid new : Option (List ℕ)) (count : ℕ) (result : Result (Unit {0}) WriteFault) → ahead ≡ [] → (walked : Walked (rib_line peer) (finite.entries (peer_routes routes peer)) ahead old mid)
+pub table_told : (routes : Routes) (peer : Peer) (ahead : List (Network × Route)) (old mid new : Option (List ℕ)) (count : ℕ) (result : Result (Unit {0}) WriteFault) → ahead ≡ [] → (walked : Walked (rib_reply_line peer) (finite.entries (peer_routes routes peer)) ahead old mid)
     → count ≡ saturated_count (length walked.done) → Puts mid new (labelled_numbers_line ((codes "routes ", count) ∷ [])) result → PutsAllOrFront old new (table_text routes peer) result
 table_told routes peer ahead old mid new count result none walked is put =
     let entries = finite.entries (peer_routes routes peer) in
-    let end = Walked-end (rib_line peer) entries ahead old mid none walked in
-    PutsAllOrFront-behind old mid new (flat_map (rib_line peer) entries) (labelled_numbers_line ((codes "routes ", saturated_count (finite.len (peer_routes routes peer))) ∷ [])) result end.1
+    let end = Walked-end (rib_reply_line peer) entries ahead old mid none walked in
+    PutsAllOrFront-behind old mid new (flat_map (rib_reply_line peer) entries) (labelled_numbers_line ((codes "routes ", saturated_count (finite.len (peer_routes routes peer))) ∷ [])) result end.1
     (subst (λ n. Puts mid new (labelled_numbers_line ((codes "routes ", n) ∷ [])) result) (is ∙ ap saturated_count (ap length (sym end.0) ∙ sym (len-entries (peer_routes routes peer)))) put)
 
 -- ---- peers

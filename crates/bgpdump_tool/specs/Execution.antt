@@ -19,7 +19,7 @@ use Rattle.bgpdump_lines.specs.Run.{AppendsPrefix, Texts, Outputs, Writes, repor
 use Rattle.bgpdump_lines.specs.WrittenSoFar.{outcome_of_source_fault, outcome_of_write_fault, TookUntilSourceFault, has_fault}
 use Rattle.bgpdump_tool.specs.declared.command.Command.{Command}
 use Rattle.bgpdump_tool.specs.Script.{Line, Empty, HasCommand, NoCommand, IsLine, AreLines, script_lines, bad_line_report}
-use Rattle.bgpdump_tool.specs.Course.{course_after, course_from, course, play_texts, cut_texts, WritesBeyond}
+use Rattle.bgpdump_tool.specs.Course.{course_after, course_from, course, play_texts, texts_before_input_fault, WritesBeyond}
 
 -- ---- how far a run of a script has come, what its steps and its commands do to that, and how a fault stops them
 
@@ -236,7 +236,7 @@ pub record HasExecuted (from : SourceState) (left : Option (List ℕ)) (done : L
 pub record ExecutionCutOff (from : SourceState) (left : Option (List ℕ)) (done : List Line) (line : Line) (scene : RunState) (old new : Outputs) (fault : SourceFault) : Type 0 where
   pub found : List RecordResult
   pub faulty : TookUntilSourceFault from left scene.left found fault
-  pub exact : (lines : List Line) → Writes (cut_texts ((done ++ line ∷ []) ++ lines) found) old new
+  pub exact : (lines : List Line) → Writes (texts_before_input_fault ((done ++ line ∷ []) ++ lines) found) old new
   pub wants : (lines : List Line) → (course true ((done ++ line ∷ []) ++ lines) found).ended ≡ true
   pub past : (more : List RecordResult) → WritesBeyond (play_texts done (found ++ more)) (play_texts (done ++ line ∷ []) (found ++ more)) old new
 

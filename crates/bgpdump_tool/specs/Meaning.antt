@@ -13,37 +13,37 @@ use Rattle.bgpdump_tool.specs.declared.command.Command.{Command}
 use Rattle.bgpdump_tool.specs.declared.command.Command.TheVariants.{Next, Back, Goto, Position, Peers, Table, Route, Lookup, Lose, Forget}
 use Rattle.bgpdump_tool.specs.Replies.{at_text, labelled_numbers_line, peers_text, table_text, found_text, route_text, longest_match}
 
--- The state of a script: the events played, the number of them before the cursor, the number of the oldest
--- ones that can't be undone any more, and the results that no command has taken yet.
+-- the state of a script: the events played, the number of them before the cursor, the number of the oldest
+-- ones that can't be undone any more, and the results that no command has taken yet
 pub record State : Type 0 where
   pub history : List Event
   pub cursor : ℕ
   pub floor : ℕ
   pub unread : List RecordResult
 
--- The state of a script before its first command, over these results.
+-- the state of a script before its first command, over these results
 abbrev pub start : List RecordResult → State
 start results = record { history = []; cursor = 0; floor = 0; unread = results }
 
--- The number of events after the cursor.
+-- the number of events after the cursor
 abbrev pub steps_ahead : State → ℕ
 steps_ahead s = length s.history - s.cursor
 
--- The routes of all peers at the cursor.
+-- the routes of all peers at the cursor
 abbrev pub routes_at : State → Routes
 routes_at s = table (take s.cursor s.history)
 
--- The event of a result, or none for a fault.
+-- the event of a result, or none for a fault
 abbrev pub event_of : RecordResult → List Event
 event_of (Found event) = event ∷ []
 event_of (Bad fault) = []
 
--- The events among results.
+-- the events among results
 abbrev pub events : List RecordResult → List Event
 events found = flat_map event_of found
 
--- The state after the cursor moved over `over` events ahead, and then `count` results were taken, or all if
--- fewer are left: their events are appended, and the cursor moved over them.
+-- the state after the cursor moved over `over` events ahead, and then `count` results were taken, or all if
+-- fewer are left: their events are appended, and the cursor moved over them
 abbrev pub moved_forward : ℕ → ℕ → State → State
 moved_forward over count s = record {
   history = s.history ++ events (take count s.unread);
@@ -52,54 +52,55 @@ moved_forward over count s = record {
   unread = drop count s.unread;
 }
 
--- The number of the first results that have so many events among them, or one more than there are results if
--- they have fewer.
+-- how many of `results` must be taken, the first ones first, to have `count` events among them; one more than
+-- there are results if they have fewer events
 abbrev pub results_needed : ℕ → List RecordResult → ℕ
 results_needed zero results = 0
 results_needed (suc count) [] = 1
 results_needed (suc count) (Found event ∷ results) = suc (results_needed count results)
 results_needed (suc count) (Bad fault ∷ results) = suc (results_needed (suc count) results)
 
--- The event that `lose` plays: the session with the peer is lost, at time 0.
+-- the event that `lose` plays: the session with the peer is lost, at time 0
 abbrev pub loss : Peer → Event
 loss peer = record { time = record { seconds = 0; micros = None }; tag = Bgp4mp; items = Changed peer ESTABLISHED IDLE ∷ [] }
 
--- The state after an event is played: it replaces the events after the cursor, which moves over it.
+-- the state after an event is played: it replaces the events after the cursor, which moves over it
 abbrev pub played : Event → State → State
 played event s = record s { history = take s.cursor s.history ++ event ∷ []; cursor = s.cursor + 1 }
 
--- The state after the oldest events are forgotten, so that at most `keep` events before the cursor can be
--- undone.
-abbrev pub forgotten : ℕ → State → State
-forgotten keep s = record s { floor = max s.floor (s.cursor - keep) }
+-- the state after the oldest events are forgotten, so that at most `keep` events before the cursor can be
+-- undone
+abbrev pub forgotten_keeping : ℕ → State → State
+forgotten_keeping keep s = record s { floor = max s.floor (s.cursor - keep) }
 
--- What a command does: the number of results that it wants, of which it takes all if fewer are left, the
--- state after it, and its reply.
+-- what a command does in a state: it wants `wanted` of the unread results, and takes so many, or all if fewer
+-- are left; `after` is the state after it, and `reply` the text of its reply
 pub record Meaning : Type 0 where
   pub wanted : ℕ
   pub after : State
   pub reply : List ℕ
 
--- What a command does that takes no results: it leads to the state `after` with this reply.
+-- what a command does that takes no results: it leads to the state `after` with this reply
 abbrev pub answer : List ℕ → State → Meaning
 answer reply after = record { wanted = 0; after = after; reply = reply }
 
--- What a command does that moves the cursor back to a position, at or after the floor.
-abbrev pub retreat : ℕ → State → Meaning
-retreat cursor s = answer (at_text cursor false) (record s { cursor = cursor })
+-- what a command does that moves the cursor of state `s` back to the position `cursor`, at or after the
+-- floor: it takes no results, and replies with the position
+abbrev pub retreat_to : ℕ → State → Meaning
+retreat_to cursor s = answer (at_text cursor false) (record s { cursor = cursor })
 
--- What a command does that moves the cursor over `over` events ahead, and then over the events of `count`
--- results. Its reply says that it met the end if fewer results are left.
+-- what a command does that moves the cursor of state `s` over `over` events ahead, and then over the events
+-- of `count` results, which it wants. Its reply says that it met the end if fewer results are left
 abbrev pub advance : ℕ → ℕ → State → Meaning
 advance over count s =
     record { wanted = count; after = moved_forward over count s; reply = at_text (moved_forward over count s).cursor (nat_lt (length s.unread) count) }
 
--- What a command does in a state.
+-- what a command does in state `s`: how many results it wants, the state after it, and its reply
 abbrev pub meaning : Command → State → Meaning
 meaning (Next n) s = advance (min n (steps_ahead s)) (n - min n (steps_ahead s)) s
-meaning (Back n) s = retreat (s.cursor - min n (s.cursor - s.floor)) s
+meaning (Back n) s = retreat_to (s.cursor - min n (s.cursor - s.floor)) s
 meaning (Goto k) s =
-    if nat_lt k s.cursor then retreat (max k s.floor) s
+    if nat_lt k s.cursor then retreat_to (max k s.floor) s
     else advance (min (k - s.cursor) (steps_ahead s)) (results_needed (k - length s.history) s.unread) s
 meaning Position s = answer (labelled_numbers_line ((codes "at ", s.cursor) ∷ (codes " ahead ", steps_ahead s) ∷ [])) s
 meaning Peers s = answer (peers_text (routes_at s)) s
@@ -107,12 +108,12 @@ meaning (Table peer) s = answer (table_text (routes_at s) peer) s
 meaning (Route peer prefix) s = answer (route_text (routes_at s) peer prefix) s
 meaning (Lookup peer address) s = answer (found_text peer (longest_match (routes_at s) peer address)) s
 meaning (Lose peer) s = answer (labelled_numbers_line ((codes "at ", s.cursor + 1) ∷ (codes " dropped ", steps_ahead s) ∷ [])) (played (loss peer) s)
-meaning (Forget n) s = answer (labelled_numbers_line ((codes "at ", s.cursor) ∷ (codes " floor ", (forgotten n s).floor) ∷ (codes " forgot ", (forgotten n s).floor - s.floor) ∷ [])) (forgotten n s)
+meaning (Forget n) s = answer (labelled_numbers_line ((codes "at ", s.cursor) ∷ (codes " floor ", (forgotten_keeping n s).floor) ∷ (codes " forgot ", (forgotten_keeping n s).floor - s.floor) ∷ [])) (forgotten_keeping n s)
 
--- Whether a command in a state meets the end of the results: it wants more than are left.
+-- whether a command in a state meets the end of the results: it wants more than are left
 abbrev pub meets_end : Command → State → Bool
 meets_end command s = nat_lt (length s.unread) (meaning command s).wanted
 
--- The reports of the faults among the results that a command takes in a state.
+-- the reports of the faults among the results that a command takes in a state
 abbrev pub faults_taken : Command → State → List ℕ
 faults_taken command s = reports (take (meaning command s).wanted s.unread)

@@ -10,24 +10,24 @@ use Rattle.bgpdump_lines.specs.Lines.{space, line_feed}
 
 -- ---- the words and the lines that spell commands
 
--- The parts of a text before, between and after its marks, empty ones too: one more than there are marks.
+-- the parts of a text before, between and after its marks, empty ones too: one more than there are marks
 abbrev pub split_at_marks : ℕ → List ℕ → List (List ℕ)
 split_at_marks mark text = slice_split (λ octet. octet == mark) text
 
--- The word is the decimal of `n`, a number below 2^32, without leading zeros.
+-- the word is the decimal of `n`, a number below 2^32, without leading zeros
 abbrev pub SpellsDecimal : ℕ → List ℕ → Type 0
 SpellsDecimal n word = (n < 2 ^ 32) × (word ≡ decimal n)
 
--- Two words spell a peer: the first its address, the second its AS number.
+-- two words spell a peer: the first its address, the second its AS number
 abbrev pub SpellsPeer : List ℕ → Peer → List ℕ → Type 0
 SpellsPeer address peer number = SpellsAddress peer.addr address × SpellsDecimal peer.asn number
 
--- The word is the decimal of a number of steps, at least 1.
+-- the word is `n`, a number of steps from 1 to 2^32 - 1, in decimal without leading zeros
 abbrev pub SpellsStepCount : ℕ → List ℕ → Type 0
 SpellsStepCount n word = (0 < n) × SpellsDecimal n word
 
--- The arguments of a command: none; a number of steps, which may be left out if it is 1; a number; a peer; a
--- peer and a prefix; or a peer and an address.
+-- the arguments of a command: none; a number of steps, which may be left out if it is 1; a number; a peer; a
+-- peer and a prefix; or a peer and an address
 pub data Arguments : Type 0 where
   NoArguments : Arguments
   Times : ℕ → Arguments
@@ -36,13 +36,14 @@ pub data Arguments : Type 0 where
   SoughtPrefix : Peer → Network → Arguments
   SoughtAddress : Peer → Address → Arguments
 
--- The words spell a peer, and then `value` in the way of `Spells`.
+-- the words spell a peer, and then `value` in the way of `Spells`
 abbrev pub SpellsSought : {A : Type 0} → (A → List ℕ → Type 0) → Peer → A → List (List ℕ) → Type 0
 SpellsSought Spells peer value words =
     (address number sought : List ℕ) × SpellsPeer address peer number × Spells value sought
     × (words ≡ address ∷ number ∷ sought ∷ [])
 
--- The words after a command's name spell these arguments.
+-- the words that follow a command's name spell these arguments: none; a number of steps, or no word if it is
+-- 1; a number; the address and the AS number of a peer; or these and a prefix or an address
 abbrev pub SpellsArguments : Arguments → List (List ℕ) → Type 0
 SpellsArguments NoArguments words = words ≡ []
 SpellsArguments (Times n) words =
@@ -53,7 +54,7 @@ SpellsArguments (OfPeer peer) words =
 SpellsArguments (SoughtPrefix peer prefix) words = SpellsSought SpellsPrefix peer prefix words
 SpellsArguments (SoughtAddress peer address) words = SpellsSought SpellsAddress peer address words
 
--- The name of a command in ASCII, and its arguments.
+-- the name of a command in ASCII, and its arguments
 abbrev pub name_and_arguments : Command → List ℕ × Arguments
 name_and_arguments (Next n) = (codes "next", Times n)
 name_and_arguments (Back n) = (codes "back", Times n)
@@ -66,48 +67,50 @@ name_and_arguments (Lookup peer address) = (codes "lookup", SoughtAddress peer a
 name_and_arguments (Lose peer) = (codes "lose", OfPeer peer)
 name_and_arguments (Forget n) = (codes "forget", Number n)
 
--- The words spell the command: its name, and then its arguments.
+-- the words spell the command: the first is its name, and the others are its arguments
 abbrev pub SpellsWords : Command → List (List ℕ) → Type 0
 SpellsWords command words =
     (more : List (List ℕ)) × SpellsArguments (name_and_arguments command).1 more × (words ≡ (name_and_arguments command).0 ∷ more)
 
--- The line, without its line feed, spells the command: its words, one space apart, do.
+-- `line`, the octets of a line without its line feed, spells the command: split at each space, it gives words
+-- of which the first is the command's name and the others are its arguments
 abbrev pub SpellsCommand : Command → List ℕ → Type 0
 SpellsCommand command line = SpellsWords command (split_at_marks space line)
 
 -- ---- the lines of a script, what each of them asks for, and the report of one that is no command
 
--- The lines of a script, without their line feeds. A script that ends with a line feed has an empty line
--- after it, which asks for nothing.
+-- the lines of a script, without their line feeds. A script that ends with a line feed has an empty line
+-- after it, which asks for nothing
 abbrev pub script_lines : List ℕ → List (List ℕ)
 script_lines script = split_at_marks line_feed script
 
--- What a line asks for.
+-- what a line asks for
 pub data Line : Type 0 where
-  -- The line is empty.
+  -- the line is empty
   Empty : Line
-  -- The line spells this command.
+  -- the line spells this command
   HasCommand : Command → Line
-  -- The line is neither empty nor a command.
+  -- the line is neither empty nor a command
   NoCommand : Line
 
--- The octets of a line ask for this.
+-- `octets`, a line of a script without its line feed, ask for this: they are empty, or spell the command, or
+-- are neither empty nor a spelling of any command
 abbrev pub IsLine : Line → List ℕ → Type 0
 IsLine Empty octets = octets ≡ []
 IsLine (HasCommand command) octets = SpellsCommand command octets
 IsLine NoCommand octets = (octets ≢ []) × ((command : Command) → SpellsCommand command octets → ⊥)
 
--- The octets of each line ask for what `lines` has in its place, and there are as many.
+-- the first list has what each line of octets of the second asks for (`IsLine`), one each and in order
 abbrev pub AreLines : List Line → List (List ℕ) → Type 0
 AreLines [] [] = Unit {0}
 AreLines [] (octets ∷ more) = ⊥
 AreLines (line ∷ lines) [] = ⊥
 AreLines (line ∷ lines) (octets ∷ more) = IsLine line octets × AreLines lines more
 
--- The lines of the script ask for these, one each.
+-- `lines` has what each line of the text `script` asks for (`IsLine`), one each and in order
 abbrev pub IsScript : List Line → List ℕ → Type 0
 IsScript lines script = AreLines lines (script_lines script)
 
--- The report of a line that is no command, where `number` counts lines from 1.
+-- the report of a line that is no command, where `number` counts lines from 1
 abbrev pub bad_line_report : ℕ → List ℕ
 bad_line_report number = codes "bgpdump: script line " ++ (decimal number ++ codes ": bad command\n")

@@ -78,7 +78,8 @@ fn parse_bare_command(name: &[u8]) -> Option<Command>
 }
 
 /// Parses a command of a name and a number, `word`: `goto`, `next`, `back` or `forget`. Returns
-/// `None` for any other name, or if `word` isn't such a number.
+/// `None` for any other name, or if `word` isn't a decimal number from 0 (from 1 for `next` and
+/// `back`) to 2^32 - 1 without sign or leading zeros.
 fn parse_with_one_argument(name: &[u8], word: &[u8]) -> Option<Command>
     ensures { ParsesTo SpellsWords (name.now ∷ word.now ∷ []) result }
 {
@@ -107,8 +108,8 @@ fn parse_step_count(word: &[u8]) -> Option<u32>
     Some(number)
 }
 
-/// Parses a command of a name and the address and the AS number of a peer: `table` or `lose`.
-/// Returns `None` for any other name, or if the peer is malformed.
+/// Parses a command of a name and a peer, given by its `address` and AS `number`: `table` or
+/// `lose`. Returns `None` for any other name, or if the peer is malformed.
 fn parse_with_two_arguments(name: &[u8], address: &[u8], number: &[u8]) -> Option<Command>
     ensures { ParsesTo SpellsWords (name.now ∷ address.now ∷ number.now ∷ []) result }
 {
@@ -122,9 +123,9 @@ fn parse_with_two_arguments(name: &[u8], address: &[u8], number: &[u8]) -> Optio
     }
 }
 
-/// Parses a command of a name and the address and the AS number of a peer, and a word `sought`:
-/// `route` with a prefix, or `lookup` with an address. Returns `None` for any other name, or if an
-/// argument is malformed.
+/// Parses a command of a name, a peer, given by its `address` and AS `number`, and what is `sought`
+/// of it: a prefix for `route`, or an address for `lookup`. Returns `None` for any other name, or
+/// if an argument is malformed.
 fn parse_with_three_arguments(
     name: &[u8],
     address: &[u8],

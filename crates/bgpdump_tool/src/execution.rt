@@ -19,11 +19,12 @@ use mrt_wire::{Input, Route};
 use prefix_store::PrefixStore;
 use std::rc::Rc;
 
-/// Executes a command of a script: reads the records that it wants from `input`, reports the faulty
-/// ones to `err`, and then writes its reply to `out`. Requires that the player has played at most
-/// 2^20 more events ([`LONGEST_SCRIPT`](crate::LONGEST_SCRIPT)) than the source has taken octets,
-/// and that these are at most 2^40, so that no count overflows. Fails with the [`Outcome`] that
-/// ends the program: a failed read or write, an input that is too long, or a lack of memory.
+/// Executes a command of a script: reads the records that it needs from `input`, reports the faulty
+/// ones to `err`, and then writes its reply to `out`. Requires, so that no count overflows, that at
+/// most 2^40 octets were taken from `input`, and that the number of events played exceeds the
+/// number of these octets by at most 2^20 ([`LONGEST_SCRIPT`](crate::LONGEST_SCRIPT)). Fails with
+/// the [`Outcome`] that ends the program: a failed read or write, an input that is too long, or a
+/// lack of memory.
 pub(crate) fn execute_command<S: PrefixStore<Rc<Route>>, I: Input, O: Output, E: Output>(
     session: &mut Session<S>,
     input: &mut I,

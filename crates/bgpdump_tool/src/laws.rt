@@ -17,7 +17,7 @@ ghost use Rattle.bgpdump_tool.specs.Replies.{longest_match};
 /// States the values of constants to which the contracts refer by name: the greatest size of a
 /// script is 2^20 octets; the session states Established and Idle are 6 and 1 (RFC 6396, section
 /// 4.4.1).
-pub fn law_run_numbers()
+pub fn law_script_constants()
     ensures script { LONGEST_SCRIPT ≡ 2 ^ 20 }
     ensures states { ESTABLISHED ∷ IDLE ∷ [] ≡ 6 ∷ 1 ∷ [] }
 {}
@@ -37,9 +37,9 @@ pub fn law_one_script()
     ensures some { (script : List ℕ) → ((lines : List Line) → IsScript lines script → ⊥) → ⊥ }
 {}
 
-/// States that the route with which the definition of `lookup`'s reply answers is the one with the
-/// longest prefix that contains the address. So the reply agrees with `Table::longest`, as only one
-/// answer does (`law_routes_of_peers`, `law_one_longest`).
+/// States that the definition of `lookup`'s reply, `longest_match`, gives a peer's route to the
+/// longest prefix that contains the address, or none if it has no such route. Only one answer does
+/// that (`law_routes_of_peers`, `law_one_longest`), so the reply agrees with `Table::longest`.
 pub fn law_best_match()
     ensures { (routes : Routes) (peer : Peer) (address : Address) →
         IsBest routes peer address (longest_match routes peer address) }

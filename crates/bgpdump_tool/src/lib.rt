@@ -14,9 +14,9 @@ mod words;
 
 pub use bgpdump_command_line::{Mode, STANDARD_INPUT, Settings, UsageFault, settings};
 pub use bgpdump_lines::{
-    BufferedOutput, OutFault, Outcome, Output, WriteOutput, law_line_numbers, put_all, put_lines,
+    BufferedOutput, OutFault, Outcome, Output, WriteOutput, law_line_constants, put_all, put_lines,
     run_dump,
 };
 pub use command::{Command, read_command};
-pub use laws::{law_best_match, law_one_command, law_one_script, law_run_numbers};
+pub use laws::{law_best_match, law_one_command, law_one_script, law_script_constants};
 pub use play::{LONGEST_SCRIPT, run_play};

@@ -9,7 +9,7 @@ ghost use Rattle.bgpdump_lines.specs.declared.dump.TheConstants.{INPUT_LIMIT};
 ghost use Rattle.bgpdump_lines.specs.Flushing.{AreFlushed, LeavesFlushed};
 ghost use Rattle.bgpdump_lines.specs.WrittenSoFar.{is_read_fault, is_write_fault};
 ghost use Rattle.bgpdump_lines.specs.Run.{IsTaken, HoldsForDevices, outputs_of};
-ghost use Rattle.bgpdump_tool.specs.Course.{ScriptEndsOnOctets, ScriptEndsSo, HasBegunLines, WritesCutTexts, TakesOnlyWanted};
+ghost use Rattle.bgpdump_tool.specs.Course.{ScriptEndsOnKnownInput, ScriptEndsForAllContents, ScriptHasBegun, ScriptWritesBeforeInputFault, TakesOnlyWantedRecords};
 ghost use Rattle.bgpdump_tool.specs.Execution.{HasRoom, HoldsForRunStates, ExecutesLine, ExecutesLines};
 
 use crate::command::read_command;
@@ -32,7 +32,7 @@ pub const LONGEST_SCRIPT: usize = 1 << 20;
 /// each before the next record or line is read, and both are flushed before a read that may wait.
 /// Records that no command wants aren't read. `stamp` selects which time the routes of tables get:
 /// that of the dump, or that of their last change. Requires that no device has failed before. If
-/// nothing fails, finishes `out` and then `err`.
+/// nothing fails, calls [`Output::finish`] of `out` and then of `err`.
 ///
 /// A script of more than 1,048,576 octets isn't executed: the outcome is `ScriptTooLong`.
 pub fn run_play<S: PrefixStore<Rc<Route>>, I: Input, O: Output, E: Output>(
@@ -47,36 +47,36 @@ pub fn run_play<S: PrefixStore<Rc<Route>>, I: Input, O: Output, E: Output>(
     requires out_sound { O.failed out.old ≡ false }
     requires err_sound { E.failed err.old ≡ false }
 
-    // If the input shows its octets, the texts of the script over them are written, or prefixes of
-    // these texts.
-    ensures octets { ScriptEndsOnOctets stamp script.now result (I.left input.old)
+    // If the input shows its octets, the texts of the script over them are written: whole if the run
+    // is done or has reported faults, or else prefixes of these texts.
+    ensures octets { ScriptEndsOnKnownInput stamp script.now result (I.left input.old)
         (outputs_of O.written E.written out.old err.old)
         (outputs_of O.written E.written out.new err.new) }
 
-    // The texts of the script over the whole input are written, or prefixes of them, whatever
-    // octets may follow those taken. None follow if the run has met the end of the input.
+    // So they are whatever octets may follow those taken, provided that none do if the run has met
+    // the end of the input: nothing that is written depends on octets that weren't taken.
     ensures text { HoldsForDevices I.left O.written E.written
-        (ScriptEndsSo stamp script.now result)
+        (ScriptEndsForAllContents stamp script.now result)
         (input.old, out.old, err.old) (input.new, out.new, err.new) }
 
     // A run that is out of memory, or whose output fails, has executed some of the lines, and may
     // have begun the next one. The texts of the former are written, and a prefix of what the latter
-    // adds, whatever octets may follow those taken. None follow if these lines have met the end of
-    // the input.
+    // adds, whatever octets may follow those taken, provided that none do if these lines have met
+    // the end of the input.
     ensures began { HoldsForDevices I.left O.written E.written
-        (HasBegunLines stamp script.now result)
+        (ScriptHasBegun stamp script.now result)
         (input.old, out.old, err.old) (input.new, out.new, err.new) }
 
     // A run that ends as the input fails or is too long has written what the whole records taken
     // give: the replies to the commands that it completed, and the reports of faulty records and of
     // bad lines before.
     ensures whole_records { HoldsForDevices I.left O.written E.written
-        (WritesCutTexts stamp script.now result)
+        (ScriptWritesBeforeInputFault stamp script.now result)
         (input.old, out.old, err.old) (input.new, out.new, err.new) }
 
-    // No record is taken that no command wants. In a run that comes to its end, commands have taken
-    // all that the octets give; where the input fails or is too long, a command wanted more.
-    ensures wanted { TakesOnlyWanted stamp script.now result
+    // In a run that comes to its end, no record is taken that no command wants, and commands have
+    // taken all that the octets give; where the input fails or is too long, a command wanted more.
+    ensures wanted { TakesOnlyWantedRecords stamp script.now result
         (I.left input.old) (I.left input.new) }
 
     // No reply waits: of outputs that tell what they hold back, nothing is held back at the end,
@@ -153,9 +153,9 @@ fn execute_lines<S: PrefixStore<Rc<Route>>, I: Input, O: Output, E: Output>(
 
 /// Executes a line of a script: its command, or nothing if it is empty. A line that is no command
 /// is reported to `err`, such as `bgpdump: script line 3: bad command`, with its `number`, counted
-/// from 1. Requires that the player has played at most 2^20 more events
-/// ([`LONGEST_SCRIPT`](crate::LONGEST_SCRIPT)) than the source has taken octets, and that these are
-/// at most 2^40, so that no count overflows. Fails with the [`Outcome`] that ends the program: a
+/// from 1. So that no count overflows, requires that at most 2^40 octets were taken from `input`,
+/// and that the number of events played exceeds the number of these octets by at most 2^20
+/// ([`LONGEST_SCRIPT`](crate::LONGEST_SCRIPT)). Fails with the [`Outcome`] that ends the program: a
 /// failed read or write, an input that is too long, or a lack of memory.
 fn execute_line<S: PrefixStore<Rc<Route>>, I: Input, O: Output, E: Output>(
     session: &mut Session<S>,

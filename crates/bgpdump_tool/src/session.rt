@@ -1,5 +1,5 @@
 //! The state of the execution of a script, and its steps forward. `play.rt` makes a [`Session`] for
-//! each script, and the commands of `execution.rt` act on it; read [`Session::step`] first.
+//! each script, and the commands of `execution.rt` act on it; read [`Session::step_forward`] first.
 
 ghost use Rattle.std.specs.Prelude.{◌≡◌, ◌<◌, ◌+◌, ◌||◌, ℕ, false, IfOk, OnOk, IsTrue, is_err};
 ghost use Rattle.std.specs.Io.KnownBytes.{Keeps};
@@ -87,14 +87,15 @@ impl<S: PrefixStore<Rc<Route>>> Session<S> {
         Ok(())
     }
 
-    /// Moves the player one step forward: applies an undone event again, or else reads a record and
-    /// plays its event. A faulty record is reported to `err` and leaves the player as it was.
-    /// Returns `true` if neither an undone event nor a record is left, and `false` otherwise.
-    /// Requires that the player has played at most 2^20 more events
-    /// ([`LONGEST_SCRIPT`](crate::LONGEST_SCRIPT)) than the source has taken octets, and that these
-    /// are at most 2^40, so that no count overflows. Fails with the [`Outcome`] that ends the
+    /// Moves the player one step forward: applies an undone event again, or else reads a record
+    /// from `input` and plays its event. If that record is faulty, it is reported to `err` instead,
+    /// and the player stays as it was. Before a read that may wait, `out` and `err` are flushed.
+    /// Returns `true` if neither an undone event nor a record was left, and `false` otherwise.
+    /// Requires, so that no count overflows, that at most 2^40 octets were taken from `input`, and
+    /// that the number of events played exceeds the number of these octets by at most 2^20
+    /// ([`LONGEST_SCRIPT`](crate::LONGEST_SCRIPT)). Fails with the [`Outcome`] that ends the
     /// program: a failed read or write, an input that is too long, or a lack of memory.
-    pub(crate) fn step<I: Input, O: Output, E: Output>(
+    pub(crate) fn step_forward<I: Input, O: Output, E: Output>(
         &mut self,
         input: &mut I,
         out: &mut O,

@@ -54,7 +54,9 @@ abbrev SpellsBy : Family → Address → List ℕ → Type 0
 SpellsBy V4 address text = IsDotted text (octets_of_v4 address)
 SpellsBy V6 address text = IsColonHex text (groups_of address) × HasNoDot text
 
--- `Addr::parse` gives this address for this text
+-- `text` is a form of this address of 32 or 128 bits that `Addr::parse` takes: of IPv4 four decimals with
+-- dots, of IPv6 groups in hexadecimal with colons, where one `::` may stand for groups that are 0 (RFC 4291,
+-- section 2.2), without a dotted end
 abbrev pub SpellsAddress : Address → List ℕ → Type 0
 SpellsAddress address text = IsAddress address × SpellsBy address.family address text
 

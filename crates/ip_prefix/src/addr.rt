@@ -176,8 +176,8 @@ impl Addr {
             & 0xffff) as u16
     }
 
-    /// Returns `true` if a bit of the address is 1, `false` if it is 0, where index 0 is the most
-    /// significant. Requires that `index` is below 32 for IPv4, and below 128 for IPv6.
+    /// Returns `true` if the bit at `index` is 1, and `false` if it is 0. Index 0 is the most
+    /// significant bit. Requires that `index` is below 32 for IPv4, and below 128 for IPv6.
     #[inline]
     pub fn bit(&self, index: usize) -> bool
         requires { index < bit_count self.now.family }

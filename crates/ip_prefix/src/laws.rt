@@ -78,7 +78,7 @@ pub fn law_containing_prefixes_nest()
 /// - it is `Here` if and only if they are equal;
 /// - it is `Left` or `Right` if and only if it is covered by the left or right half of the other,
 ///   which has one bit more than the other: 0 or 1.
-pub fn law_turns_are_by_bits()
+pub fn law_turns_are_by_covering()
     ensures outside { (m n : Network)
         → ((turn_of (way m) (way n) ≡ Outside) ↔ (covers m n ≡ false)) }
     ensures here { (m n : Network) → ((turn_of (way m) (way n) ≡ Here) ↔ (m ≡ n)) }

@@ -36,7 +36,7 @@ pub(crate) fn keep_highest_bits(number: u128, len: u8) -> u128
 /// significant first. The bits below them are unspecified. Requires that `size` is at most 16 and
 /// at most the length of `octets`.
 #[inline]
-pub(crate) fn number_from_leading_octets(octets: &[u8], size: usize) -> u128
+pub(crate) fn number_with_high_octets(octets: &[u8], size: usize) -> u128
     requires { (size ≤ length octets.now) × (size ≤ V6_OCTETS) }
     ensures fits { result < 2 ^ NUMBER_BITS }
     ensures bits { highest_bits (OCTET_BITS * size) result ≡ bits_of_octets (take size octets.now) }

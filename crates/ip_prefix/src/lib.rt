@@ -18,7 +18,7 @@ pub use laws::{
     law_address_constants, law_address_order_is_total, law_common_prefix_is_longest,
     law_containing_prefixes_nest, law_containment_is_by_bits, law_covering_is_partial_order,
     law_longest_zero_run_is_shortened, law_octets_have_one_prefix, law_prefix_order_is_total,
-    law_printed_text_parses, law_text_has_one_value, law_turns_are_by_bits,
+    law_printed_text_parses, law_text_has_one_value, law_turns_are_by_covering,
 };
 pub use octet_text::{
     DECIMAL_ROOM, SPACE, Text, WORD_ROOM, WordFormat, WriteTextAt, put_decimal, put_octets,

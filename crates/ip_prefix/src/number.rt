@@ -65,8 +65,8 @@ impl U128Halves {
         u128::from(self.high) << HALF_BITS | u128::from(self.low)
     }
 
-    /// Returns `true` if a bit of the number is 1, `false` if it is 0, where index 0 is the most
-    /// significant. Requires that `index` is below 128.
+    /// Returns `true` if the bit at `index` is 1, and `false` if it is 0. Index 0 is the most
+    /// significant bit. Requires that `index` is below 128.
     #[inline]
     pub(crate) fn bit(self, index: u8) -> bool
         requires { index < NUMBER_BITS }

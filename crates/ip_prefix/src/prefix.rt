@@ -13,7 +13,7 @@ ghost use Rattle.ip_prefix.specs.OrderLaws.{network_cmp_total};
 ghost use Rattle.octet_forms.specs.Fronts.{BeginsWithNone};
 
 use crate::addr::{Addr, Family, OCTET_BITS, V4_BITS};
-use crate::leading_bits::{keep_highest_bits, number_from_leading_octets};
+use crate::leading_bits::{keep_highest_bits, number_with_high_octets};
 use crate::number::{HALF_BITS, NUMBER_BITS, U128Halves};
 use std::cmp::Ordering;
 use std::marker::Model;
@@ -112,8 +112,8 @@ impl Prefix {
         self.number.get()
     }
 
-    /// Returns `true` if a bit of the prefix is 1, `false` if it is 0, where index 0 is the most
-    /// significant. Requires that `index` is below the length of the prefix.
+    /// Returns `true` if the bit at `index` is 1, and `false` if it is 0. Index 0 is the most
+    /// significant bit. Requires that `index` is below the length of the prefix.
     #[inline]
     pub(crate) fn bit(&self, index: u8) -> bool
         requires { index < length self.now.bits }
@@ -181,9 +181,9 @@ impl Prefix {
 
     /// Parses the prefix of `family` at the start of `octets`: its length in bits, of one octet,
     /// and its bits in as few octets as hold them (RFC 4271, section 4.3). Returns the prefix and
-    /// the number of octets that it takes, with that of the length. Returns `None` if the length is
-    /// more than 32 (IPv4) or 128 (IPv6), or if `octets` ends before or inside the prefix. Bits
-    /// after the length are ignored.
+    /// the number of octets parsed, including the length octet. Returns `None` if the length is
+    /// more than 32 (IPv4) or 128 (IPv6), or if `octets` ends before or inside the prefix. Bits of
+    /// the last octet after the prefix are ignored.
     #[inline]
     pub fn read(family: Family, octets: &[u8]) -> Option<(Prefix, usize)>
         ensures some { IfSome result (λ found. (found.1 ≤ length octets.now)
@@ -198,7 +198,7 @@ impl Prefix {
         if rest.len() < size {
             return None;
         }
-        let number = keep_highest_bits(number_from_leading_octets(rest, size), len);
+        let number = keep_highest_bits(number_with_high_octets(rest, size), len);
         Some((
             Prefix {
                 number: U128Halves::new(number),

@@ -31,8 +31,10 @@ pub enum Turn {
 }
 
 impl Prefix {
-    /// Returns where `other` lies as seen from this prefix: as seen from `10.0.0.0/8`,
-    /// `10.0.0.0/16` lies `Left`, `10.128.0.0/16` `Right`, and `10.0.0.0/7` `Outside`.
+    /// Returns where `other` lies as seen from this prefix: `Here` if they are equal; `Left` or
+    /// `Right` if this prefix covers `other`, whose first bit after the bits of this prefix is 0 or
+    /// 1; or else `Outside`. As seen from `10.0.0.0/8`, `10.0.0.0/16` lies `Left`, `10.128.0.0/16`
+    /// `Right`, and `10.0.0.0/7` `Outside`.
     #[inline]
     pub fn turn(&self, other: &Prefix) -> Turn
         ensures { result ≡ turn_of (way self.now) (way other.now) }
@@ -43,9 +45,11 @@ impl Prefix {
         Turn::Outside
     }
 
-    /// Returns where this prefix lies as seen from another, an IPv4 prefix: the first `len` bits of
-    /// the address `octets`, whose most significant octet is first. Octets after these bits are
-    /// ignored. `Outside` if this prefix is of IPv6. Requires that `len` is at most 32.
+    /// Returns where this prefix lies as seen from the IPv4 prefix of the first `len` bits of
+    /// `octets`, an address in network byte order: `Here` if the two are equal; `Left` or `Right`
+    /// if the IPv4 prefix covers this one, whose bit at index `len` is 0 or 1; or else `Outside`,
+    /// as for each IPv6 prefix. The bits of `octets` after the first `len` are ignored. Requires
+    /// that `len` is at most 32.
     #[inline]
     pub fn turn_from_v4(&self, octets: [u8; V4_OCTETS], len: u8) -> Turn
         requires { len ≤ V4_BITS }
@@ -63,10 +67,10 @@ impl Prefix {
         Turn::Outside
     }
 
-    /// Returns where this prefix lies as seen from its own first `len` bits: `Here` if it has no
-    /// more bits, else `Left` if its bit at index `len` is 0, or `Right` if it is 1; never
-    /// `Outside`. So if a prefix of `len` bits is known to cover this one, it is where this one
-    /// lies as seen from it. If not, the result means nothing.
+    /// Returns where this prefix lies as seen from a prefix of `len` bits that is known to cover
+    /// it: `Here` if it has no more than `len` bits, or else `Left` or `Right` if its bit at index
+    /// `len` is 0 or 1. Never returns `Outside`: if the prefix of `len` bits doesn't cover this
+    /// one, the result means nothing.
     #[inline]
     pub fn turn_under(&self, len: u8) -> Turn
         ensures { (other : Network) → length other.bits ≡ len
@@ -82,9 +86,9 @@ impl Prefix {
         }
     }
 
-    /// Returns the longest prefix that covers both this prefix and `other`: their shared leading
-    /// bits, for `10.0.0.0/16` and `10.128.0.0/16` `10.0.0.0/8`. Requires that both are of one
-    /// family.
+    /// Returns the longest prefix that covers both this prefix and `other`: the leading bits that
+    /// they share. For `10.0.0.0/16` and `10.128.0.0/16`, this is `10.0.0.0/8`. Requires that both
+    /// are of one family.
     #[inline]
     pub fn common(&self, other: &Prefix) -> Prefix
         requires { self.now.family ≡ other.now.family }

@@ -1,6 +1,6 @@
 //! A sorted list of routes: the overflow of the hash table of `slots.rt`, for routes whose slots
 //! are all taken. It is cut into runs, short sorted lists. A search takes logarithmic time, even if
-//! all routes have one hash. Read [`OrderedRoutes`] first.
+//! all routes have one hash. Read [`OverflowRoutes`] first.
 
 ghost use Rattle.std.specs.Prelude.{◌≡◌, ◌≤◌, ◌<◌, IfSome, length, vec_len};
 
@@ -35,7 +35,7 @@ pub(crate) struct HashedRoute {
 /// [`compare_routes`]. It is cut into runs, sorted lists of at most [`LONGEST_RUN`] routes each. It
 /// holds the routes that found no free slot in the hash table.
 #[derive(Drop)]
-pub(crate) struct OrderedRoutes {
+pub(crate) struct OverflowRoutes {
     // A search halves first the runs and then one run, and a route that comes or goes moves one run
     // alone.
     /// The runs (sorted lists of at most [`LONGEST_RUN`] routes), in order. None is empty, unless
@@ -80,9 +80,10 @@ fn starts_after(run: &[HashedRoute], hash: u32, route: &Route) -> bool {
     }
 }
 
-/// Shrinks the capacity of the vector to its length if the capacity is far more ([`MOST_TIMES`]).
-/// If memory allocation for the smaller block fails, the vector is unchanged.
-fn shrink_if_sparse<T: Drop>(list: &mut Vec<T>)
+/// Shrinks the capacity of the vector to its length if the capacity, divided by [`MOST_TIMES`] and
+/// rounded down, is greater than the length. If memory allocation for the smaller block fails, the
+/// vector is unchanged.
+fn shrink_if_oversized<T: Drop>(list: &mut Vec<T>)
     ensures { list.new.items ≡ list.old.items }
 {
     if list.capacity() / MOST_TIMES > list.len() {
@@ -101,7 +102,7 @@ fn remove_unowned_from(run: &mut Vec<HashedRoute>) -> u64 {
     }
     if octets > 0 {
         run.retain(|hashed| !hashed.is_only_owner());
-        shrink_if_sparse(run);
+        shrink_if_oversized(run);
     }
     octets
 }
@@ -123,10 +124,10 @@ fn split_off_half(
     Ok(half)
 }
 
-impl OrderedRoutes {
+impl OverflowRoutes {
     /// Returns a list without routes. Allocates no memory.
-    pub(crate) fn empty(alloc: Global) -> OrderedRoutes {
-        OrderedRoutes {
+    pub(crate) fn empty(alloc: Global) -> OverflowRoutes {
+        OverflowRoutes {
             runs: Vec::new(alloc),
             count: 0,
         }
@@ -160,8 +161,9 @@ impl OrderedRoutes {
         None
     }
 
-    /// Splits the run (one of the sorted lists in `runs`) at the index `index` into two halves.
-    /// Fails if memory allocation fails; the runs hold the same routes then.
+    /// Splits one run (a sorted list of routes) into two halves: the run whose index in `runs` is
+    /// `index`. The second half follows the first in `runs`. Fails if memory allocation fails; the
+    /// runs are unchanged then.
     fn split_run(&mut self, index: usize) -> Result<(), AllocError>
         requires { index < vec_len self.old.runs }
     {
@@ -171,10 +173,11 @@ impl OrderedRoutes {
         Ok(())
     }
 
-    /// Returns the index of the run (one of the sorted lists in `runs`) that `route`, whose hash is
-    /// `hash`, is to be inserted into, and splits the run before if it is full. Fails if memory
-    /// allocation fails; the runs hold the same routes then.
-    fn make_room_for(&mut self, hash: u32, route: &Route) -> Result<usize, AllocError> {
+    /// Returns the index in `runs` of the run (a sorted list of routes) that `route`, whose hash is
+    /// `hash`, is to be inserted into, or 0 if there are no runs. If that run has [`LONGEST_RUN`]
+    /// routes, splits it into two first. Fails if memory allocation fails; the runs are unchanged
+    /// then.
+    fn find_run_with_room(&mut self, hash: u32, route: &Route) -> Result<usize, AllocError> {
         let index = self.find_run(hash, route);
         if index >= self.runs.len() || self.runs[index].len() < LONGEST_RUN {
             return Ok(index);
@@ -190,7 +193,7 @@ impl OrderedRoutes {
             let first = Vec::new(*self.runs.allocator());
             self.runs.push(first)?;
         }
-        let index = self.make_room_for(hash, &route)?;
+        let index = self.find_run_with_room(hash, &route)?;
         if let Some(run) = self.runs.get_mut(index) {
             let position = find_index(run, hash, &route);
             run.insert(position, HashedRoute { hash, route })?;
@@ -199,8 +202,8 @@ impl OrderedRoutes {
         Ok(())
     }
 
-    /// Removes `route`, whose hash is `hash`: this very `Rc`, not another one of an equal route.
-    /// Returns `true` if it was found, and `false` if the list is unchanged.
+    /// Removes `route`, whose hash is `hash`: an `Rc` of this very allocation ([`Rc::ptr_eq`]), not
+    /// one of an equal route. Returns `true` if it was found, and `false` if the list is unchanged.
     pub(crate) fn remove_route(&mut self, hash: u32, route: &Rc<Route>) -> bool {
         let index = self.find_run(hash, route);
         if index >= self.runs.len() {
@@ -212,18 +215,18 @@ impl OrderedRoutes {
             return false;
         }
         let _gone = run.remove(position);
-        shrink_if_sparse(run);
+        shrink_if_oversized(run);
         if run.is_empty() {
             let _run = self.runs.remove(index);
-            shrink_if_sparse(&mut self.runs);
+            shrink_if_oversized(&mut self.runs);
         }
         self.count = self.count.saturating_sub(1);
         true
     }
 
-    /// Removes the routes that have no owner but this list, and returns the number of octets that
-    /// they took ([`route_size`]). Shrinks vectors whose capacity is far more than their length,
-    /// unless memory allocation for a smaller block fails.
+    /// Removes the routes that have no owner (`Rc`) but this list, and returns the number of octets
+    /// that they took ([`route_size`]). Moves runs that lost routes, and the list of runs, to
+    /// smaller blocks of memory as [`shrink_if_oversized`] does.
     pub(crate) fn remove_unowned(&mut self) -> u64 {
         let mut octets = 0u64;
         let mut count = 0usize;
@@ -233,7 +236,7 @@ impl OrderedRoutes {
         }
         self.count = count;
         self.runs.retain(|run| !run.is_empty());
-        shrink_if_sparse(&mut self.runs);
+        shrink_if_oversized(&mut self.runs);
         octets
     }
 }

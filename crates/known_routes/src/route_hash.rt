@@ -48,17 +48,17 @@ fn joined(low: u32, high: u32) -> u64 {
     u64::from(low) | u64::from(high) << 32
 }
 
-/// Returns the four octets of the address from the octet at `index` on, counted from 0, as a
+/// Returns the four octets of the address from the octet at `offset` on, counted from 0, as a
 /// big-endian number. Requires that the address has these octets.
 #[inline]
-fn be_u32_at(addr: &Addr, index: usize) -> u32
-    requires { index + 4 ≤ octet_count addr.now.family }
+fn be_u32_at(addr: &Addr, offset: usize) -> u32
+    requires { offset + 4 ≤ octet_count addr.now.family }
 {
     u32::from_be_bytes([
-        addr.octet(index),
-        addr.octet(index + 1),
-        addr.octet(index + 2),
-        addr.octet(index + 3),
+        addr.octet(offset),
+        addr.octet(offset + 1),
+        addr.octet(offset + 2),
+        addr.octet(offset + 3),
     ])
 }
 

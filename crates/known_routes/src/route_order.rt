@@ -78,8 +78,10 @@ fn compare_short_attributes(one: &Attrs, other: &Attrs) -> Ordering {
         .then(compare_optional_aggregators(&one.aggregator, &other.aggregator))
 }
 
-/// Compares two routes by time, the short attributes, the communities and the AS path, in an order
-/// that serves searches only. Returns `Equal` for equal routes only.
+/// Compares two routes in a total order: by time, then by NEXT_HOP, MULTI_EXIT_DISC, LOCAL_PREF,
+/// ORIGIN, ATOMIC_AGGREGATE and AGGREGATOR, then by communities, then by AS path. The order is for
+/// sorting and searching lists of routes only; it doesn't say which route is preferred. Returns
+/// `Equal` only if the routes are equal.
 #[inline(never)]
 pub(crate) fn compare_routes(one: &Route, other: &Route) -> Ordering {
     // It isn't inlined, since few routes have the same hash.

@@ -25,9 +25,9 @@ const MOST_NUMBERS: usize = 1024;
 /// and is used as it is.
 const LOOKED_FOR_OWNERS: usize = 4;
 
-/// The number of groups that peers are in, by their hashes; for each group the hash table's slot of
-/// the last route is noted. Of more peers, some share a group, and the slot of one replaces the
-/// slot of another.
+/// The number of groups that peers are in, by their hashes. For each group, the hash table's slot
+/// of the route last interned for a peer of the group is noted. Of more peers, some share a group,
+/// and the slot of one replaces the slot of another.
 const LASTS: usize = 4096;
 
 /// The number of lowest bits of a peer's 64-bit hash that are dropped to get an index below
@@ -57,18 +57,18 @@ pub struct RouteInterner {
     alloc: Global,
     /// The hash table of the routes.
     routes: InternTable,
-    /// The number of routes in slots of the hash table when [`RouteInterner::begin_play`] was last
-    /// called, or when the table last grew since.
+    /// The number of routes in slots of the hash table when [`RouteInterner::prepare_for_event`]
+    /// was last called, or when the table last grew since.
     stood: usize,
     /// The number of octets of released routes: those that may have lost their last owner besides
     /// the table since all routes were last checked for that.
     released_octets: u64,
-    /// The number of octets of the routes that were added since [`RouteInterner::begin_play`] was
-    /// last called.
+    /// The number of octets of the routes that were added since
+    /// [`RouteInterner::prepare_for_event`] was last called.
     added_octets: u64,
     /// For each of [`LASTS`] groups of peers, by their hashes, the index in the hash table of the
-    /// slot with the last route of such a peer. An index of a slot without a route, or one out of
-    /// bounds, stands for none. Empty before the table first grows.
+    /// slot with the route last interned for a peer of the group. An index of a slot without a
+    /// route, or one out of bounds, stands for none. Empty before the table first grows.
     last_slots: Vec<u32>,
     ghost bounded: { vec_len routes.slots ≤ MAX_SLOTS },
     ghost few: { vec_len last_slots ≤ LASTS },
@@ -79,7 +79,7 @@ impl RouteInterner {
     ghost use Rattle.std.specs.Prelude.{max};
     ghost use Rattle.known_routes.specs.Known.{route_count, sized_for};
 
-    /// Returns a table without routes. Allocates no memory.
+    /// Returns an interner without routes. Allocates no memory.
     pub fn new(alloc: Global) -> Self
         ensures { sized_for result ≡ 0 }
     {
@@ -101,27 +101,29 @@ impl RouteInterner {
         ensures value { IfOk result (λ known. known.value ≡ route.now.value) }
         ensures stood { sized_for self.new ≤ max (sized_for self.old) (route_count self.new) }
     {
-        let last = (peer_hash(peer) >> LOWEST_BITS) as usize;
-        if let Some(known) = self.last_route_if_equal(last, route) {
+        let peer_group = (peer_hash(peer) >> LOWEST_BITS) as usize;
+        if let Some(known) = self.last_route_if_equal(peer_group, route) {
             return known.clone();
         }
         let hash = hash_route(route);
         if let Some((index, found)) = self.routes.find_route(hash, route) {
             let known = found.clone()?;
-            self.set_last_slot(last, index);
+            self.note_slot_of_last_route(peer_group, index);
             return Ok(known);
         }
         let octets = route_size(route);
         let kept = copy_if_oversized(self.alloc, route, octets)?;
         let index = self.insert(hash, kept.clone()?, octets)?;
-        self.set_last_slot(last, index);
+        self.note_slot_of_last_route(peer_group, index);
         Ok(kept)
     }
 
-    /// Returns the table's route that equals `route`, or else adds `route`, as
-    /// [`RouteInterner::intern`] does. But a route that is long and has many owners is returned
-    /// itself, without a look-up, so that the look-ups for all items of an event take bounded time.
-    /// Fails if memory allocation fails; `route` isn't added then.
+    /// Returns the table's route that equals `route`, or else adds `route` and returns it, as
+    /// [`RouteInterner::intern`] does. `peer` is where the route comes from. But a route of more
+    /// than [`MOST_NUMBERS`] AS numbers, segments and communities is returned itself, without a
+    /// look-up, if it has more than [`LOOKED_FOR_OWNERS`] owners (`Rc`s), so that all look-ups for
+    /// the items of an event take bounded time. Fails if memory allocation fails; `route` isn't
+    /// added then.
     pub fn intern_if_cheap(
         &mut self,
         peer: &Peer,
@@ -132,34 +134,37 @@ impl RouteInterner {
     {
         // So all items of an event together cost a bound each, and a few times what it took to make
         // their routes: a long route with few owners is at few items.
-        if Rc::strong_count(route) <= LOOKED_FOR_OWNERS || is_short(route) {
+        if Rc::strong_count(route) <= LOOKED_FOR_OWNERS || has_few_numbers(route) {
             return self.intern(peer, route);
         }
         route.clone()
     }
 
-    /// Returns the last route of a peer, if its slot in the hash table is noted and it equals
-    /// `route`, or else `None`. `last` is the index of the peer's group in `last_slots`, by its
-    /// hash; another peer of the group may have replaced the slot.
+    /// Returns the route in the slot that is noted for a group of peers, if it equals `route`, or
+    /// else `None`. `peer_group` is the index of the group in `last_slots`; peers are grouped by
+    /// the highest bits of their hashes. The slot had the route that was last interned for a peer
+    /// of the group, but may have another one since, or none.
     #[inline]
-    fn last_route_if_equal(&self, last: usize, route: &Route) -> Option<&Rc<Route>>
+    fn last_route_if_equal(&self, peer_group: usize, route: &Route) -> Option<&Rc<Route>>
         ensures { IfSome result (λ known. known.now.value ≡ route.now) }
     {
-        let index = *self.last_slots.get(last)? as usize;
+        let index = *self.last_slots.get(peer_group)? as usize;
         match self.routes.slots.get(index) {
             Some(Slot::Taken(_, known)) if same_route(known, route) => Some(known),
             _ => None,
         }
     }
 
-    /// Notes `index`, the index of the slot of the hash table with the last route of a peer, for
-    /// the next look-up. `last` is the index of the peer's group in `last_slots`, by its hash. If
-    /// that is out of bounds, nothing is noted.
-    fn set_last_slot(&mut self, last: usize, index: usize)
+    /// Notes in `last_slots` which slot of the hash table has the route that was last interned for
+    /// a group of peers, so that the next look-up compares it first. `peer_group` is the index of
+    /// the group in `last_slots`; peers are grouped by the highest bits of their hashes. `index` is
+    /// that of the slot, or `usize::MAX` for a route in no slot. Does nothing if `peer_group` is
+    /// out of bounds.
+    fn note_slot_of_last_route(&mut self, peer_group: usize, index: usize)
         ensures routes { route_count self.new ≡ route_count self.old }
         ensures stood { sized_for self.new ≡ sized_for self.old }
     {
-        if let Some(slot) = self.last_slots.get_mut(last) {
+        if let Some(slot) = self.last_slots.get_mut(peer_group) {
             *slot = u32::try_from(index).unwrap_or(u32::MAX);
         }
     }
@@ -196,10 +201,11 @@ impl RouteInterner {
         Ok(index)
     }
 
-    /// Tells the table that an owner of the route (an `Rc`) is about to be dropped. If one other
-    /// owner is left, which may be the table, the route is removed from the table; if few are left,
-    /// its octets count as released, so that [`RouteInterner::sweep_if_due`] searches for such
-    /// routes.
+    /// Tells the table that `route`, one of the owners (`Rc`s) of a route, is about to be dropped.
+    /// If one other owner is left, the table removes the route, since that owner may be the table
+    /// itself. Otherwise, if fewer than [`FEW_OWNERS`] others are left, the octets of the route are
+    /// counted as released: [`RouteInterner::sweep_if_due`] may remove it later, if the table is
+    /// then its only owner.
     pub fn release(&mut self, route: &Rc<Route>)
         ensures { sized_for self.new ≡ sized_for self.old }
     {
@@ -213,9 +219,9 @@ impl RouteInterner {
         }
     }
 
-    /// Counts as released all routes that were added since [`RouteInterner::begin_play`] was last
-    /// called, as they may have no owner but the table. For callers that don't use the routes that
-    /// they looked up, such as for an event that is refused.
+    /// Counts as released all routes that were added since [`RouteInterner::prepare_for_event`] was
+    /// last called, as they may have no owner but the table. For callers that don't use the routes
+    /// that they looked up, such as for an event that is refused.
     pub fn release_added(&mut self)
         ensures { sized_for self.new ≡ sized_for self.old }
     {
@@ -223,12 +229,13 @@ impl RouteInterner {
         self.added_octets = 0;
     }
 
-    /// Removes the routes that have no owner but the table, if enough octets were released: more
-    /// than a quarter of what the other routes take, and a mebibyte. So the cost of checking all
-    /// routes stays small.
+    /// Removes the routes that have no owner (`Rc`) but the table, if enough octets were counted as
+    /// released ([`RouteInterner::release`]) since the last such removal: more than the sum of a
+    /// mebibyte and a quarter of what the other routes take.
     pub fn sweep_if_due(&mut self)
         ensures { sized_for self.new ≡ sized_for self.old }
     {
+        // A sweep checks all routes, so it is to be rare.
         let most = self.routes.held_octets.saturating_add(RELEASED_ROOM);
         if self.released_octets.saturating_mul(RELEASED_SHARE) > most {
             self.routes.sweep();
@@ -240,24 +247,23 @@ impl RouteInterner {
     /// that is due ([`RouteInterner::sweep_if_due`]), and moves the others to a smaller hash table
     /// if it has too many slots for them. If memory allocation for that fails, all routes are
     /// removed instead.
-    pub fn begin_play(&mut self)
+    pub fn prepare_for_event(&mut self)
         ensures { sized_for self.new ≡ route_count self.new }
     {
         self.sweep_if_due();
         self.added_octets = 0;
         // A smaller table takes less memory. If allocating it fails, all routes are dropped: the
         // play needs none of them, so that it gets no error.
-        if !self.routes.is_small_enough() && self.routes.resize(self.alloc).is_err() {
+        if !self.routes.is_compact() && self.routes.resize(self.alloc).is_err() {
             self.routes = InternTable::empty(self.alloc);
         }
         self.stood = self.routes.taken;
     }
 }
 
-/// Returns `true` if the AS path and the communities have at most [`MOST_NUMBERS`] AS numbers,
-/// segments and communities together, so that a look-up takes little time whatever owners the route
-/// has.
-fn is_short(route: &Route) -> bool {
+/// Returns `true` if the route has at most [`MOST_NUMBERS`] AS numbers, segments and communities
+/// together, so that a look-up, which hashes and compares it, takes little time.
+fn has_few_numbers(route: &Route) -> bool {
     let attrs = &route.attrs;
     let mut numbers = attrs.communities.as_slice().len();
     'segments: for segment in attrs.path.segments.as_slice() {

@@ -153,9 +153,9 @@ pub(crate) fn slot_for(tags: &[u8], hash: u32) -> usize {
         .unwrap_or(first)
 }
 
-/// Returns the index of the slot that has `route`, this very `Rc` and not another one of an equal
-/// route, in the row of four slots whose first one has the index `start`. Returns `None` if the row
-/// doesn't have it.
+/// Returns the index of the slot that has `route`, an `Rc` of this very allocation ([`Rc::ptr_eq`])
+/// and not one of an equal route, in the row of four slots whose first one has the index `start`.
+/// Returns `None` if the row doesn't have it.
 #[inline]
 fn index_in_row(slots: &[Slot], start: usize, route: &Rc<Route>) -> Option<usize> {
     (start..start.saturating_add(ROW)).find(|index| {
@@ -163,9 +163,9 @@ fn index_in_row(slots: &[Slot], start: usize, route: &Rc<Route>) -> Option<usize
     })
 }
 
-/// Returns the index of the slot that has `route`, this very `Rc` and not another one of an equal
-/// route. Searches the two rows of `hash`, the hash of the route. Returns `None` if they don't have
-/// it.
+/// Returns the index of the slot that has `route`: an `Rc` of this very allocation
+/// ([`Rc::ptr_eq`]), not one of an equal route. Searches the two rows (buckets of four slots) of
+/// `hash`, which is the hash of the route. Returns `None` if neither row has it.
 pub(crate) fn index_of(slots: &[Slot], hash: u32, route: &Rc<Route>) -> Option<usize> {
     let [first, second] = row_starts(hash, slots.len());
     index_in_row(slots, first, route).or_else(|| index_in_row(slots, second, route))

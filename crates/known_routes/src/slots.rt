@@ -7,7 +7,7 @@ ghost use Rattle.known_routes.specs.InternTable.{is_taken, is_tagged, AreTagged}
 ghost use Rattle.known_routes.specs.declared.slot.TheConstants.{FREE};
 ghost use Rattle.known_routes.specs.declared.slots.TheConstants.{MIN_SLOTS, MAX_SLOTS, MOST_TIMES};
 
-use crate::ordered_routes::{HashedRoute, OrderedRoutes};
+use crate::ordered_routes::{HashedRoute, OverflowRoutes};
 use crate::slot::{
     FREE, Slot, ends_with_free_slot, find_in_row, index_of, is_only_owner, is_taken, route_size_at,
     row_starts, slot_for, tag_of,
@@ -55,7 +55,7 @@ pub(crate) struct InternTable {
     /// The number of slots that have a route.
     pub(crate) taken: usize,
     /// The routes that found both rows of their hash full.
-    overflow: OrderedRoutes,
+    overflow: OverflowRoutes,
     /// The number of routes that replaced another in its slot, since they found both of their rows
     /// full. It saturates.
     overwritten: usize,
@@ -76,7 +76,7 @@ impl InternTable {
             slots: Vec::new(alloc),
             tags: Vec::new(alloc),
             taken: 0,
-            overflow: OrderedRoutes::empty(alloc),
+            overflow: OverflowRoutes::empty(alloc),
             overwritten: 0,
             held_octets: 0,
         }
@@ -97,22 +97,26 @@ impl InternTable {
             slots,
             tags,
             taken: 0,
-            overflow: OrderedRoutes::empty(alloc),
+            overflow: OverflowRoutes::empty(alloc),
             overwritten: 0,
             held_octets: 0,
         })
     }
 
-    /// Returns `true` if the overflow list has so many routes for those in slots
-    /// ([`CROWDED_SHARE`]) that a search has to go on there even after a row with a free slot.
+    /// Returns `true` if the overflow list has more routes than a [`CROWDED_SHARE`]th of those in
+    /// slots. A search then goes on in the list even after a row (a bucket of four slots) with a
+    /// free slot. Otherwise it ends at such a row, and may miss a route that went to the list
+    /// before that slot became free.
     #[inline]
     fn is_overflow_crowded(&self) -> bool {
         self.overflow.count > self.taken / CROWDED_SHARE
     }
 
-    /// Returns `true` if a search that didn't find its route in the row whose first slot has the
-    /// index `row` ends there: the row has a free slot, so that the route would be in it, and few
-    /// routes are in the overflow list.
+    /// Returns `true` if a search ends at a row (a bucket of four slots) in which it didn't find
+    /// its route. `row` is the index of the row's first slot. The search ends there if the row
+    /// isn't full, so that the route needn't have been put elsewhere, and the overflow list isn't
+    /// crowded ([`InternTable::is_overflow_crowded`]). Otherwise it goes on in the second row of
+    /// the hash, or from that one in the overflow list.
     #[inline]
     fn ends_search(&self, row: usize) -> bool {
         // Rows are filled from the front.
@@ -120,8 +124,10 @@ impl InternTable {
     }
 
     /// Returns a route with the hash `hash` that equals `route`, and the index of its slot, or
-    /// [`IN_OVERFLOW`] if it is in the overflow list. Returns `None` if none is found: a route that
-    /// was put while its rows were full may not be found once these have a free slot.
+    /// [`IN_OVERFLOW`] if it is in the overflow list. `hash` is that of `route`. Returns `None` if
+    /// none is found, though the table may have one: a search may end at a row (a bucket of four
+    /// slots) that isn't full now ([`InternTable::ends_search`]), but was when the route was put
+    /// elsewhere.
     #[inline]
     pub(crate) fn find_route(&self, hash: u32, route: &Route) -> Option<(usize, &Rc<Route>)>
         ensures { IfSome result (λ found. found.1.now.value ≡ route.now) }
@@ -142,10 +148,11 @@ impl InternTable {
         Some((IN_OVERFLOW, self.overflow.find_route(hash, route)?))
     }
 
-    /// Returns `true` if a route whose rows are full is to replace another route in its slot: if
-    /// few did so far ([`OVERWRITTEN_SHARE`]), or if the overflow list is full. Returns `false` if
-    /// it is to go to the overflow.
-    fn may_overwrite(&self) -> bool {
+    /// Returns `true` if a route whose two rows (buckets of four slots) are full is to replace
+    /// another route in its slot, and `false` if it is to go to the overflow list. It is to replace
+    /// one if fewer routes were replaced so far than an [`OVERWRITTEN_SHARE`]th of those in slots,
+    /// or if the overflow list is full.
+    fn overwrites_when_full(&self) -> bool {
         self.overwritten < self.taken / OVERWRITTEN_SHARE || self.overflow.is_full()
     }
 
@@ -161,10 +168,12 @@ impl InternTable {
         Ok(IN_OVERFLOW)
     }
 
-    /// Puts a route with the hash `hash` into a free slot of its two rows, and returns the index of
-    /// the slot. If they are full, the route takes the first slot of the first row from another
-    /// route, or else goes to the overflow list, for which [`IN_OVERFLOW`] is returned. A table
-    /// without slots drops it, and returns that too. Doesn't add its octets to `held_octets`. Fails
+    /// Puts a route with the hash `hash` into a free slot of its two rows (buckets of four slots),
+    /// and returns the index of the slot. If both rows are full,
+    /// [`InternTable::overwrites_when_full`] decides: the route replaces that in the first slot of
+    /// the first row, whose index is returned, or goes to the overflow list, for which
+    /// [`IN_OVERFLOW`] is returned. A replaced route is dropped. A table without slots drops the
+    /// route, and returns that too. The caller adds the octets of the route to `held_octets`. Fails
     /// if memory allocation fails; the route is dropped then.
     pub(crate) fn put(&mut self, hash: u32, route: Rc<Route>) -> Result<usize, AllocError>
         ensures slots { vec_len self.new.slots ≡ vec_len self.old.slots }
@@ -182,7 +191,7 @@ impl InternTable {
             self.taken += 1;
             return Ok(index);
         }
-        if !self.may_overwrite() {
+        if !self.overwrites_when_full() {
             return self.put_into_overflow(hash, route);
         }
         self.overwritten = self.overwritten.saturating_add(1);
@@ -209,8 +218,9 @@ impl InternTable {
         }
     }
 
-    /// Removes `route`, whose hash is `hash`, from the table: this very `Rc`, not another one of an
-    /// equal route. Does nothing if it isn't found. Subtracts its octets from `held_octets`.
+    /// Removes `route`, whose hash is `hash`, from the table: an `Rc` of this very allocation
+    /// ([`Rc::ptr_eq`]), not one of an equal route. Does nothing if it isn't found. Subtracts its
+    /// octets from `held_octets`.
     pub(crate) fn remove_route(&mut self, hash: u32, route: &Rc<Route>)
         ensures { vec_len self.new.slots ≡ vec_len self.old.slots }
     {
@@ -221,10 +231,10 @@ impl InternTable {
         }
     }
 
-    /// Puts the routes of one of the sorted lists that another table's overflow is cut into (a run)
-    /// into this table. Fails if memory allocation fails; the routes that weren't put are dropped
-    /// then.
-    fn put_run(&mut self, run: Vec<HashedRoute>) -> Result<(), AllocError>
+    /// Puts the routes of `run` into this table, each as [`InternTable::put`] does. `run` is one of
+    /// the lists that the overflow list of another table is cut into. Fails if memory allocation
+    /// fails; the routes put by then stay, and the others are dropped.
+    fn move_from_run(&mut self, run: Vec<HashedRoute>) -> Result<(), AllocError>
         ensures { vec_len self.new.slots ≡ vec_len self.old.slots }
     {
         'routes: for hashed in run {
@@ -233,20 +243,21 @@ impl InternTable {
         Ok(())
     }
 
-    /// Puts the routes of another table's overflow list into this table, each into a slot if there
-    /// is a free one. Fails if memory allocation fails; the routes that weren't put are dropped
-    /// then.
-    fn put_runs(&mut self, overflow: OrderedRoutes) -> Result<(), AllocError>
+    /// Puts the routes of `overflow`, the overflow list of another table, into this table, each as
+    /// [`InternTable::put`] does. Fails if memory allocation fails; the routes put by then stay,
+    /// and the others are dropped.
+    fn move_from_overflow(&mut self, overflow: OverflowRoutes) -> Result<(), AllocError>
         ensures { vec_len self.new.slots ≡ vec_len self.old.slots }
     {
         'runs: for run in overflow.runs {
-            self.put_run(run)?;
+            self.move_from_run(run)?;
         }
         Ok(())
     }
 
-    /// Moves the routes of `others` into this table, which the caller has made without routes.
-    /// Fails if memory allocation fails; the routes that weren't moved are dropped then.
+    /// Moves the routes of `others` into this table, which the caller has made without routes. Some
+    /// may be replaced by others of them, and so dropped, as in [`InternTable::put`]. Fails if
+    /// memory allocation fails; the routes moved by then stay here, and the others are dropped.
     fn move_from(&mut self, mut others: InternTable) -> Result<(), AllocError>
         ensures { vec_len self.new.slots ≡ vec_len self.old.slots }
     {
@@ -269,12 +280,13 @@ impl InternTable {
                 self.put(hash, route)?;
             }
         }
-        self.put_runs(overflow)
+        self.move_from_overflow(overflow)
     }
 
-    /// Moves the routes to a table of [`MIN_SLOTS`] slots, and returns it. Fails if memory
-    /// allocation fails; the routes are dropped then.
-    fn move_to_smallest(self, alloc: Global) -> Result<InternTable, AllocError>
+    /// Moves the routes to a new table of [`MIN_SLOTS`] slots, and returns it. Routes that find no
+    /// free slot there replace others or go to the overflow list, as in [`InternTable::put`]. Fails
+    /// if memory allocation fails; the routes are dropped then.
+    fn move_to_min_slots(self, alloc: Global) -> Result<InternTable, AllocError>
         ensures { IfOk result (λ fewest. vec_len fewest.slots ≡ MIN_SLOTS) }
     {
         let mut fewest = InternTable::with_slots(alloc, MIN_SLOTS)?;
@@ -282,9 +294,9 @@ impl InternTable {
         Ok(fewest)
     }
 
-    /// Removes the routes that have no owner (`Rc`) but this table. Moves lists of the overflow to
-    /// smaller blocks, and keeps the larger ones if memory allocation for that fails; allocates no
-    /// memory otherwise.
+    /// Removes the routes that have no owner (`Rc`) but this table. A list of the overflow that
+    /// lost routes is moved to a smaller block of memory if it uses little of its block, and stays
+    /// where it is if allocating the smaller one fails. Allocates no other memory.
     pub(crate) fn sweep(&mut self)
         ensures { vec_len self.new.slots ≡ vec_len self.old.slots }
     {
@@ -298,9 +310,9 @@ impl InternTable {
     }
 
     /// Returns `true` if the table has few enough slots for the routes in them: at most
-    /// [`MOST_TIMES`] for each, and [`MIN_SLOTS`]. Returns `false` if it is to be replaced by a
-    /// smaller one.
-    pub(crate) fn is_small_enough(&self) -> bool
+    /// [`MOST_TIMES`] for each route, plus [`MIN_SLOTS`]. Returns `false` if a smaller table is to
+    /// replace it.
+    pub(crate) fn is_compact(&self) -> bool
         ensures { IsTrue result →
             vec_len self.now.slots ≤ MOST_TIMES * self.now.taken + MIN_SLOTS }
     {
@@ -323,8 +335,8 @@ impl InternTable {
         let count = (self.taken.saturating_mul(7) / 3).clamp(MIN_SLOTS, MAX_SLOTS);
         let mut others = InternTable::with_slots(alloc, count)?;
         others.move_from(mem::replace(self, InternTable::empty(alloc)))?;
-        if !others.is_small_enough() {
-            others = others.move_to_smallest(alloc)?;
+        if !others.is_compact() {
+            others = others.move_to_min_slots(alloc)?;
         }
         *self = others;
         Ok(())

@@ -26,24 +26,27 @@ const NUMBER_OCTETS: usize = size_of::<u32>();
 /// The number of octets in memory of a path segment in the list of a path, without its AS numbers.
 const SEGMENT_OCTETS: usize = size_of::<Segment>();
 
-/// Returns `octets` plus the number of octets of the spare capacity of the vector `list`, each
-/// element of which takes `size` octets.
+/// Returns the memory, in octets, of spare capacity for `count` elements that take `octets` octets
+/// each.
 #[inline]
-fn add_spare<T>(octets: u64, list: &Vec<T>, size: usize) -> u64 {
-    let spare = list.capacity().wrapping_sub(list.len());
-    octets.wrapping_add((spare as u64).wrapping_mul(size as u64))
+fn spare_octets(count: usize, octets: usize) -> u64 {
+    (count as u64).wrapping_mul(octets as u64)
 }
 
-/// Returns `true` if the vectors of the route have much spare capacity: more than [`MOST_SPARE`]
-/// octets and a [`SPARE_SHARE`]th of `octets`, the number of octets that the route takes.
+/// Returns `true` if the spare capacity of the route's vectors is more than the sum of
+/// [`MOST_SPARE`] octets and a [`SPARE_SHARE`]th of `octets`. `octets` is the number of octets that
+/// the route takes without spare capacity ([`route_size`](mrt_events::route_size)).
 #[inline]
 fn has_much_spare(route: &Route, octets: u64) -> bool {
     let attrs = &route.attrs;
-    let segments = &attrs.path.segments.items;
-    let mut spare = add_spare(0, &attrs.communities.items, NUMBER_OCTETS);
-    spare = add_spare(spare, segments, SEGMENT_OCTETS);
-    'segments: for segment in segments.iter() {
-        spare = add_spare(spare, &segment.numbers.items, NUMBER_OCTETS);
+    let segments = &attrs.path.segments;
+    let communities = &attrs.communities.items;
+    let spare_communities = communities.capacity().wrapping_sub(communities.len());
+    let mut spare = spare_octets(segments.spare_capacity(), SEGMENT_OCTETS);
+    spare = spare.wrapping_add(spare_octets(spare_communities, NUMBER_OCTETS));
+    'segments: for segment in segments.as_slice() {
+        let spare_numbers = segment.numbers.spare_capacity();
+        spare = spare.wrapping_add(spare_octets(spare_numbers, NUMBER_OCTETS));
     }
     spare > MOST_SPARE && spare - MOST_SPARE > octets / SPARE_SHARE
 }
@@ -58,9 +61,10 @@ fn copy_route(alloc: Global, route: &Route) -> Result<Rc<Route>, AllocError>
     Ok(Rc::new(alloc, copy)?)
 }
 
-/// Returns `route`, or a copy without spare capacity if its vectors have more than [`MOST_SPARE`]
-/// octets of it and a [`SPARE_SHARE`]th of `octets` (40 octets and a quarter). `octets` is the
-/// number of octets that the route takes. Fails if memory allocation fails.
+/// Returns `route`, or a copy of it without spare capacity if its vectors have much of that: more
+/// than the sum of [`MOST_SPARE`] octets and a [`SPARE_SHARE`]th of `octets`. `octets` is the
+/// number of octets that the route takes without spare capacity
+/// ([`route_size`](mrt_events::route_size)). Fails if memory allocation fails.
 #[inline]
 pub(crate) fn copy_if_oversized(
     alloc: Global,

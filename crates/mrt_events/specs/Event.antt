@@ -16,7 +16,8 @@ peer_cmp = then_cmp (on (λ p. p.addr) address_cmp) (on (λ p. p.asn) nat_cmp)
 
 -- ---- the values of items
 
--- the value of an item: its peer and its prefix, with the value of its route and not a handle to it
+-- one item of an event as plain data: a peer announced a route to a prefix or withdrew it, or the session with it
+-- changed its state. It has the route itself, not a handle to it
 pub data ItemValue : Type 0 where
   -- from now on the peer has this route to the prefix
   Announced : Peer → Network → Route → ItemValue
@@ -25,7 +26,7 @@ pub data ItemValue : Type 0 where
   -- the session with the peer went from the first state to the second, by their numbers (RFC 6396, section 4.4.1)
   Changed : Peer → ℕ → ℕ → ItemValue
 
--- the value of an item
+-- the item as plain data: with the route itself where the item has a handle to it, and all else as the item has it
 abbrev pub item_value : Item → ItemValue
 item_value (item.Announce peer network route) = Announced peer network route.value
 item_value (item.Withdraw peer network) = Withdrawn peer network

@@ -101,10 +101,10 @@ pub struct SharedRanges {
     pub end: usize,
 }
 
-/// The items of an event in order, and two ranges of them that are known to share a route: all
-/// items of one range announce prefixes of one peer with one route, which may differ from those of
-/// the other range ([`SharedRanges`]). In contracts, its value is the list of the items, each with
-/// the route itself instead of the `Rc`; the ranges don't show.
+/// The items of an event, in order, and two adjacent ranges of them, of which either may be empty
+/// ([`SharedRanges`]). All items of one range are known to announce prefixes of one peer with one
+/// route; the two ranges may differ in both. In contracts, the value is the list of the items, each
+/// with the route itself instead of the `Rc`; the ranges don't show.
 #[derive(Debug, Drop)]
 pub struct Items {
     items: Vec<Item>,
@@ -128,8 +128,8 @@ impl Items {
     ghost use Rattle.mrt_events.specs.Event.{item_value};
     ghost use Rattle.mrt_events.specs.SharedRoute.{AnnounceOneRoute, AreSharedRanges};
 
-    /// Converts a vector into items in the order that it has. No range of them is known to share a
-    /// route: [`Items::shared_ranges`] returns empty ones, which is always right.
+    /// Converts a vector into items, in its order. It doesn't look for items that share a route:
+    /// [`Items::shared_ranges`] returns two empty ranges for them, which is always right.
     pub fn from_vec(items: Vec<Item>) -> Items
         ensures { result ≡ map item_value items.items }
     {
@@ -143,10 +143,11 @@ impl Items {
         }
     }
 
-    /// Converts a vector into items in the order that it has, of which two ranges share a route, so
-    /// that users can handle these faster. Requires that the indices `start`, `middle` and `end` of
-    /// `shared` don't decrease and are at most the number of items, and that in each of the two
-    /// ranges all items are announcements of one peer with equal routes.
+    /// Converts a vector into items, in its order, of which the ranges `start..middle` and
+    /// `middle..end` of `shared` each share a route, so that users can handle these faster.
+    /// Requires that `start <= middle <= end`, that `end` is at most the number of items, and that
+    /// in each of the two ranges all items are announcements of one peer with equal routes. The two
+    /// ranges may have different peers and routes.
     pub fn with_shared_ranges(items: Vec<Item>, shared: SharedRanges) -> Items
         requires { AreSharedRanges shared (map item_value items.items) }
         ensures { result ≡ map item_value items.items }
@@ -169,9 +170,10 @@ impl Items {
         &self.items
     }
 
-    /// Returns the longer of the two ranges of items that are known to share a route, or the first
-    /// if they are of one length. All its items announce prefixes of one peer with one route. It
-    /// may be empty, and need not have all such items. Its indices are at most the number of items.
+    /// Returns the longer of the two ranges of [`Items::shared_ranges`], or the first if they are
+    /// of one length. All its items announce prefixes of one peer with one route. It may be empty,
+    /// and items outside of it may have this peer and route too. Its indices are at most the number
+    /// of items.
     pub fn longest_shared_range(&self) -> SharedRange
         ensures ordered { result.start ≤ result.end }
         ensures within { result.end ≤ length self.now }
@@ -184,9 +186,10 @@ impl Items {
         SharedRange { start, end: middle }
     }
 
-    /// Returns the two ranges of items that are known to share a route: in each, all items announce
-    /// prefixes of one peer with one route. Either range may be empty, and they need not have all
-    /// such items. Their indices are in order, and at most the number of items.
+    /// Returns two ranges of the indices of items, the second of which begins where the first ends.
+    /// In each, all items are known to announce prefixes of one peer with one route. Either range
+    /// may be empty, and items outside of both may share a route too. The indices are in ascending
+    /// order, and at most the number of items.
     pub fn shared_ranges(&self) -> SharedRanges
         ensures { AreSharedRanges result self.now }
     {

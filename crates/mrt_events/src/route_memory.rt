@@ -6,34 +6,36 @@ use crate::event::Route;
 use bgp_wire::Segment;
 
 /// The number of octets that every route is counted with at least: its fixed path attributes, and
-/// the allocator's overhead for its three blocks of memory.
-const ROUTE_OCTETS: u64 = 192;
+/// the allocator's overhead for its blocks of memory, the route and the list of communities.
+const ROUTE_OCTETS: u64 = 208;
 
 /// The number of octets that a segment of an AS path is counted with, without its AS numbers: its
-/// element in the path's list, and the allocator's overhead for its block of memory.
+/// element in the path's list, and the allocator's overhead for its block of memory and for that of
+/// the list. Most segments take fewer, as up to seven AS numbers are held in the element, and a
+/// single segment is held in the route and needs no list.
 const SEGMENT_OCTETS: u64 = 64;
 
 /// The number of octets that an AS number in a path, or a community, takes.
 const NUMBER_OCTETS: u64 = 4;
 
 /// The number of octets of spare capacity that a route has at most if it was parsed from octets:
-/// for 4 path segments (`MOST_SPARE` of `path_reader.rt` in `bgp_paths`), for 32 communities
-/// (`MOST_SPARE` of `attrs.rt` in `bgp_wire`), and what the allocator rounds up. A route with more
-/// takes more than is counted.
-const SPARE_OCTETS: u64 = 288;
+/// for 4 path segments of 40 octets (`MOST_SPARE` of `segments.rt` in `bgp_paths`), for 32
+/// communities (`MOST_SPARE` of `attrs.rt` in `bgp_wire`), and what the allocator rounds up. A route
+/// with more takes more than is counted.
+const SPARE_OCTETS: u64 = 336;
 
 /// The number of octets of spare capacity that a path segment has at most in a route that was
-/// parsed from octets: for 8 AS numbers (`MOST_SPARE` of `segment.rt` in `bgp_paths`). A segment
+/// parsed from octets: for 8 AS numbers (`MOST_SPARE` of `as_numbers.rt` in `bgp_paths`). A segment
 /// with more takes more than is counted.
 const SEGMENT_SPARE: u64 = 32;
 
 /// Returns the product of `count` and `octets`, or `u64::MAX` if it is greater.
 #[inline]
-fn saturating_size(count: usize, octets: u64) -> u64 {
+fn saturating_product(count: usize, octets: u64) -> u64 {
     (count as u64).saturating_mul(octets)
 }
 
-/// Returns the sum of the numbers of AS numbers that the segments have.
+/// Returns the total number of AS numbers in `segments`.
 #[inline]
 fn number_count(segments: &[Segment]) -> usize {
     // The numbers are all in memory, so that the sum never wraps.
@@ -50,10 +52,10 @@ fn number_count(segments: &[Segment]) -> usize {
 pub fn route_size(route: &Route) -> u64 {
     let attrs = &route.attrs;
     let segments = attrs.path.segments.as_slice();
-    let numbers = saturating_size(number_count(segments), NUMBER_OCTETS);
-    let communities = saturating_size(attrs.communities.as_slice().len(), NUMBER_OCTETS);
+    let numbers = saturating_product(number_count(segments), NUMBER_OCTETS);
+    let communities = saturating_product(attrs.communities.as_slice().len(), NUMBER_OCTETS);
     ROUTE_OCTETS
-        .saturating_add(saturating_size(segments.len(), SEGMENT_OCTETS))
+        .saturating_add(saturating_product(segments.len(), SEGMENT_OCTETS))
         .saturating_add(numbers)
         .saturating_add(communities)
 }
@@ -65,5 +67,5 @@ pub fn max_route_size(route: &Route) -> u64 {
     let segments = route.attrs.path.segments.as_slice().len();
     route_size(route)
         .saturating_add(SPARE_OCTETS)
-        .saturating_add(saturating_size(segments, SEGMENT_SPARE))
+        .saturating_add(saturating_product(segments, SEGMENT_SPARE))
 }

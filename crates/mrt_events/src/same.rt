@@ -67,14 +67,15 @@ fn same_aggregator(one: Option<Aggregator>, other: Option<Aggregator>) -> bool
 fn same_attributes(one: &Attrs, other: &Attrs) -> bool
     ensures { IsTrue result ↔ (one.now ≡ other.now) }
 {
-    same_option(one.next_hop, other.next_hop)
+    // Two routes of one peer differ in their paths more often than in anything else.
+    same_segments(one.path.segments.as_slice(), other.path.segments.as_slice())
+        && same_numbers(one.communities.as_slice(), other.communities.as_slice())
+        && same_option(one.next_hop, other.next_hop)
         && same_option(one.origin, other.origin)
         && same_option(one.local_pref, other.local_pref)
         && same_option(one.med, other.med)
         && one.atomic == other.atomic
         && same_aggregator(one.aggregator, other.aggregator)
-        && same_segments(one.path.segments.as_slice(), other.path.segments.as_slice())
-        && same_numbers(one.communities.as_slice(), other.communities.as_slice())
 }
 
 /// Returns `true` if two routes have equal times and equal path attributes, or `false` if any of
@@ -96,8 +97,8 @@ pub fn same_peer(one: &Peer, other: &Peer) -> bool
     one.asn == other.asn && one.addr == other.addr
 }
 
-/// Returns `true` if two prefixes are equal, in family, bits and length, as `==` does. Callers get
-/// the equality of the values in its contract.
+/// Returns `true` if two prefixes are equal, in family, length and bits, as `==` does. Its
+/// contract, unlike that of `==`, states that their values are equal, for the proofs of callers.
 #[inline]
 pub fn same_prefix(one: &Prefix, other: &Prefix) -> bool
     ensures { IsTrue result ↔ (one.now ≡ other.now) }

@@ -2,8 +2,9 @@
 //! the route last changed. A user of `mrt_wire` passes one to its source; the program takes it from
 //! its option `-t`.
 
-/// Which of two times becomes the time of a route ([`Route::time`](crate::Route)) that was read
-/// from a dump of a routing table (a TABLE_DUMP or TABLE_DUMP_V2 record).
+/// Which of two times becomes the time ([`Route::time`](crate::Route)) of a route that is read from
+/// a dump of a routing table (a TABLE_DUMP or TABLE_DUMP_V2 record): the timestamp in the header of
+/// the record, or the Originated Time in the entry.
 #[derive(Clone, Copy, Debug, PartialEq, Eq)]
 pub enum Stamp {
     /// The timestamp of the record: about when the table was dumped.

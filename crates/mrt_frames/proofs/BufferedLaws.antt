@@ -1,36 +1,8 @@
--- Octets that are buffered: whether they hold a whole record, and what reads take of them.
-use Rattle.std.proofs.Common.{◌≡◌, ℕ, ◌+◌, ◌-◌, ◌≤◌, ◌<◌, List, ◌++◌, length, take, drop, sym, ap, ◌∙◌, arith, length-append, length-take-le, append_assoc}
+-- Octets that are buffered: what reads take of them.
+use Rattle.std.proofs.Common.{◌≡◌, ℕ, ◌+◌, ◌-◌, ◌≤◌, ◌<◌, List, ◌++◌, length, take, sym, ap, ◌∙◌, arith, length-append, length-take-le, append_assoc}
 use Rattle.std.proofs.Math.Seq.{take-length}
-use Rattle.std.proofs.lemmas.List.{take-append-drop}
-use Rattle.mrt_frames.specs.Record.{FitsHeader, header_octets}
-use Rattle.mrt_frames.specs.Buffered.{HoldsRecord}
 use borrow.Rule.Slice.PartMut.{put_mid}
 use Rattle.mrt_frames.proofs.Buffers.{take-put_mid}
-use Rattle.mrt_frames.proofs.RecordLaws.{same_header}
-
--- a header and enough octets after it
-pub HoldsRecord-of : (octets : List ℕ) (s k t n : ℕ) → FitsHeader s k t n → header_octets s k t n ≡ take 12 octets → n ≤ length (drop 12 octets) → HoldsRecord octets
-HoldsRecord-of octets s k t n fits header enough = record {
-  seconds = s;
-  kind = k;
-  subtype = t;
-  size = n;
-  after = drop 12 octets;
-  fits = fits;
-  whole = sym (take-append-drop 12 octets) ∙ ap (λ front. front ++ drop 12 octets) (sym header);
-  enough = enough;
-}
-
--- fewer octets than a header has hold no record
-pub HoldsRecord-short : (octets : List ℕ) → length octets < 12 → HoldsRecord octets → ⊥
-HoldsRecord-short octets short holds =
-    omega (arith, ap length holds.whole, length-append (header_octets holds.seconds holds.kind holds.subtype holds.size) holds.after)
-
--- after the header of a record there are as many octets as it states
-pub HoldsRecord-size : (octets after : List ℕ) (s k t n : ℕ) → FitsHeader s k t n → octets ≡ header_octets s k t n ++ after → HoldsRecord octets → n ≤ length after
-HoldsRecord-size octets after s k t n fits whole holds =
-    let same = same_header s k t n holds.seconds holds.kind holds.subtype holds.size after holds.after fits holds.fits (sym whole ∙ holds.whole) in
-    omega (arith, same.size, holds.enough, ap length same.rest)
 
 -- what is read next is buffered, where all octets of a buffer were and the first of them are filled
 pub part_buffered : (old now buffer part : List ℕ) (at stop size : ℕ) → old ≡ take at buffer ++ now → at ≤ length buffer → at < stop → stop ≤ size → size ≤ length old → length part ≡ stop - at

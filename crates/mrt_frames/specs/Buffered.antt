@@ -2,7 +2,8 @@
 use Rattle.std.specs.Prelude.{◌≡◌, ℕ, ◌<◌, ◌≤◌, List, ◌++◌, length, Result, Ok}
 use Rattle.mrt_frames.specs.Record.{FitsHeader, header_octets}
 
--- buffered octets hold a whole record: a header, and at least as many octets after it as it states (RFC 6396, section 2)
+-- buffered octets hold a whole record: a header, and at least as many octets after it as it states (RFC 6396, section
+-- 2)
 pub record HoldsRecord (buffered : List ℕ) : Type 0 where
   pub seconds : ℕ
   pub kind : ℕ
@@ -13,7 +14,9 @@ pub record HoldsRecord (buffered : List ℕ) : Type 0 where
   pub whole : buffered ≡ header_octets seconds kind subtype size ++ after
   pub enough : size ≤ length after
 
--- a read into a slice of octets for which enough are buffered: it doesn't fail, fills the slice with the first of them, and leaves the others buffered
+-- a read after which its slice has the octets `buffer`: if the slice isn't empty, and not longer than the octets
+-- `old` buffered before, the read doesn't fail, returns the length of the slice, and takes its octets off the front
+-- of `old`, so that `new` are buffered then
 abbrev pub ReadsBuffered : {E : Type 0} → List ℕ → List ℕ → Result ℕ E → List ℕ → Type 0
 ReadsBuffered old new result buffer =
     0 < length buffer → length buffer ≤ length old → (result ≡ Ok (length buffer)) × (old ≡ buffer ++ new)

@@ -43,36 +43,38 @@ BeginsWithNoRecord octets = (r : Record) (more : List ℕ) → IsRecord r → oc
 -- ---- the rest: the octets after the last whole record, and their fault
 
 -- the length of the body that a header states, where the octets begin with that header. It means nothing of fewer
--- than 12 octets.
+-- than 12 octets
 abbrev pub stated_size : List ℕ → ℕ
 stated_size octets = from_be_bytes w32 (take 4 (drop 8 octets))
 
 -- the fault of a rest that isn't empty: `TooLong` where it has a whole header that states more than 16,777,216
--- octets, and `CutRecord` otherwise. It is `CutRecord` of no octets too, where `rest_fault` has no fault.
-abbrev pub rest_kind : List ℕ → RecordKind
-rest_kind rest =
+-- octets, and `CutRecord` otherwise. It is `CutRecord` of no octets too, where `rest_fault` has no fault
+abbrev pub rest_fault_kind : List ℕ → RecordKind
+rest_fault_kind rest =
     if nat_lt (length rest) HEADER_SIZE then CutRecord
     else (if nat_lt LONGEST_BODY (stated_size rest) then TooLong (stated_size rest) else CutRecord)
 
--- the fault of a rest, and `None` where it is empty, which is the end of the input
+-- the fault of the octets after the last whole record of an input: `TooLong` or `CutRecord`, as `rest_fault_kind` says;
+-- `None` if there are no such octets, which is the proper end of the input
 abbrev pub rest_fault : List ℕ → Option RecordKind
 rest_fault [] = None
-rest_fault (octet ∷ octets) = Some (rest_kind (octet ∷ octets))
+rest_fault (octet ∷ octets) = Some (rest_fault_kind (octet ∷ octets))
 
--- no length above the limit is stated: the octets begin with no whole header, or with one whose length a body may have
+-- no length above the limit is stated: the octets begin with no whole header, or with one that states at most
+-- 16,777,216 octets
 abbrev pub StatesNoExcess : List ℕ → Type 0
-StatesNoExcess octets = rest_kind octets ≡ CutRecord
+StatesNoExcess octets = rest_fault_kind octets ≡ CutRecord
 
 -- ---- what the reader of records took without reading a whole record
 
--- the octets are a rest, as far as it is read: they begin with no whole record, and where a header in them states too
--- much they end after it
+-- the octets may be all that is read after the last whole record of an input: they begin with no whole record, and if
+-- they begin with a header that states more than 16,777,216 octets, they are just this header
 pub record IsRest (octets : List ℕ) : Type 0 where
   pub none : BeginsWithNoRecord octets
   pub stops : StatesNoExcess octets ⊎ (length octets ≡ HEADER_SIZE)
 
--- the octets begin with no whole record, and a whole one may yet come of them, as more octets follow: no header in
--- them states too much. It holds of no octets, too.
+-- the octets, maybe none, may become a whole record as more octets follow: they begin with no whole record, and not
+-- with a header that states more than 16,777,216 octets
 pub record IsUnfinished (octets : List ℕ) : Type 0 where
   pub none : BeginsWithNoRecord octets
   pub cut : StatesNoExcess octets

@@ -44,9 +44,9 @@ pub struct RecordFault {
     pub offset: u64,
 }
 
-/// Why reading octets into memory that is already allocated failed: the input returned an error, or
-/// more octets than the limit would be read. It becomes a [`SourceFault`], which can also be an
-/// error of memory allocation.
+/// The error of reading octets into memory that is already allocated: the input returned an error,
+/// or more octets than the limit for the whole input would be read. It is converted into a
+/// [`SourceFault`], which can also be an error of memory allocation.
 #[derive(Clone, Copy)]
 pub(crate) enum TakeFault {
     /// A read of the input returned an error.

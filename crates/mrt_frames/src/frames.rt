@@ -47,7 +47,8 @@ enum NextHeader {
     Rest(Option<RecordKind>),
 }
 
-/// The next record of an input, or the end of the input.
+/// The next record of an input, or the end of the input. `F` is the type of the formats of bodies,
+/// by which the caller parses them: [`RecordTypes::BodyFormat`].
 #[derive(Clone, Copy)]
 pub enum NextRecord<F> {
     /// The header of a record of a supported type, and the format of its body, as [`RecordTypes`]
@@ -75,8 +76,8 @@ pub struct FrameReader {
 }
 
 impl FrameReader {
-    /// Returns a reader at the start of its input, which reads at most `limit` octets in all. It
-    /// allocates no memory yet.
+    /// Returns a reader at the start of its input, which reads at most `limit` octets in all: of
+    /// all records together, with their headers. It allocates no memory yet.
     pub fn new(alloc: Global, limit: u64) -> Self
         ensures limit { result.limit ≡ limit }
         ensures taken { result.taken ≡ 0 }
@@ -89,7 +90,8 @@ impl FrameReader {
     }
 
     /// Returns the number of octets read from the input so far: of headers and bodies, skipped ones
-    /// too, and of what was read before an error. It is at most the limit.
+    /// too, and of what was read before an error. It is at most the limit given to
+    /// [`FrameReader::new`].
     pub fn taken(&self) -> u64
         ensures taken { result ≡ self.now.taken }
         ensures within { self.now.taken ≤ self.now.limit }
@@ -109,8 +111,8 @@ impl FrameReader {
     }
 
     /// Reads the next header, or returns [`NextHeader::Rest`] if the input ends before or inside
-    /// it. Fails if a read fails or the limit is reached; a part of the header may have been read
-    /// then.
+    /// it. Fails if a read fails, or if the limit given to [`FrameReader::new`] is reached; a part
+    /// of the header may have been read then.
     #[inline(always)]
     fn take_header<I: Input>(&mut self, input: &mut I) -> Result<NextHeader, TakeFault>
         ensures octets { TakesOctets (TakesHeaderOrRest self.new.limit (source_answer result))
@@ -130,9 +132,9 @@ impl FrameReader {
     }
 
     /// Reads a body of `size` octets into the buffer of bodies. Returns `true` if it was read as a
-    /// whole, `false` if the input ends inside it. Fails if a read fails, the limit is reached, or
-    /// memory allocation fails; a part of the body may have been read then. Requires that `size` is
-    /// at most [`LONGEST_BODY`].
+    /// whole, `false` if the input ends inside it. Fails if a read fails, if the limit given to
+    /// [`FrameReader::new`] is reached, or if memory allocation fails; a part of the body may have
+    /// been read then. Requires that `size` is at most [`LONGEST_BODY`].
     #[inline(always)]
     fn take_body<I: Input>(&mut self, input: &mut I, size: u32) -> Result<bool, SourceFault>
         requires { size ≤ LONGEST_BODY }
@@ -157,8 +159,8 @@ impl FrameReader {
     }
 
     /// Reads a body of `size` octets from the input without keeping it. Returns `true` if all of it
-    /// was there, `false` if the input ends inside it. Fails if a read fails or the limit is
-    /// reached; a part of the body may have been read then.
+    /// was there, `false` if the input ends inside it. Fails if a read fails, or if the limit given
+    /// to [`FrameReader::new`] is reached; a part of the body may have been read then.
     #[inline(never)]
     fn skip_body<I: Input>(&mut self, input: &mut I, size: u32) -> Result<bool, TakeFault>
         ensures octets { TakesOctets (SkipsBody self.new.limit size (source_answer result))
@@ -184,9 +186,9 @@ impl FrameReader {
 
     /// Reads the next record from `input`, or returns [`NextRecord::Rest`] if there is no whole one
     /// or its body is too long. The body is kept for [`FrameReader::body`], or skipped if
-    /// `record_types` doesn't support the record. Fails if a read fails, the limit is reached, or
-    /// memory allocation fails; a part of the record may have been read then. No read fails if
-    /// `input` has the whole record in its buffer.
+    /// `record_types` doesn't support the record. Fails if a read fails, if the limit given to
+    /// [`FrameReader::new`] is reached, or if memory allocation fails; a part of the record may
+    /// have been read then. No read fails if `input` has the whole record in its buffer.
     #[inline(always)]
     pub fn take_record<P: RecordTypes, I: Input>(
         &mut self,

@@ -66,7 +66,7 @@ pub(crate) fn read_header(octets: &[u8; HEADER_SIZE]) -> Header
 /// the header states, whatever that is. Returns `false` if `octets` ends before or inside the
 /// record.
 #[inline]
-pub(crate) fn begins_with_record(octets: &[u8]) -> bool
+pub(crate) fn begins_with_whole_record(octets: &[u8]) -> bool
     ensures { IsTrue result ↔ HoldsRecord octets.now }
 {
     let Some((header, body)) = octets.split_first_chunk::<HEADER_SIZE>() else {

@@ -195,5 +195,5 @@ no_octets_without_a_split_within (suc most) stamp index octets within small none
 ]
 
 -- no octets are without a split
-pub law_no_octets_without_a_split : (stamp : Stamp) (index : PeerTable) (octets : List ℕ) → IsOctets octets → ((frames : List Frame) (rest : List ℕ) → Splits stamp index octets frames rest → ⊥) → ⊥
-law_no_octets_without_a_split stamp index octets small = no_octets_without_a_split_within (length octets) stamp index octets (omega arith) small
+pub law_input_splits_into_records : (stamp : Stamp) (index : PeerTable) (octets : List ℕ) → IsOctets octets → ((frames : List Frame) (rest : List ℕ) → Splits stamp index octets frames rest → ⊥) → ⊥
+law_input_splits_into_records stamp index octets small = no_octets_without_a_split_within (length octets) stamp index octets (omega arith) small

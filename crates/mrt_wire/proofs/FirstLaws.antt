@@ -12,7 +12,7 @@ use Rattle.mrt_frames.specs.declared.fault.SourceFault.{SourceFault}
 use Rattle.mrt_wire.specs.declared.next.Next.{Next}
 use Rattle.mrt_wire.specs.declared.next.Next.TheVariants as next
 use Rattle.mrt_frames.specs.declared.header.TheConstants.{LONGEST_BODY}
-use Rattle.mrt_frames.specs.Record.{Record, spelling, IsRecord, BeginsWithNoRecord, stated_size, rest_kind, rest_fault, IsRest}
+use Rattle.mrt_frames.specs.Record.{Record, spelling, IsRecord, BeginsWithNoRecord, stated_size, rest_fault_kind, rest_fault, IsRest}
 use Rattle.mrt_wire.specs.Results.{Frame, Splits, spellings, RecordResult, Found, Bad, fault_results, SourceState, results, TakesFront}
 use Rattle.mrt_wire.specs.Answered.{NextReturns, answer_results, MayFollow, AnswersFrame, AnswersRest}
 use Rattle.mrt_wire.proofs.SplitLaws.{frames_first, frames_all}
@@ -38,8 +38,8 @@ stated_size-front octets more size =
     ap (from_be_bytes w32) (ap (take 4) behind ∙ take-append-le 4 back more long)
 
 -- nor the fault of a rest
-rest_kind-front : (octets more : List ℕ) → length octets ≡ 12 → rest_kind (octets ++ more) ≡ rest_kind octets
-rest_kind-front octets more size =
+rest_fault_kind-front : (octets more : List ℕ) → length octets ≡ 12 → rest_fault_kind (octets ++ more) ≡ rest_fault_kind octets
+rest_fault_kind-front octets more size =
     (λ i. cond (short i) CutRecord (cond (nat_lt LONGEST_BODY (same i)) (TooLong (same i)) CutRecord))
   where
     short : nat_lt (length (octets ++ more)) 12 ≡ nat_lt (length octets) 12
@@ -51,11 +51,11 @@ rest_kind-front octets more size =
 -- the fault of octets that aren't empty
 rest_fault-front : (octets more : List ℕ) → length octets ≡ 12 → rest_fault (octets ++ more) ≡ rest_fault octets
 rest_fault-front [] more size = absurd (omega (arith, size))
-rest_fault-front (octet ∷ octets) more size = ap Some (rest_kind-front (octet ∷ octets) more size)
+rest_fault-front (octet ∷ octets) more size = ap Some (rest_fault_kind-front (octet ∷ octets) more size)
 
 -- a length that isn't too long is no fault but a cut
-rest_kind-small : (octets : List ℕ) → stated_size octets ≤ LONGEST_BODY → rest_kind octets ≡ CutRecord
-rest_kind-small octets small = elim (cases_lt (length octets) 12) [
+rest_fault_kind-small : (octets : List ℕ) → stated_size octets ≤ LONGEST_BODY → rest_fault_kind octets ≡ CutRecord
+rest_fault_kind-small octets small = elim (cases_lt (length octets) 12) [
   | inl short ↦ ap (λ b. cond b CutRecord (cond (nat_lt LONGEST_BODY (stated_size octets)) (TooLong (stated_size octets)) CutRecord)) (lt-ltb (length octets) 12 short)
   | inr long ↦
       ap (λ b. cond b CutRecord (cond (nat_lt LONGEST_BODY (stated_size octets)) (TooLong (stated_size octets)) CutRecord)) (le-ltb (length octets) 12 long)
@@ -63,7 +63,7 @@ rest_kind-small octets small = elim (cases_lt (length octets) 12) [
 ]
 
 -- an answer to a cut record, or to none, saw the end
-nothing_follows : (answer : Next) (number offset : ℕ) (octets more : List ℕ) → answer_results answer ≡ fault_results number offset (rest_fault octets) → rest_kind octets ≡ CutRecord → MayFollow answer more → more ≡ []
+nothing_follows : (answer : Next) (number offset : ℕ) (octets more : List ℕ) → answer_results answer ≡ fault_results number offset (rest_fault octets) → rest_fault_kind octets ≡ CutRecord → MayFollow answer more → more ≡ []
 nothing_follows (next.Event event) number offset [] more tells cut follows = cc
 nothing_follows (next.Event event) number offset (octet ∷ octets) more tells cut follows = cc
 nothing_follows (next.Bad fault) number offset [] more tells cut follows = cc
@@ -85,7 +85,7 @@ RestStays-end octets more none end =
     let whole : octets ++ more ≡ octets = ap (λ l. octets ++ l) end ∙ append-nil octets in
     record { none = subst BeginsWithNoRecord (sym whole) none; fault = ap rest_fault whole }
 
-pub RestStays-rest : (octets more : List ℕ) → IsRest octets → (rest_kind octets ≡ CutRecord → more ≡ []) → RestStays octets more
+pub RestStays-rest : (octets more : List ℕ) → IsRest octets → (rest_fault_kind octets ≡ CutRecord → more ≡ []) → RestStays octets more
 RestStays-rest octets more rest end = elim rest.stops [
   | inl cut ↦ RestStays-end octets more rest.none (end cut)
   | inr size ↦ elim (cases_lt LONGEST_BODY (stated_size octets)) [
@@ -93,7 +93,7 @@ RestStays-rest octets more rest end = elim rest.stops [
       none = BeginsWithNoRecord-stated (octets ++ more) (omega (arith, long, stated_size-front octets more size));
       fault = rest_fault-front octets more size;
     }
-    | inr small ↦ RestStays-end octets more rest.none (end (rest_kind-small octets small))
+    | inr small ↦ RestStays-end octets more rest.none (end (rest_fault_kind-small octets small))
   ]
 ]
 

@@ -8,7 +8,7 @@ use Rattle.mrt_frames.specs.declared.fault.SourceFault.{SourceFault}
 use Rattle.mrt_wire.specs.declared.next.Next.{Next}
 use Rattle.mrt_wire.specs.declared.next.Phase.{Phase}
 use Rattle.mrt_wire.specs.declared.next.Phase.TheVariants.{Reading, Ended, Spent}
-use Rattle.mrt_frames.specs.Record.{header_octets, spelling, IsRecord, BeginsWithNoRecord, rest_kind, rest_fault}
+use Rattle.mrt_frames.specs.Record.{header_octets, spelling, IsRecord, BeginsWithNoRecord, rest_fault_kind, rest_fault}
 use Rattle.mrt_frames.specs.Taken.{EndsAt}
 use Rattle.mrt_wire.specs.Results.{Frame, ReadsAs, index_after, AreFrames, Splits, spellings, RecordResult, record_result, fault_results, SourceState, state_after, results}
 use Rattle.mrt_wire.specs.Answered.{NextReturns, answer_results, AnswersFrame, AnswersRest, HasAnswered, RestSoFar, is_nothing, state_after_all}
@@ -130,7 +130,7 @@ first_of_frames p done frames more rest are are' none joined =
     (results (state_after_all p done) behind.later rest, ap (λ f. results p f rest) behind.frames_are ∙ results-append p done behind.later rest)
 
 -- whatever follows frames and a rest
-all_of_frames : (p q : SourceState) (left : Option (List ℕ)) (done frames : List Frame) (last more rest : List ℕ) → EndsAt left last → (rest_kind last ≡ CutRecord → more ≡ []) → AreFrames p.stamp p.index done
+all_of_frames : (p q : SourceState) (left : Option (List ℕ)) (done frames : List Frame) (last more rest : List ℕ) → EndsAt left last → (rest_fault_kind last ≡ CutRecord → more ≡ []) → AreFrames p.stamp p.index done
     → AreFrames p.stamp p.index frames → BeginsWithNoRecord rest → spellings done ++ (last ++ more) ≡ spellings frames ++ rest → FirstSoFar p q (results p done last) frames rest
 all_of_frames p q left done frames last more rest ends follows are are' none joined =
     let stays = RestStays-rest last more ends.rest follows in
@@ -144,7 +144,7 @@ all_of_frames p q left done frames last more rest ends follows are are' none joi
     }
 
 pub first_so_far : (p q : SourceState) (left left' : Option (List ℕ)) (found : List RecordResult) → (s : HasAnswered p q left left' found) → (more : List ℕ)
-    → (q.phase ≡ Ended → rest_kind s.rest ≡ CutRecord → IsAtEnd left' → more ≡ [])
+    → (q.phase ≡ Ended → rest_fault_kind s.rest ≡ CutRecord → IsAtEnd left' → more ≡ [])
     → (frames : List Frame) (rest : List ℕ) → Splits p.stamp p.index ((spellings s.frames ++ s.rest) ++ more) frames rest → FirstSoFar p q found frames rest
 first_so_far p q left left' found s more follows frames rest split = subst (λ f. FirstSoFar p q f frames rest) (sym s.found_is) (by_phase q.phase refl s.rest_is)
   where

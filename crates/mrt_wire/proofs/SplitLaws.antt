@@ -85,7 +85,7 @@ frames_all stamp index found frames more rest p q end none e =
     nothing_behind (f ∷ later) index are octets records = absurd (end f.mrt (spellings later ++ rest) records.0 (octets ∙ append_assoc (spelling f.mrt) (spellings later) rest))
 
 -- octets split in one way
-pub law_one_split : (stamp : Stamp) (index : PeerTable) (octets : List ℕ) (frames frames' : List Frame) (rest rest' : List ℕ) → Splits stamp index octets frames rest
+pub law_input_splits_in_one_way : (stamp : Stamp) (index : PeerTable) (octets : List ℕ) (frames frames' : List Frame) (rest rest' : List ℕ) → Splits stamp index octets frames rest
     → Splits stamp index octets frames' rest' → (frames ≡ frames') × (rest ≡ rest')
-law_one_split stamp index octets frames frames' rest rest' p q =
+law_input_splits_in_one_way stamp index octets frames frames' rest rest' p q =
     frames_all stamp index frames' frames rest' rest q.are_frames p.are_frames q.none p.none (sym q.whole ∙ p.whole)

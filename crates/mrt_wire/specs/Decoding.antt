@@ -29,7 +29,7 @@ use Rattle.mrt_wire.specs.declared.rib_route.RawAttrs.{RawAttrs}
 use Rattle.mrt_wire.specs.declared.session.SessionItems.{SessionItems}
 use Rattle.mrt_wire.specs.declared.update.AnnouncedPrefixes.{AnnouncedPrefixes}
 use Rattle.bgp_wire.specs.declared.attrs.Attrs.{Attrs}
-use Rattle.mrt_wire.specs.declared.table_dump.EntryFields.{EntryFields}
+use Rattle.mrt_wire.specs.declared.table_dump.TableDumpFields.{TableDumpFields}
 use Rattle.mrt_frames.specs.Record.{Record}
 use Rattle.mrt_wire.specs.Rib.{RibEntry, PrefixEntries, SpellsEntries, AreTableDumpFields}
 use Rattle.mrt_wire.specs.Items.{announcements, route_of, entry_items, entry_time, entries_items, first_unknown, session_items}
@@ -120,7 +120,7 @@ SpellsEntryItems context prefix parsed octets =
 
 -- the octets begin with the body of a TABLE_DUMP, which has these fields; its view number, sequence number and status
 -- may be any
-abbrev pub BeginsWithEntryFields : Family → EntryFields → List ℕ → Type 0
-BeginsWithEntryFields family f octets =
+abbrev pub BeginsWithTableDumpFields : Family → TableDumpFields → List ℕ → Type 0
+BeginsWithTableDumpFields family f octets =
     (numbers status more : List ℕ)
     × Begins (AreTableDumpFields family) (numbers, (f.prefix, (status, (f.time, (f.peer, f.attributes.now))))) more octets

@@ -10,12 +10,12 @@ use Rattle.bgp_wire.specs.Update.{with_u16_length}
 use Rattle.bgp_wire.specs.Attribute.{SpellsAddressOctets}
 use Rattle.mrt_events.specs.declared.peer.Peer.{Peer}
 
--- the octets are one, which is the number
+-- the octets are one, which is `n`, below 256
 pub record SpellsOctet (n : ℕ) (octets : List ℕ) : Type 0 where
   pub fits : n < 256
   pub whole : octets ≡ n ∷ []
 
--- the octets are the two that spell the number
+-- the octets are two, which are `n`, below 2^16, as a big-endian number
 abbrev pub SpellsShort : ℕ → List ℕ → Type 0
 SpellsShort n octets = SpellsNumber w16 (2 ^ 16) n octets
 

@@ -29,18 +29,21 @@ route_of attrs time = record { attrs = attrs; time = time }
 abbrev pub first_unknown : List Peer → List RibEntry → Option ℕ
 first_unknown peers entries = find (λ number. is_none (slice_get peers number)) (map (λ entry. entry.index) entries)
 
--- the announcement of a prefix by a RIB entry, in a record with this timestamp. It is none where the peer index of
--- the entry isn't below the number of peers.
+-- the announcement of `prefix` by RIB entry `entry`, in a record with timestamp `seconds`, as a list of one; it is
+-- empty if the entry's peer index isn't below the number of `peers`. `stamp` chooses the time of the route:
+-- `seconds`, or the Originated Time of the entry
 abbrev pub entry_items : List Peer → Stamp → ℕ → Network → RibEntry → List ItemValue
 entry_items peers stamp seconds prefix entry =
     map (λ peer. Announced peer prefix (route_of entry.attrs (entry_time stamp seconds entry.time)))
     (option_to_list (slice_get peers entry.index))
 
--- the announcements of all RIB entries of a record with this timestamp, in order
+-- the announcements of the prefix of `rib` by its RIB entries, in order, in a record with timestamp `seconds`, where
+-- `peers` are those of the peer index table; `stamp` chooses the times of the routes: `seconds`, or Originated Times
 abbrev pub entries_items : List Peer → Stamp → ℕ → PrefixEntries → List ItemValue
 entries_items peers stamp seconds rib = flat_map (entry_items peers stamp seconds rib.prefix) rib.entries
 
--- the announcement of a TABLE_DUMP record with this timestamp
+-- the announcement of `entry`, as a list of one, in a TABLE_DUMP record with timestamp `seconds`; `stamp` chooses the
+-- time of the route: `seconds`, or the Originated Time of the entry
 abbrev pub table_dump_items : Stamp → ℕ → TableDumpEntry → List ItemValue
 table_dump_items stamp seconds entry =
     Announced entry.peer entry.prefix (route_of entry.attrs (entry_time stamp seconds entry.time)) ∷ []
@@ -51,8 +54,8 @@ table_dump_items stamp seconds entry =
 abbrev pub announcements : Peer → Route → List Network → List ItemValue
 announcements peer route prefixes = map (λ prefix. Announced peer prefix route) prefixes
 
--- the announcements of MP_REACH_NLRI, with its own attributes, at this time in seconds. They are none where there are
--- no such attributes.
+-- the announcements by `peer` of `prefixes`, those of MP_REACH_NLRI, each of a route with `attrs`, the attributes
+-- that have its next hop, and with the time `seconds`; none if the attributes are `None`
 abbrev pub mp_announcements : Peer → ℕ → Option Attrs → List Network → List ItemValue
 mp_announcements peer seconds None prefixes = []
 mp_announcements peer seconds (Some attrs) prefixes = announcements peer (route_of attrs seconds) prefixes

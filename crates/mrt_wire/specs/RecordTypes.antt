@@ -37,6 +37,6 @@ body_format kind subtype =
 abbrev pub HasBodyFormat : ℕ → ℕ → BodyFormat → Type 0
 HasBodyFormat kind subtype form = body_format kind subtype ≡ Some form
 
--- the type and subtype of the record are supported
+-- the type and subtype of record `r` are supported: they have a format of bodies (`body_format`)
 abbrev pub IsSupported : Record → Type 0
 IsSupported r = (form : BodyFormat) × HasBodyFormat r.kind r.subtype form

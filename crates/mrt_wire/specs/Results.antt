@@ -53,7 +53,8 @@ entries_fault None unknown = Some NoIndex
 entries_fault (Some peers) None = None
 entries_fault (Some peers) (Some number) = Some (PeerIndex number)
 
--- the fault of a record whose body has this content, with this peer index table before it
+-- the fault of a record whose body has this content, with peer index table `index` before it, or `None`: only RIB
+-- entries can have one, that of a peer index
 abbrev pub content_fault : PeerTable → Content → Option RecordKind
 content_fault index (Entry entry) = None
 content_fault index (Peers peers) = None
@@ -69,7 +70,8 @@ session_tag (Some micros) = Bgp4mpEt
 abbrev pub event_at : ℕ → Option ℕ → Tag → List ItemValue → Event
 event_at seconds micros tag items = record { time = record { seconds = seconds; micros = micros }; tag = tag; items = items }
 
--- the event of an accepted record with this content, with this peer index table before it
+-- the event of accepted record `r`, whose body has this content, with peer index table `index` before it; `stamp`
+-- chooses the times of table entries
 abbrev pub event_of : Stamp → PeerTable → Record → Content → Event
 event_of stamp index r (Entry entry) = event_at r.seconds None TableDump (table_dump_items stamp r.seconds entry)
 event_of stamp index r (Peers peers) = event_at r.seconds None TableDump2 []
@@ -84,14 +86,15 @@ HasFault index r kind =
     ⊎ ((IsSupported r × ((content : Content) → IsBody r.kind r.subtype content r.body → ⊥) × (kind ≡ Malformed))
     ⊎ ((content : Content) × IsBody r.kind r.subtype content r.body × (content_fault index content ≡ Some kind)))
 
--- the body of the record has this content, which has no fault with this peer index table before it, and this is its
--- event
+-- record `r` is accepted, with peer index table `index` before it: its body spells `content`, which has no fault, and
+-- `event` is the event of it, with times chosen by `stamp`
 pub record MakesEvent (stamp : Stamp) (index : PeerTable) (r : Record) (content : Content) (event : Event) : Type 0 where
   pub is_body : IsBody r.kind r.subtype content r.body
   pub sound : content_fault index content ≡ None
   pub made : event ≡ event_of stamp index r content
 
--- the record has this outcome, with this peer index table before it
+-- record `r` has this outcome, with peer index table `index` before it: accepted, with the content of its body and
+-- the event of it (times chosen by `stamp`), or refused, with the first fault that it has
 abbrev pub ReadsAs : Stamp → PeerTable → Record → RecordOutcome → Type 0
 ReadsAs stamp index r (Accepted content event) = MakesEvent stamp index r content event
 ReadsAs stamp index r (Refused kind) = HasFault index r kind
@@ -99,7 +102,7 @@ ReadsAs stamp index r (Refused kind) = HasFault index r kind
 -- ---- frames, the state of a source, and the results of an input
 
 -- `taken` was taken off the front of an input that knows its octets, and `after` is left. It doesn't hold of an input
--- that doesn't know them.
+-- that doesn't know them
 pub record TakesFront (old new : Option (List ℕ)) (taken after : List ℕ) : Type 0 where
   pub before : old ≡ Some (taken ++ after)
   pub now : new ≡ Some after
@@ -108,14 +111,15 @@ pub record TakesFront (old new : Option (List ℕ)) (taken after : List ℕ) : T
 abbrev pub spellings : List Frame → List ℕ
 spellings frames = flat_map (λ frame. spelling frame.mrt) frames
 
--- each frame has a record and the outcome of it, with this peer index table before the first record, and before each
--- further one the table that the records before it leave
+-- each frame is a record with the outcome that it has, with peer index table `index` before the first, and before
+-- each further one the table that the records before it leave; `stamp` chooses the times of table entries
 abbrev pub AreFrames : Stamp → PeerTable → List Frame → Type 0
 AreFrames stamp index [] = Unit {0}
 AreFrames stamp index (frame ∷ frames) =
     IsRecord frame.mrt × ReadsAs stamp index frame.mrt frame.outcome × AreFrames stamp (index_after index frame.outcome) frames
 
--- the octets are those of the frames and then a rest, which begins with no whole record
+-- `octets` are those of the records of `frames` and then `rest`, which begins with no whole record; the frames have
+-- the outcomes of these records, with peer index table `index` before the first and times chosen by `stamp`
 pub record Splits (stamp : Stamp) (index : PeerTable) (octets : List ℕ) (frames : List Frame) (rest : List ℕ) : Type 0 where
   pub whole : octets ≡ spellings frames ++ rest
   pub are_frames : AreFrames stamp index frames
@@ -126,7 +130,8 @@ pub data RecordResult : Type 0 where
   Found : Event → RecordResult
   Bad : RecordFault → RecordResult
 
--- what an input has at a record of this number, counted from 1, with a header at this offset, and with this outcome
+-- the result of a record with this outcome: its event, or its fault, with the record's number, counted from 1, and
+-- the offset of its header
 abbrev pub record_result : ℕ → ℕ → RecordOutcome → RecordResult
 record_result number offset (Accepted content event) = Found event
 record_result number offset (Refused kind) = Bad (record { number = number; offset = offset; kind = kind })
@@ -136,8 +141,9 @@ abbrev pub fault_results : ℕ → ℕ → Option RecordKind → List RecordResu
 fault_results number offset None = []
 fault_results number offset (Some kind) = Bad (record { number = number; offset = offset; kind = kind }) ∷ []
 
--- the state of a source, as contracts see it: the peer index table, how many records and octets it has read, how many
--- octets it may read, the choice of the time of table entries, and the phase
+-- the state of a source, which reads records from an input, as contracts see it: the peer index table, how many
+-- records (`number`) and octets (`offset`) it has read, how many octets it may read, which time table entries get
+-- (`stamp`), and whether it reads, has ended or has failed (`phase`)
 pub record SourceState : Type 0 where
   pub index : PeerTable
   pub number : ℕ

@@ -28,23 +28,23 @@ peer_family kind = if bit_and kind IPV6_PEER == 0 then V4 else V6
 abbrev pub peer_width : ℕ → AsWidth
 peer_width kind = if bit_and kind AS4_PEER == 0 then Two else Four
 
--- the octets of Peer Type, Peer BGP ID, Peer IP Address and Peer AS. The value is the type, the octets of the BGP ID,
--- and the peer.
+-- the octets are those of Peer Type, Peer BGP ID, Peer IP Address and Peer AS. The value is the type, the octets of
+-- the BGP ID, and the peer
 abbrev pub SpellsPeerFields : ℕ × (List ℕ × Peer) → List ℕ → Type 0
 SpellsPeerFields =
     SpellsPair SpellsOctet (λ kind. SpellsPair (AreOctets ID_SIZE) (λ id. SpellsPeerOf (peer_family kind) (peer_width kind)))
 
--- the octets of a peer entry with this peer; its BGP ID may be any octets
+-- the octets are those of a peer entry with this peer; its BGP ID may be any octets
 abbrev pub SpellsPeer : Peer → List ℕ → Type 0
 SpellsPeer peer octets =
     (kind : ℕ) × (id : List ℕ) × SpellsPeerFields (kind, (id, peer)) octets
 
--- the octets of Collector BGP ID, and of View Name after its length. The value is the octets of both, which may be
--- any.
+-- the octets are those of Collector BGP ID, and of View Name after its length. The value is the octets of both, which
+-- may be any
 abbrev pub SpellsView : List ℕ × List ℕ → List ℕ → Type 0
 SpellsView = SpellsPair (AreOctets ID_SIZE) (λ id. AreSized)
 
--- the octets of the body of a PEER_INDEX_TABLE with these peers: any collector and view name, the number of the
+-- the octets are the body of a PEER_INDEX_TABLE with these peers: any collector and view name, the number of the
 -- peers, the peer entries, and then any octets
 abbrev pub SpellsPeerIndex : List Peer → List ℕ → Type 0
 SpellsPeerIndex = SpellsAfter SpellsView (λ view. SpellsFront (SpellsCounted SpellsPeer))
@@ -62,27 +62,28 @@ pub record PrefixEntries : Type 0 where
   pub prefix : Network
   pub entries : List RibEntry
 
--- the octets of Peer Index, Originated Time, and BGP Attributes after their length. The value is the index, the time,
--- and the octets of the attributes.
+-- the octets are those of Peer Index, Originated Time, and BGP Attributes after their length. The value is the index,
+-- the time, and the octets of the attributes
 abbrev pub AreEntryFields : ℕ × (ℕ × List ℕ) → List ℕ → Type 0
 AreEntryFields = SpellsPair SpellsShort (λ index. SpellsPair SpellsU32 (λ time. AreSized))
 
--- the octets of a RIB entry for a prefix of this family; AS numbers in its attributes have four octets
+-- the octets are a RIB entry for a prefix of this family; AS numbers in its attributes have four octets
 abbrev pub SpellsEntry : Family → RibEntry → List ℕ → Type 0
 SpellsEntry family entry octets =
     (attributes : List ℕ) × AreEntryFields (entry.index, (entry.time, attributes)) octets
     × SpellsRibAttrs family Four entry.attrs attributes
 
--- the octets of RIB entries for a prefix of this family: their number in two octets, the entries, and then any octets
+-- the octets are RIB entries for a prefix of this family: their number in two octets, the entries, and then any
+-- octets
 abbrev pub SpellsEntries : Family → List RibEntry → List ℕ → Type 0
 SpellsEntries family = SpellsFront (SpellsCounted (SpellsEntry family))
 
--- the octets of a prefix of this family and of its entries, and then any octets
+-- the octets are those of a prefix of this family and of its entries, and then any octets
 abbrev pub SpellsPrefixAndEntries : Family → PrefixEntries → List ℕ → Type 0
 SpellsPrefixAndEntries family rib octets =
     SpellsPair (SpellsNetwork family) (λ prefix. SpellsEntries family) (rib.prefix, rib.entries) octets
 
--- the octets of the body of a RIB_IPV4_UNICAST or, for V6, of a RIB_IPV6_UNICAST: any sequence number, the prefix,
+-- the octets are the body of a RIB_IPV4_UNICAST or, for V6, of a RIB_IPV6_UNICAST: any sequence number, the prefix,
 -- its entries, and then any octets
 abbrev pub SpellsRib : Family → PrefixEntries → List ℕ → Type 0
 SpellsRib family = SpellsAfter (AreOctets SEQUENCE_SIZE) (λ sequence. SpellsPrefixAndEntries family)
@@ -97,8 +98,8 @@ pub record TableDumpEntry : Type 0 where
   pub attrs : Attrs
   pub time : ℕ
 
--- the octets of Prefix and Prefix Length: an address of this family, and the number of its leading bits that make the
--- prefix, in an octet. The bits after them may be any.
+-- the octets are those of Prefix and Prefix Length: an address of this family, and in an octet the number of its
+-- leading bits that make `prefix`. The bits after them may be any
 pub record SpellsAddressAndLength (family : Family) (prefix : Network) (octets : List ℕ) : Type 0 where
   pub address : Address
   pub len : ℕ
@@ -106,17 +107,17 @@ pub record SpellsAddressAndLength (family : Family) (prefix : Network) (octets :
   pub fits : len ≤ bit_count family
   pub first_bits : prefix ≡ network_of address len
 
--- the octets of View Number and Sequence Number, Prefix and Prefix Length, Status, Originated Time, Peer IP Address,
--- Peer AS in two octets, and BGP Attributes after their length. The value has the octets of the two numbers, of the
--- status and of the attributes, and the others as they are read.
+-- the octets are the fields of a TABLE_DUMP body with a prefix of this family: View Number and Sequence Number, the
+-- prefix and its length, Status, Originated Time, the peer, with an AS number of two octets, and the attributes after
+-- their length. The value has these in order: the first two, Status and the attributes as octets, which may be any
 abbrev pub AreTableDumpFields : Family → List ℕ × (Network × (List ℕ × (ℕ × (Peer × List ℕ)))) → List ℕ → Type 0
 AreTableDumpFields family =
     SpellsPair (AreOctets NUMBERS_SIZE) (λ numbers. SpellsPair (SpellsAddressAndLength family) (λ prefix.
     SpellsPair (AreOctets STATUS_SIZE) (λ status. SpellsPair SpellsU32 (λ time.
     SpellsPair (SpellsPeerOf family Two) (λ peer. AreSized)))))
 
--- the octets of the body of a TABLE_DUMP for a prefix of this family, and then any octets; AS numbers in its
--- attributes have two octets. View number, sequence number and status may be any.
+-- the octets are the body of a TABLE_DUMP for a prefix of this family, and then any octets; AS numbers in its
+-- attributes have two octets. View number, sequence number and status may be any
 abbrev pub SpellsTableDump : Family → TableDumpEntry → List ℕ → Type 0
 SpellsTableDump family entry octets =
     (numbers status attributes more : List ℕ)

@@ -38,56 +38,59 @@ pub record SessionBody : Type 0 where
   pub content : SessionContent
   pub micros : Option ℕ
 
--- the two octets of an address family: 1 for IPv4, 2 for IPv6
+-- the octets are the two of an address family: 0 and 1 for IPv4, 0 and 2 for IPv6
 abbrev pub SpellsFamily : Family → List ℕ → Type 0
 SpellsFamily family octets = octets ≡ 0 ∷ family_code family ∷ []
 
--- the octets of Peer AS Number, Local AS Number and Interface Index, with AS numbers of this width. The value is the
--- peer's number, and the octets of the other two, which may be any.
+-- the octets are those of Peer AS Number, Local AS Number and Interface Index, with AS numbers of this width. The
+-- value is the peer's number, and the octets of the other two, which may be any
 abbrev pub AreAsnFields : AsWidth → ℕ × (List ℕ × List ℕ) → List ℕ → Type 0
 AreAsnFields width =
     SpellsPair (SpellsAsn width) (λ asn. SpellsPair (AreOctets (asn_size width)) (λ local_asn. AreOctets INTERFACE_SIZE))
 
--- the octets of Address Family, Peer IP Address and Local IP Address. The value is the family, the peer's address,
--- and the octets of the local address, which may be any.
+-- the octets are those of Address Family, Peer IP Address and Local IP Address. The value is the family, the peer's
+-- address, and the octets of the local address, which may be any
 abbrev pub AreAddressFields : Family × (Address × List ℕ) → List ℕ → Type 0
 AreAddressFields =
     SpellsPair SpellsFamily (λ family. SpellsPair (SpellsAddressOf family) (λ address. AreOctets (octet_count family)))
 
--- the octets of the session fields in front of a state change or a message, with this peer, and AS numbers of this
--- width. The local AS number, the interface index and the local address may be any.
+-- the octets are the session fields in front of a state change or a message, from Peer AS Number to Local IP Address,
+-- with this peer, and AS numbers of this width. The local AS number, the interface index and the local address may be
+-- any
 abbrev pub SpellsSessionPeer : AsWidth → Peer → List ℕ → Type 0
 SpellsSessionPeer width peer octets =
     (local_asn interface : List ℕ) × (family : Family) × (local_address : List ℕ)
     × SpellsPair (AreAsnFields width) (λ systems. AreAddressFields)
     ((peer.asn, (local_asn, interface)), (family, (peer.addr, local_address))) octets
 
--- the octets of STATE_CHANGE or STATE_CHANGE_AS4: the session fields, Old State, New State, and then any octets
+-- the octets are a state change, of BGP4MP_STATE_CHANGE or, with AS numbers of four octets, of
+-- BGP4MP_STATE_CHANGE_AS4: the session fields (`SpellsSessionPeer`), Old State, New State, and then any octets
 abbrev pub SpellsStateChange : AsWidth → StateChange → List ℕ → Type 0
 SpellsStateChange width change octets =
     SpellsPair (SpellsSessionPeer width) (λ peer. SpellsPair SpellsShort (λ old. SpellsFront SpellsShort)) (change.peer, (change.old, change.new)) octets
 
--- the octets of MESSAGE or MESSAGE_AS4: the session fields, and then a message, which takes all octets that are left
+-- the octets are a message of a peer, of BGP4MP_MESSAGE or, with AS numbers of four octets, of BGP4MP_MESSAGE_AS4:
+-- the session fields (`SpellsSessionPeer`), and then the BGP message, which takes all octets that are left
 abbrev pub SpellsPeerMessage : AsWidth → PeerMessage → List ℕ → Type 0
 SpellsPeerMessage width m octets =
     SpellsPair (SpellsSessionPeer width) (λ peer. SpellsMessage width) (m.peer, m.message) octets
 
--- the octets of a BGP4MP body without microseconds: those of a state change or of a message, as `kind` says, with AS
--- numbers of this width
+-- the octets are a BGP4MP body without microseconds: a state change or a message, as the kind says, with AS numbers
+-- of this width
 abbrev pub SpellsSessionContent : SessionKind → AsWidth → SessionContent → List ℕ → Type 0
 SpellsSessionContent kind.StateChange width said octets =
     (change : StateChange) × (said ≡ Change change) × SpellsStateChange width change octets
 SpellsSessionContent kind.Message width said octets =
     (message : PeerMessage) × (said ≡ Receipt message) × SpellsPeerMessage width message octets
 
--- the octets of the microseconds where a body begins with them: a number of four octets below 1,000,000. Where it
--- doesn't there are no octets, and `micros` is `None`.
+-- the octets are the microseconds at the start of a body, if the first argument is true: four, with a number below
+-- 1,000,000. If it is false there are no octets, and `micros` is `None`
 abbrev pub SpellsMicros : Bool → Option ℕ → List ℕ → Type 0
 SpellsMicros false micros octets = (micros ≡ None) × (octets ≡ [])
 SpellsMicros true micros octets = (n : ℕ) × (micros ≡ Some n) × (n < MICROS_PER_SECOND) × SpellsU32 n octets
 
--- the octets of a body of this format: the microseconds, where it begins with them, and then a state change or a
--- message
+-- the octets are the body of a BGP4MP or BGP4MP_ET record of this format: the microseconds, if `form.timed`, and then
+-- a state change or a message, as `form.kind` says, with AS numbers of `form.width`
 abbrev pub SpellsSessionBody : SessionFormat → SessionBody → List ℕ → Type 0
 SpellsSessionBody form body octets =
     SpellsPair (SpellsMicros form.timed) (λ micros. SpellsSessionContent form.kind form.width) (body.micros, body.content) octets

@@ -1,6 +1,6 @@
 //! Theorems about the definitions that the contracts of this crate cite. The functions have no code
 //! and nothing calls them: what they state is proved as the crate is checked. `docs/proved.md`
-//! names them. Read [`law_one_split`] first.
+//! names them. Read [`law_input_splits_in_one_way`] first.
 
 ghost use Rattle.std.specs.Prelude.{◌≡◌, ℕ, List};
 ghost use Rattle.mrt_events.specs.declared.stamp.Stamp.{Stamp};
@@ -18,7 +18,7 @@ ghost use Rattle.mrt_wire.specs.Answered.{SplitsOneWay};
 /// States that the body of a record of a given type and subtype can be parsed in at most one way:
 /// what it holds (a routing table entry, the peers or entries of a table, or a BGP message or state
 /// change) is determined by its octets.
-pub fn law_one_content()
+pub fn law_octets_have_one_record_content()
     ensures { (kind subtype : ℕ) (body : List ℕ) (a b : Content) →
         IsBody kind subtype a body → IsBody kind subtype b body → a ≡ b }
 {}
@@ -26,23 +26,22 @@ pub fn law_one_content()
 /// States that every input can be split into whole records, each with its event or its fault, and
 /// the octets after the last whole record. It is stated as a double negation (there is no input
 /// without such a split), since it constructs none.
-pub fn law_no_octets_without_a_split()
+pub fn law_input_splits_into_records()
     ensures { (stamp : Stamp) (index : PeerTable) (octets : List ℕ) → IsOctets octets →
         ((frames : List Frame) (rest : List ℕ) → Splits stamp index octets frames rest → ⊥) → ⊥ }
 {}
 
 /// States that an input can be split in at most one way into whole records, each with its event or
-/// its fault, and the octets after the last whole record. So what a reader is to return is
-/// determined by the octets of the input, the time that routes of tables get, and the peers known
-/// before.
-pub fn law_one_split()
+/// its fault, and a rest, the octets after the last whole record. So what a reader is to return is
+/// determined by the octets of the input, the peers known before it, and the choice which time the
+/// routes of tables get, that of the record or that of the entry.
+pub fn law_input_splits_in_one_way()
     ensures { (stamp : Stamp) (index : PeerTable) (octets : List ℕ) → SplitsOneWay stamp index octets }
 {}
 
-/// States the values of the constants of the code that the contracts name: MRT types and subtypes,
-/// bits of a Peer Type, the sizes of fields in octets (RFC 6396, sections 2 to 4), the greatest
-/// length of a body that is read, and the microseconds of a second. So a reader of the contracts
-/// needn't look them up in the code.
+/// States the values of the constants that the theorems and contracts use by name: MRT types and
+/// subtypes, bits of a Peer Type, the sizes of fields in octets (RFC 6396, sections 2 to 4), the
+/// greatest length of a body that is read, in octets, and the number of microseconds in a second.
 pub fn law_mrt_constants()
     ensures sizes { (HEADER_SIZE ≡ 12) × (LONGEST_BODY ≡ 16777216) }
     ensures types { (TABLE_DUMP ≡ 12) × (TABLE_DUMP_V2 ≡ 13) × (BGP4MP ≡ 16)

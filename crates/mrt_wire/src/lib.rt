@@ -23,7 +23,10 @@ mod source;
 mod table_dump;
 mod update;
 
-pub use laws::{law_mrt_constants, law_no_octets_without_a_split, law_one_content, law_one_split};
+pub use laws::{
+    law_input_splits_in_one_way, law_input_splits_into_records, law_mrt_constants,
+    law_octets_have_one_record_content,
+};
 pub use mrt_events::{
     ESTABLISHED, Event, Item, Items, Peer, Route, SharedRange, SharedRanges, Stamp, Tag, Time,
     route_size, same_peer, same_prefix, same_route,

@@ -36,8 +36,8 @@ const ID_SIZE: usize = 4;
 /// number of two octets. It bounds the number of peers that memory is reserved for.
 const SMALLEST_PEER: usize = 11;
 
-/// Returns the family of a peer's address, by the Peer Type octet `kind` (RFC 6396, section 4.3.1).
-/// Other bits of it are ignored.
+/// Returns the family of a peer's address, by the lowest bit of its Peer Type octet, `kind`: IPv4
+/// if it is 0, IPv6 if it is 1 (RFC 6396, section 4.3.1). The other bits are ignored.
 fn peer_family(kind: u8) -> Family
     ensures { result ≡ peer_family kind }
 {
@@ -48,8 +48,9 @@ fn peer_family(kind: u8) -> Family
     }
 }
 
-/// Returns the width of a peer's AS number, by the Peer Type octet `kind` (RFC 6396, section
-/// 4.3.1). Other bits of it are ignored.
+/// Returns the width of a peer's AS number, by the second lowest bit of its Peer Type octet,
+/// `kind`: two octets if it is 0, four if it is 1 (RFC 6396, section 4.3.1). The other bits are
+/// ignored.
 fn peer_width(kind: u8) -> AsWidth
     ensures { result ≡ peer_width kind }
 {
@@ -72,9 +73,10 @@ fn split_peer(octets: &[u8]) -> Option<ValueAndRest<'_, Peer>>
     split_address_and_asn(family, width, after_id)
 }
 
-/// Parses a big-endian 16-bit count and as many peer entries at the start of `octets`, and ignores
-/// the octets after them. Fails with `Malformed` if there are fewer entries than the count states,
-/// or with `Memory` if memory allocation fails.
+/// Parses the peers of a PEER_INDEX_TABLE (RFC 6396, section 4.3.1). `octets` is the part of its
+/// body after the View Name: a big-endian 16-bit count, as many peer entries, and further octets,
+/// which are ignored. Fails with `Malformed` if there are fewer entries than the count states, or
+/// with `Memory` if memory allocation fails.
 fn read_peers(alloc: Global, octets: &[u8]) -> Result<Peers, WireFault>
     ensures { ParsesOrFails (SpellsFront (SpellsCounted SpellsPeer)) octets.now result }
 {

@@ -5,7 +5,7 @@
 ghost use Rattle.std.specs.Prelude.{◌<◌};
 ghost use Rattle.mrt_wire.specs.declared.peers.TheConstants.{PEER_SLOTS};
 
-use bgp_paths::ListOf;
+use bgp_paths::VecAsList;
 use ip_prefix::{Addr, Family, V4_OCTETS};
 use mrt_events::Peer;
 
@@ -64,4 +64,4 @@ pub(crate) fn peer_hash(peer: &Peer) -> usize
 
 /// The peers of a peer index table (RFC 6396, section 4.3.1). The position of a peer, counted from
 /// 0, is its peer index.
-pub(crate) type Peers = ListOf<Peer>;
+pub(crate) type Peers = VecAsList<Peer>;

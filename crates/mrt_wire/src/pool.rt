@@ -8,7 +8,7 @@ ghost use Rattle.std.specs.Prelude.{◌≡◌, []};
 use crate::peers::PEER_SLOTS;
 use crate::route_cache::{LARGEST_SLOT, MOST_SPARES, RouteCache};
 use crate::route_pool::{ELEMENT_OCTETS, FIRST_ROUTES, LARGEST_FIRST, MOST_ROOM, RoutePool};
-use bgp_wire::UpdateParts;
+use bgp_wire::UpdateBuffer;
 use mrt_events::Item;
 use std::alloc::Global;
 use std::mem;
@@ -45,7 +45,7 @@ pub(crate) struct Pool {
     /// The routes of table entries, with the octets that they were parsed from.
     pub(crate) read: RouteCache,
     /// The parts that the last UPDATE was parsed into: its prefixes and path attributes.
-    pub(crate) parts: UpdateParts,
+    pub(crate) parts: UpdateBuffer,
     /// A vector for the items (announcements, withdrawals or a state change) of the next event.
     /// What it holds is no longer needed.
     items: Vec<Item>,
@@ -57,7 +57,7 @@ impl Pool {
         Pool {
             routes: RoutePool::new(alloc),
             read: RouteCache::new(alloc),
-            parts: UpdateParts::empty(alloc),
+            parts: UpdateBuffer::empty(alloc),
             items: Vec::new(alloc),
         }
     }
@@ -67,12 +67,15 @@ impl Pool {
     /// allocate their own.
     pub(crate) fn free_message_memory(&mut self, alloc: Global) {
         self.routes = RoutePool::new(alloc);
-        self.parts = UpdateParts::empty(alloc);
+        self.parts = UpdateBuffer::empty(alloc);
         self.items = Vec::new(alloc);
     }
 
-    /// Begins a record whose body has `octets` octets: the routes that earlier records were parsed
-    /// into may be overwritten if nobody else holds them.
+    /// Makes the pool ready for the next record: the routes that earlier records were parsed into
+    /// may be overwritten from now on, except for those that have other owners. `octets` is the
+    /// length of the record's body. It is needed since a bound on kept memory that a large record
+    /// raised falls in proportion to the lengths of the records after it
+    /// ([`RoutePool::begin_record`]).
     #[inline(always)]
     pub(crate) fn begin_record(&mut self, octets: usize)
         ensures used { (self.new.routes.used ≡ 0) × (self.new.read.routes.used ≡ 0) }

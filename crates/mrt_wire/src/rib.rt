@@ -41,7 +41,9 @@ pub(crate) struct ParsedEntry {
     pub(crate) index: u16,
 }
 
-/// What the items of a RIB record's entries depend on besides the octets of the entries.
+/// What the items of a RIB record depend on besides the octets of its entries: the peers that the
+/// entries refer to, the family of the prefix, the timestamp of the record, and which time the
+/// routes get.
 #[derive(Clone, Copy)]
 pub(crate) struct TableContext<'a> {
     /// The peers of the last accepted peer index table, in the order of their peer indexes; empty
@@ -55,8 +57,8 @@ pub(crate) struct TableContext<'a> {
     pub(crate) stamp: Stamp,
 }
 
-/// What the entries of a RIB record were parsed into: the items of the event, and an entry of an
-/// unknown peer.
+/// The result of parsing the entries of a RIB record: the items of its event, and the first peer
+/// index of an entry that isn't in the peer index table, if there is one.
 #[derive(Drop)]
 pub(crate) struct EntryItems {
     /// The announcements of the entries whose peer index is in the peer index table.
@@ -182,8 +184,9 @@ impl EntryItems {
 
 /// Parses a big-endian 16-bit count and as many RIB entries at the start of `octets` into
 /// announcements of `prefix`, and ignores the octets after them. The routes reuse memory of earlier
-/// records in `pool`. Fails with `Malformed` if an entry is missing or malformed, or with `Memory`
-/// if memory allocation fails.
+/// records in `pool`. An entry whose peer index isn't in the table of `context` makes no
+/// announcement; the result has the first such index as `unknown`. Fails with `Malformed` if an
+/// entry is missing or malformed, or with `Memory` if memory allocation fails.
 fn read_entries(
     alloc: Global,
     pool: &mut Pool,
@@ -214,8 +217,9 @@ fn read_entries(
 
 /// Parses the body of a RIB_IPV4_UNICAST or RIB_IPV6_UNICAST record into announcements of its
 /// prefix (RFC 6396, section 4.3.2). The routes reuse memory of earlier records in `pool`. An entry
-/// of an unknown peer makes no announcement and is no error here: the result tells it. Fails with
-/// `Malformed` if the body has another form, or with `Memory` if memory allocation fails.
+/// whose peer index isn't in the table of `context` makes no announcement and is no error here: the
+/// result has the first such index as `unknown`. Fails with `Malformed` if the body has another
+/// form, or with `Memory` if memory allocation fails.
 pub(crate) fn read_rib(
     alloc: Global,
     pool: &mut Pool,

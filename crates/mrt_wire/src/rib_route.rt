@@ -11,7 +11,8 @@ use mrt_events::Route;
 use std::alloc::{AllocError, Global};
 use std::rc::Rc;
 
-/// The path attributes of a table entry, unparsed, with what their parser has to know.
+/// The path attributes of a table entry, unparsed, with what is needed to parse them: the family of
+/// the entry's prefix and the width of AS numbers.
 #[derive(Clone, Copy)]
 pub(crate) struct RawAttrs<'a> {
     /// The octets of the path attributes, without their total length (RFC 4271, section 4.3).

@@ -41,11 +41,13 @@ pub(crate) const LARGEST_SLOT: usize = 1344;
 /// with more entries whose routes have other owners allocates memory for the further ones.
 pub(crate) const MOST_SPARES: usize = 64;
 
-/// A ring of routes that replace cached routes which have other owners (such as an event), since
-/// those can't be overwritten. By the time that a route is taken out of the ring again, its other
-/// owners have mostly dropped it.
+/// A ring of routes that take the place of cached routes with other owners, such as an event, since
+/// those can't be overwritten. A cached route with other owners is moved into the ring, and the
+/// route that has been there longest takes its place; while the ring has fewer than [`MOST_SPARES`]
+/// routes, a new one does. By then the other owners of the route from the ring have mostly dropped
+/// it. If they haven't, [`fill_or_replace`] makes a new one.
 #[derive(Drop)]
-struct SpareRoutes {
+struct ReplacementRoutes {
     /// The routes of the ring, at most [`MOST_SPARES`].
     routes: Vec<Rc<Route>>,
     /// The index of the route that is swapped out next.
@@ -54,34 +56,34 @@ struct SpareRoutes {
     ghost within: { next < MOST_SPARES },
 }
 
-impl SpareRoutes {
+impl ReplacementRoutes {
     /// Returns a ring without routes, without allocating memory.
-    fn new(alloc: Global) -> SpareRoutes {
-        SpareRoutes {
+    fn new(alloc: Global) -> ReplacementRoutes {
+        ReplacementRoutes {
             routes: Vec::new(alloc),
             next: 0,
         }
     }
 
-    /// Puts the route of `route` into the ring, and sets `route` to the oldest one there, which may
-    /// have other owners too, or to a new one without attributes as long as the ring has fewer than
-    /// [`MOST_SPARES`] routes. Fails if memory allocation fails; `route` holds an unspecified route
-    /// then.
+    /// Moves the route of `route` into the ring, and puts another into its place: a new one without
+    /// attributes while the ring has fewer than [`MOST_SPARES`] routes, or else the oldest of the
+    /// ring, which leaves it and may have other owners too. Fails if memory allocation fails;
+    /// `route` holds an unspecified route then.
     #[inline(always)]
     fn swap_route(&mut self, alloc: Global, route: &mut Rc<Route>) -> Result<(), AllocError> {
         match self.routes.get_mut(self.next) {
             Some(spare) => mem::swap(spare, route),
-            None => self.add_route(alloc, route)?,
+            None => self.swap_for_new_route(alloc, route)?,
         }
         self.next = (self.next + 1) % MOST_SPARES;
         Ok(())
     }
 
-    /// Moves `route` to the end of the ring, and sets `route` to a new one without attributes.
-    /// Requires that the ring has fewer than [`MOST_SPARES`] routes. Fails if memory allocation
-    /// fails; `route` holds an unspecified route then.
+    /// Moves the route of `route` to the end of the ring, and puts a new one without attributes
+    /// into its place. Requires that the ring has fewer than [`MOST_SPARES`] routes. Fails if
+    /// memory allocation fails; `route` holds an unspecified route then.
     #[inline(never)]
-    fn add_route(&mut self, alloc: Global, route: &mut Rc<Route>) -> Result<(), AllocError>
+    fn swap_for_new_route(&mut self, alloc: Global, route: &mut Rc<Route>) -> Result<(), AllocError>
         requires { vec_len self.old.routes < MOST_SPARES }
         ensures { self.new.next ≡ self.old.next }
     {
@@ -124,8 +126,9 @@ impl Model for CachedRoute {
 }
 
 impl CachedRoute {
-    /// Returns a route without attributes, which was parsed from no octets, so that the first entry
-    /// is parsed. Fails if memory allocation fails.
+    /// Returns a cached route that serves no entry yet: it has no attributes, and
+    /// [`CachedRoute::was_read_from`] returns `false`, so that the first entry is parsed. Fails if
+    /// memory allocation fails.
     fn new(alloc: Global) -> Result<CachedRoute, AllocError> {
         let route = new_route(alloc)?;
         Ok(CachedRoute {
@@ -137,9 +140,9 @@ impl CachedRoute {
         })
     }
 
-    /// Returns `true` if the route has the attributes of `raw`: if it was parsed from equal octets,
-    /// for a prefix of that family and with AS numbers of that width. Returns `false` if `raw` has
-    /// to be parsed.
+    /// Returns `true` if the route has the attributes that parsing `raw` would give: it was parsed
+    /// from equal octets, for a prefix of the same family and with AS numbers of the same width.
+    /// Returns `false` if `raw` has to be parsed.
     #[inline(always)]
     fn was_read_from(&self, raw: RawAttrs<'_>) -> bool
         ensures { IsTrue result → SpellsRibAttrs raw.entry.family raw.entry.width
@@ -151,9 +154,9 @@ impl CachedRoute {
             && self.octets.as_slice() == raw.octets
     }
 
-    /// Sets the time of the route to `time`, in seconds since 1970, and returns `true`. If the
-    /// route has another time, and has another owner, for which it can't be changed, returns
-    /// `false` and leaves it as it is.
+    /// Sets the time of the route to `time`, in seconds since 1970, and returns `true`. If that
+    /// would change a route that has another owner, returns `false` and leaves the route as it is.
+    /// A route that has this time already needs no change, so that the result is then `true`.
     #[inline(always)]
     fn try_set_time(&mut self, time: u32) -> bool
         ensures time { IsTrue result → self.new.time ≡ time }
@@ -172,15 +175,16 @@ impl CachedRoute {
     }
 
     /// Parses `raw`, the path attributes of a table entry, into the route, with the time `time`, in
-    /// seconds since 1970, and returns it. If the route has other owners, one of `spares` or a new
-    /// one takes its place first. Fails with `Malformed` if the attributes are malformed, or with
-    /// `Memory` if memory allocation fails; then [`CachedRoute::was_read_from`] is `false` until
-    /// other attributes are parsed.
+    /// seconds since 1970, and returns the route. `raw` is parsed even if the route was parsed from
+    /// equal octets: callers ask [`CachedRoute::was_read_from`] first. If the route has other
+    /// owners, one of `spares` or a new one takes its place, and is overwritten instead. Fails with
+    /// `Malformed` if the attributes are malformed, or with `Memory` if memory allocation fails;
+    /// [`CachedRoute::was_read_from`] then returns `false` until a call succeeds.
     #[inline(always)]
-    fn read(
+    fn parse(
         &mut self,
         alloc: Global,
-        spares: &mut SpareRoutes,
+        spares: &mut ReplacementRoutes,
         raw: RawAttrs<'_>,
         time: u32,
     ) -> Result<Rc<Route>, WireFault>
@@ -227,9 +231,10 @@ fn has_usual_layout(octets: &[u8], width: AsWidth) -> bool {
 }
 
 /// Returns `true` if the path attributes `octets` begin with MP_REACH_NLRI, with its length in one
-/// octet, which some routers send first (RFC 7606, section 5.1), then ORIGIN, and then an AS_PATH
-/// of exactly one segment, with AS numbers of `width` ([`has_usual_layout`]). Such a route is
-/// cached too. Returns `false` otherwise.
+/// octet, and go on in the usual layout ([`has_usual_layout`]): with ORIGIN, and then an AS_PATH of
+/// one segment, with AS numbers of `width`. Some routers send MP_REACH_NLRI first (RFC 7606,
+/// section 5.1). A route of this layout takes bounded memory too, and is cached. Returns `false`
+/// otherwise.
 #[inline(never)]
 fn has_usual_layout_after_mp_reach(octets: &[u8], width: AsWidth) -> bool {
     match octets {
@@ -240,15 +245,16 @@ fn has_usual_layout_after_mp_reach(octets: &[u8], width: AsWidth) -> bool {
     }
 }
 
-/// The last route of each peer of a table, so that the same attributes needn't be parsed again.
-/// Each route is in a slot, which the peer index of the peer or its hash selects; several peers may
-/// share a slot.
+/// The last cached route of each peer of a table, so that a next entry of the peer with the same
+/// path attributes needn't be parsed. Each route is in a slot. The index of the slot is computed
+/// from the peer index for an entry of TABLE_DUMP_V2, and from the peer's address and AS number for
+/// one of TABLE_DUMP. Peers that share a slot overwrite each other's route.
 #[derive(Drop)]
 pub(crate) struct RouteCache {
     /// The slots, up to the last that was needed. A slot without a route is `None`.
     slots: Vec<Option<CachedRoute>>,
     /// Routes that take the place of cached routes which have other owners.
-    spares: SpareRoutes,
+    spares: ReplacementRoutes,
     /// The routes of entries that aren't cached, whose memory later records reuse.
     pub(crate) routes: RoutePool,
     ghost bounded: { vec_len slots ≤ PEER_SLOTS },
@@ -259,7 +265,7 @@ impl RouteCache {
     pub(crate) fn new(alloc: Global) -> RouteCache {
         RouteCache {
             slots: Vec::new(alloc),
-            spares: SpareRoutes::new(alloc),
+            spares: ReplacementRoutes::new(alloc),
             routes: RoutePool::new(alloc),
         }
     }
@@ -277,8 +283,8 @@ impl RouteCache {
         Ok(())
     }
 
-    /// Removes the route of the slot with the index `slot`, which is required to be there. Frees
-    /// the memory of the route unless that has other owners.
+    /// Removes the route of the slot with the index `slot`, if it has one. Frees the memory of the
+    /// route unless that has other owners. Requires that the cache has a slot with this index.
     #[inline(never)]
     fn clear(&mut self, slot: usize)
         requires { slot < vec_len self.old.slots }
@@ -286,13 +292,13 @@ impl RouteCache {
         self.slots[slot] = None;
     }
 
-    /// Parses `raw`, the path attributes of a table entry, into the slot with the index `slot`,
-    /// which is required to be there, and returns the route, with the time `time`, in seconds since
-    /// 1970. Fails with `Malformed` if the attributes are malformed, or with `Memory` if memory
-    /// allocation fails; the slot's route isn't returned for other entries then until attributes
-    /// are parsed into it.
+    /// Parses `raw`, the path attributes of a table entry, into the slot with the index `slot`, and
+    /// returns the route, with the time `time`, in seconds since 1970. Requires that the cache has
+    /// a slot with this index. Fails with `Malformed` if the attributes are malformed, or with
+    /// `Memory` if memory allocation fails; the slot then serves no entry until attributes are
+    /// parsed into it.
     #[inline(always)]
-    fn read(
+    fn parse_into_slot(
         &mut self,
         alloc: Global,
         slot: usize,
@@ -309,17 +315,19 @@ impl RouteCache {
             self.slots[slot] = Some(CachedRoute::new(alloc)?);
         }
         match &mut self.slots[slot] {
-            Some(read) => read.read(alloc, &mut self.spares, raw, time),
+            Some(read) => read.parse(alloc, &mut self.spares, raw, time),
             None => unreachable!(),
         }
     }
 
     /// Returns a route with the path attributes `raw` of a table entry and the time `time`, in
-    /// seconds since 1970. `number`, modulo [`PEER_SLOTS`], selects the slot: it is the entry's
-    /// peer index, or a hash of its peer. The slot's route is returned if it was parsed from equal
-    /// octets; otherwise `raw` is parsed into it, or outside the cache if it is longer than
-    /// [`LONGEST_CACHED`] or may make a large route. Fails with `Malformed` if the attributes are
-    /// malformed, or with `Memory` if memory allocation fails.
+    /// seconds since 1970. `number` is the peer index of the entry, or a hash of its peer; modulo
+    /// [`PEER_SLOTS`], it is the index of the slot. If the slot's route was parsed from equal
+    /// octets, it is returned if its time is `time`, or if it has no other owner, so that its time
+    /// can be set to `time`. Otherwise `raw` is parsed into the slot. But if `raw` is longer than
+    /// [`LONGEST_CACHED`], or may make a large route, it is parsed into a route that isn't cached.
+    /// Fails with `Malformed` if the attributes are malformed, or with `Memory` if memory
+    /// allocation fails.
     #[inline(always)]
     pub(crate) fn get_or_parse(
         &mut self,
@@ -333,7 +341,7 @@ impl RouteCache {
     {
         // Which routes are cached changes time and memory alone, so the contract doesn't tell them apart.
         if raw.octets.len() > LONGEST_CACHED {
-            return self.routes.rib_route(alloc, raw, time);
+            return self.routes.parse_rib_route(alloc, raw, time);
         }
         let slot = number % PEER_SLOTS;
         self.ensure_slot(slot)?;
@@ -345,9 +353,9 @@ impl RouteCache {
         if !has_usual_layout(raw.octets, raw.width)
             && !has_usual_layout_after_mp_reach(raw.octets, raw.width)
         {
-            return self.routes.rib_route(alloc, raw, time);
+            return self.routes.parse_rib_route(alloc, raw, time);
         }
-        let route = self.read(alloc, slot, raw, time)?;
+        let route = self.parse_into_slot(alloc, slot, raw, time)?;
         if route.attrs.path.segments.as_slice().len() > MOST_SEGMENTS {
             self.clear(slot);
         }

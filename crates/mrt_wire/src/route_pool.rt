@@ -1,14 +1,15 @@
 //! A pool of routes: routes whose memory later records reuse. A route that nobody else holds any
 //! more is overwritten with one of a later record, so that reading mostly allocates nothing.
 //! `update.rt` calls [`RoutePool::make_route`] for each message, and `route_cache.rt` calls
-//! [`RoutePool::rib_route`] for each table entry that it doesn't cache. Read [`RoutePool`] first.
+//! [`RoutePool::parse_rib_route`] for each table entry that it doesn't cache. Read [`RoutePool`]
+//! first.
 
 ghost use Rattle.std.specs.Prelude.{◌≡◌, ◌≤◌, ◌<◌, ◌+◌, ◌-◌, ◌*◌, min, max, true, IfOk, IfErr, vec_len};
 ghost use Rattle.mrt_wire.specs.declared.route_pool.TheConstants.{LOWERING_RATE, MOST_ROOM, MOST_ROUTES};
 ghost use Rattle.mrt_wire.specs.Items.{route_of};
 ghost use Rattle.mrt_wire.specs.Decoding.{IsRouteFrom, RefusesRaw};
 
-use crate::replacing::assign_attrs;
+use crate::replacing::copy_or_move_attrs;
 use crate::rib_route::{RawAttrs, blank_route, fill_or_replace, new_route};
 use bgp_wire::{Attrs, WireFault};
 use mrt_events::{Route, max_route_size};
@@ -52,8 +53,8 @@ pub(crate) const ELEMENT_OCTETS: u64 = 32;
 /// a larger record needed is freed later.
 const LOWERING_RATE: u64 = 4;
 
-/// Returns the largest number of octets of memory that the route takes, with all its capacity and
-/// its element in the pool's list: what is counted for it.
+/// Returns the number of octets of memory that are counted for the route: an upper estimate of what
+/// it takes, with the spare capacity of its lists and with its element in the pool's list.
 #[inline]
 fn counted_room(route: &Route) -> u64 {
     max_route_size(route).saturating_add(ELEMENT_OCTETS)
@@ -70,8 +71,8 @@ struct PooledRoute {
 }
 
 impl PooledRoute {
-    /// Returns a new route without attributes, whose octets aren't counted. Fails if memory
-    /// allocation fails.
+    /// Returns a new route without attributes, for which no octets of memory are counted
+    /// ([`RoutePool::count_memory`] counts them). Fails if memory allocation fails.
     fn blank(alloc: Global) -> Result<PooledRoute, AllocError> {
         let route = new_route(alloc)?;
         Ok(PooledRoute { route, room: 0 })
@@ -85,7 +86,8 @@ impl PooledRoute {
 }
 
 /// Routes whose memory later records reuse, in the order in which a record uses them. Each record
-/// begins with the first route again. The memory of all routes together is bounded; the bound rises
+/// begins with the first route again. The octets of memory of routes of table entries are counted,
+/// except for the first few routes if they are small, and their sum is bounded. The bound rises
 /// with a record that needs more, and falls again later.
 #[derive(Drop)]
 pub(crate) struct RoutePool {
@@ -122,7 +124,7 @@ fn allocate_route(
     ensures kept { keep_attrs ≡ true → attrs.new ≡ attrs.old }
 {
     let mut route = blank_route(alloc);
-    assign_attrs(alloc, &mut route.attrs, attrs, keep_attrs)?;
+    copy_or_move_attrs(alloc, &mut route.attrs, attrs, keep_attrs)?;
     route.time = time;
     Ok(Rc::new(alloc, route)?)
 }
@@ -140,9 +142,10 @@ impl RoutePool {
         }
     }
 
-    /// Begins a record whose body has `octets` octets: it may use all routes of the pool, from the
-    /// first on. Lowers the bound of the pool (the octets that its counted routes may take) if an
-    /// earlier record raised it above [`MOST_ROOM`].
+    /// Begins a record, which may use all routes of the pool, from the first on. `octets` is the
+    /// length of its body. If an earlier record raised the bound of the pool (the octets of memory
+    /// that its counted routes may take) above [`MOST_ROOM`], the bound falls in proportion to the
+    /// length of the last record's body ([`RoutePool::lower_memory_bound`]).
     #[inline(always)]
     pub(crate) fn begin_record(&mut self, octets: usize)
         ensures used { self.new.used ≡ 0 }
@@ -153,17 +156,19 @@ impl RoutePool {
     {
         self.used = 0;
         if self.most > MOST_ROOM {
-            self.lower();
+            self.lower_memory_bound();
         }
         self.needed = 0;
         self.octets = octets as u64;
     }
 
-    /// Lowers the bound of the pool (the octets that its counted routes may take) by
-    /// [`LOWERING_RATE`] octets for each octet of the last record, but not below what that record
-    /// needed, nor below [`MOST_ROOM`]. Drops routes that don't fit any more, from the last on.
+    /// Lowers the bound of the pool: the octets of memory that its counted routes may take
+    /// together. Routes of table entries are counted, except for the first ones of a record if they
+    /// are small. The bound falls by [`LOWERING_RATE`] octets for each octet of the last record's
+    /// body. It doesn't fall below what that record needed, nor below [`MOST_ROOM`], the bound of a
+    /// new pool. Drops routes, the last of the list first, until the others fit.
     #[inline(never)]
-    fn lower(&mut self)
+    fn lower_memory_bound(&mut self)
         ensures used { self.new.used ≡ self.old.used }
         ensures most { self.new.most ≡ max MOST_ROOM
             (max self.old.needed (self.old.most - LOWERING_RATE * self.old.octets)) }
@@ -178,23 +183,24 @@ impl RoutePool {
         self.most = most;
     }
 
-    /// Drops routes that the current record hasn't used yet, from the last on, until those left
-    /// take at most `most` octets (`room`, as counted), or until only used ones are left. Sets
-    /// `room`, the sum of counted octets, to at most `most` in any case.
+    /// Drops routes that the current record hasn't used yet, the last of the list first, until the
+    /// octets of memory counted for the others are at most `most_octets`, or until only used ones
+    /// are left. `room`, the sum of the counted octets, is at most `most_octets` afterwards.
+    /// Callers pass at least what is counted for the used routes.
     #[inline(never)]
-    fn drop_unused(&mut self, most: u64)
+    fn drop_unused(&mut self, most_octets: u64)
         ensures used { self.new.used ≡ self.old.used }
         ensures needed { self.new.needed ≡ self.old.needed }
-        ensures room { self.new.room ≤ most }
+        ensures room { self.new.room ≤ most_octets }
         ensures most { self.new.most ≡ self.old.most }
     {
-        'routes: while self.room > most && self.routes.len() > self.used {
+        'routes: while self.room > most_octets && self.routes.len() > self.used {
             if let Some(route) = self.routes.pop() {
                 self.room = self.room.saturating_sub(route.room);
             }
         }
         // Where all others went, the record's own are left, which there is room for.
-        self.room = self.room.min(most);
+        self.room = self.room.min(most_octets);
         self.routes.shrink_to_fit();
     }
 
@@ -202,19 +208,19 @@ impl RoutePool {
     /// octets than [`MOST_ROOM`]. So the memory of these routes is freed as soon as their other
     /// owners drop them, and isn't kept for reuse.
     #[inline(always)]
-    pub(crate) fn release_held(&mut self)
+    pub(crate) fn drop_shared_after_large_record(&mut self)
         ensures most { self.new.most ≡ self.old.most }
     {
         // The next record couldn't be read into these routes anyway, as long as they have other owners.
         if self.needed > MOST_ROOM {
-            self.remove_held();
+            self.drop_shared_routes();
         }
     }
 
     /// Drops the pool's own `Rc`s of routes that have other owners, which can't be overwritten. The
     /// routes that are left have no other owner, and all may be used again.
     #[inline(never)]
-    fn remove_held(&mut self)
+    fn drop_shared_routes(&mut self)
         ensures used { self.new.used ≡ 0 }
         ensures most { self.new.most ≡ self.old.most }
     {
@@ -222,8 +228,8 @@ impl RoutePool {
         let mut index = 0;
         'routes: while index < self.routes.len() {
             if self.routes[index].has_other_owner() {
-                let held = self.routes.swap_remove(index);
-                self.room = self.room.saturating_sub(held.room);
+                let shared = self.routes.swap_remove(index);
+                self.room = self.room.saturating_sub(shared.room);
             } else {
                 index += 1;
             }
@@ -231,10 +237,11 @@ impl RoutePool {
         self.routes.shrink_to_fit();
     }
 
-    /// Returns the index in the pool of the route that the record is to use next, and adds a route
-    /// without attributes if the pool has no more. The route may have other owners. A record with
-    /// more than [`MOST_ROUTES`] routes gets the last index again and again. Fails if memory
-    /// allocation fails.
+    /// Returns the index in the pool of the next route for the current record to use, and adds a
+    /// route without attributes if the pool has none there. The first call for a record returns 0,
+    /// and each further call the next index; after [`MOST_ROUTES`] calls, the last index is
+    /// returned again and again. The route may have other owners. Fails if memory allocation fails;
+    /// the next call then returns the same index.
     #[inline(always)]
     fn next_index(&mut self, alloc: Global) -> Result<usize, AllocError>
         ensures next { IfOk result (λ index. index ≡ self.old.used) }
@@ -249,12 +256,13 @@ impl RoutePool {
         Ok(index)
     }
 
-    /// Counts the octets of memory of the route at the index `index`, which is required to be
-    /// there, as needed by the current record, instead of those counted for it before. Raises the
-    /// bound of the pool to what the record needs, if that is more. If all routes together exceed
-    /// the bound, drops routes that the record hasn't used, from the last on.
+    /// Counts the octets of memory that the route at `index` takes, instead of those counted for it
+    /// before, and adds them to those that the current record needs. Raises the bound of the pool
+    /// to what the record needs, if that is more. If the octets counted for all routes would exceed
+    /// the bound, drops routes that the record hasn't used, the last of the list first, until they
+    /// don't. Requires that the pool has a route at `index`.
     #[inline(never)]
-    fn count(&mut self, index: usize)
+    fn count_memory(&mut self, index: usize)
         requires { index < vec_len self.old.routes }
         ensures most { self.new.most ≡ max self.old.most self.new.needed }
     {
@@ -271,16 +279,17 @@ impl RoutePool {
         self.most = most;
     }
 
-    /// Counts the octets of memory of the route at the index `index`, which is required to be
-    /// there, unless it is one of the first [`FIRST_ROUTES`], its attributes were parsed from at
-    /// most [`LONGEST_FIRST`] octets, and it isn't counted yet. `octets` is the number of octets
-    /// that the attributes were parsed from.
+    /// Counts the octets of memory of the route at `index` towards the bound of the pool
+    /// ([`RoutePool::count_memory`]), unless it is among the first and small: `index` is below
+    /// [`FIRST_ROUTES`], and `octets` is at most [`LONGEST_FIRST`]. `octets` is the number of
+    /// octets that its attributes were parsed from. A route that is counted already is always
+    /// counted anew. Requires that the pool has a route at `index`.
     #[inline(always)]
-    fn keep(&mut self, index: usize, octets: usize)
+    fn count_memory_if_needed(&mut self, index: usize, octets: usize)
         requires { index < vec_len self.old.routes }
     {
         if index >= FIRST_ROUTES || octets > LONGEST_FIRST || self.routes[index].room > 0 {
-            self.count(index);
+            self.count_memory(index);
         }
     }
 
@@ -289,7 +298,7 @@ impl RoutePool {
     /// new one takes its place in the pool. Fails with `Malformed` if the attributes are malformed,
     /// or with `Memory` if memory allocation fails.
     #[inline(never)]
-    pub(crate) fn rib_route(
+    pub(crate) fn parse_rib_route(
         &mut self,
         alloc: Global,
         raw: RawAttrs<'_>,
@@ -301,7 +310,7 @@ impl RoutePool {
         let index = self.next_index(alloc)?;
         let read = fill_or_replace(&mut self.routes[index].route, alloc, raw, time);
         let route: Result<_, _> = self.routes[index].route.clone();
-        self.keep(index, raw.octets.len());
+        self.count_memory_if_needed(index, raw.octets.len());
         read?;
         Ok(route?)
     }
@@ -325,7 +334,7 @@ impl RoutePool {
         let index = self.next_index(alloc)?;
         match Rc::get_mut(&mut self.routes[index].route) {
             Some(route) => {
-                assign_attrs(alloc, &mut route.attrs, attrs, keep_attrs)?;
+                copy_or_move_attrs(alloc, &mut route.attrs, attrs, keep_attrs)?;
                 route.time = time;
             }
             None => self.routes[index].route = allocate_route(alloc, attrs, time, keep_attrs)?,

@@ -35,7 +35,8 @@ const MICROS_PER_SECOND: u32 = 1_000_000;
 /// freed, and the next message allocates its own.
 const LONGEST_KEPT: usize = 4096;
 
-/// What the body of a BGP4MP or BGP4MP_ET record was parsed into.
+/// The result of parsing the body of a BGP4MP or BGP4MP_ET record: the items of its event, and the
+/// microseconds of its timestamp.
 #[derive(Debug, Drop)]
 pub(crate) struct SessionItems {
     /// The state change, or the withdrawals and announcements of the UPDATE; empty for another
@@ -93,9 +94,9 @@ fn fill_session_peer<'a>(peer: &mut Peer, width: AsWidth, octets: &'a [u8]) -> O
 
 /// Parses the session fields and the BGP message of a BGP4MP record into the withdrawals and
 /// announcements of the message if it is an UPDATE, or else into no items (RFC 6396, sections 4.4.2
-/// and 4.4.3). AS numbers have two or four octets, as `width` states. Routes get the time
-/// `seconds`, since 1970, and the memory in `pool`. Fails with `Malformed` if the octets have
-/// another form, or with `Memory` if memory allocation fails.
+/// and 4.4.3). AS numbers have two or four octets, as `width` states. `seconds`, in seconds since
+/// 1970, becomes the time of the routes, which reuse memory of earlier records in `pool`. Fails
+/// with `Malformed` if the octets have another form, or with `Memory` if memory allocation fails.
 #[inline(never)]
 fn read_peer_message(
     alloc: Global,
@@ -155,10 +156,11 @@ fn read_state_change(alloc: Global, width: AsWidth, octets: &[u8]) -> Result<Ite
     Ok(Items::from_vec(items))
 }
 
-/// Parses the body of a BGP4MP or BGP4MP_ET record, without its microseconds, into items: a state
-/// change, or the withdrawals and announcements of an UPDATE. `form` states which, and the width of
-/// AS numbers. Routes get the time `seconds`, since 1970, and the memory in `pool`. Fails with
-/// `Malformed` if the octets have another form, or with `Memory` if memory allocation fails.
+/// Parses the body of a BGP4MP record, or that of a BGP4MP_ET record after its microseconds, into
+/// items: a state change, or the withdrawals and announcements of an UPDATE. `form` states which of
+/// the two it is, and the width of AS numbers. `seconds`, in seconds since 1970, becomes the time
+/// of the routes, which reuse memory of earlier records in `pool`. Fails with `Malformed` if the
+/// octets have another form, or with `Memory` if memory allocation fails.
 #[inline(always)]
 fn read_session_content(
     alloc: Global,
@@ -182,10 +184,11 @@ fn read_session_content(
     }
 }
 
-/// Parses the body of a BGP4MP or BGP4MP_ET record, whose format is `form`, into items and
-/// microseconds. Its routes get the time `seconds`, the timestamp of the record, since 1970, and
-/// the memory in `pool`, which earlier records used. Fails with `Malformed` if the body has another
-/// form, or with `Memory` if memory allocation fails.
+/// Parses the body of a BGP4MP or BGP4MP_ET record into the items of its event and its
+/// microseconds, which are `None` for BGP4MP. `form` is the format of the body. `seconds`, the
+/// timestamp of the record in seconds since 1970, becomes the time of the routes, which reuse
+/// memory of earlier records in `pool`. Fails with `Malformed` if the body has another form, or
+/// with `Memory` if memory allocation fails.
 #[inline(always)]
 pub(crate) fn read_session(
     alloc: Global,

@@ -20,10 +20,11 @@ use mrt_frames::{FrameReader, Input, NextRecord, RecordFault, RecordKind, Source
 use std::alloc::Global;
 use std::marker::Model;
 
-/// A reader of the events of an input of MRT records (RFC 6396). The caller holds the input, and
-/// passes the same one to each call of [`Source::next`]. In contracts, its value is a
-/// `SourceState`: the peers, the number of records, the offset and limit, which time routes of
-/// tables get, and the phase. The rest doesn't show.
+/// A reader of the events in an input of MRT records (RFC 6396). It doesn't own the input: the
+/// caller passes the same one to each call of [`Source::next`]. In contracts, its value is a
+/// `SourceState`: the peers of the last peer index table, the number of records, the offset in the
+/// input and the limit of it, both in octets, which time routes of tables get, and the [`Phase`]:
+/// whether it reads, has ended, or has failed. Its other fields don't show.
 #[derive(Drop)]
 pub struct Source {
     alloc: Global,
@@ -110,14 +111,15 @@ impl Source {
     {
         if let Next::Event(event) = answer {
             self.pool.keep_items(event.items.into_vec());
-            self.pool.read.routes.release_held();
+            self.pool.read.routes.drop_shared_after_large_record();
         }
     }
 
     /// Reads the next record from `input`, and returns its event or its fault, or [`Next::End`] at
     /// the end of the input. Fails with `Read` if the input fails, with `InputTooLong` if the limit
-    /// given to [`Source::new`] is met, or with `Memory` if memory allocation fails; each later
-    /// call fails with `Spent`. Reads nothing once it has returned the end or an error.
+    /// given to [`Source::new`] is met, or with `Memory` if memory allocation fails. Reads nothing
+    /// once it has returned the end or an error: each call after the end returns [`Next::End`]
+    /// again, and each call after an error fails with `Spent`.
     #[inline(always)]
     pub fn next<I: Input>(&mut self, input: &mut I) -> Result<Next, SourceFault>
         // One record is taken, and its event or fault is returned; or octets that begin with no
@@ -125,8 +127,8 @@ impl Source {
         ensures next { self.old.phase ≡ Phase.Reading →
             IsNextCall self.old self.new (I.left input.old) (I.left input.new) result }
 
-        // An answer is the first result of the octets taken, whatever octets follow them. None
-        // follow them if the answer is the end or a record that is cut there.
+        // In the words of `results`: an answer is the first result of the octets taken, whatever
+        // octets follow them, provided that none do if it is the end or a record that is cut there.
         ensures first { self.old.phase ≡ Phase.Reading → (answer : Next) → result ≡ Ok answer →
             IsFirstResult self.old (I.left input.old) (I.left input.new) answer }
 
@@ -155,9 +157,11 @@ impl Source {
         }
     }
 
-    /// Reads the next record, and returns its event or its fault, or [`Next::End`] at the end of
-    /// the input, for a source that still reads. On error, the phase is still `Reading`, which the
-    /// caller, [`Source::next`], changes.
+    /// Reads the next record from `input`, and returns its event or its fault, or [`Next::End`] at
+    /// the end of the input. The caller, [`Source::next`], calls it in phase `Reading` only. Fails
+    /// with `Read` if the input fails, with `InputTooLong` if the limit given to [`Source::new`] is
+    /// met, or with `Memory` if memory allocation fails; the phase is still `Reading` then, and the
+    /// caller sets it.
     #[inline(always)]
     fn read<I: Input>(&mut self, input: &mut I) -> Result<Next, SourceFault>
         ensures next { IsNextCall self.old (spent_state self.new result)

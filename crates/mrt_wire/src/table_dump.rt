@@ -1,12 +1,12 @@
 //! Parsing TABLE_DUMP records, each of one peer and its route to a prefix (RFC 6396, section 4.2).
-//! `decode_record` calls [`read_table_dump`]. Read [`split_entry_fields`] first, which splits the
-//! body into its fields.
+//! `decode_record` calls [`read_table_dump`]. Read [`split_table_dump_fields`] first, which splits
+//! the body into its fields.
 
 ghost use Rattle.std.specs.Prelude.{IfSome, IfNone};
 ghost use Rattle.ip_prefix.specs.Fronts.{BeginsWithNone};
 ghost use Rattle.bgp_wire.specs.Readers.{ParsesOrFails};
 ghost use Rattle.mrt_wire.specs.Items.{table_dump_items};
-ghost use Rattle.mrt_wire.specs.Decoding.{FindsValue, BeginsWithEntryFields, SpellsMapped};
+ghost use Rattle.mrt_wire.specs.Decoding.{FindsValue, BeginsWithTableDumpFields, SpellsMapped};
 ghost use Rattle.mrt_wire.specs.Rib.{AreTableDumpFields, SpellsTableDump, SpellsAddressAndLength};
 
 use crate::fields::{
@@ -31,7 +31,7 @@ const STATUS_SIZE: usize = 1;
 
 /// The fields of a TABLE_DUMP body that are used, the attributes unparsed (RFC 6396, section 4.2).
 #[derive(Clone, Copy)]
-struct EntryFields<'a> {
+struct TableDumpFields<'a> {
     /// The path attributes, unparsed, without their length.
     attributes: &'a [u8],
     prefix: Prefix,
@@ -63,8 +63,8 @@ fn split_address_and_length(family: Family, octets: &[u8]) -> Option<ValueAndRes
 /// attributes. Returns `None` if a field is missing or the Prefix Length exceeds the bits of an
 /// address of `family`.
 #[inline(always)]
-fn split_entry_fields(family: Family, octets: &[u8]) -> Option<EntryFields<'_>>
-    ensures some { IfSome result (λ framed. BeginsWithEntryFields family framed octets.now) }
+fn split_table_dump_fields(family: Family, octets: &[u8]) -> Option<TableDumpFields<'_>>
+    ensures some { IfSome result (λ framed. BeginsWithTableDumpFields family framed octets.now) }
     ensures none { IfNone result (BeginsWithNone (AreTableDumpFields family) octets.now) }
 {
     let after_numbers = skip(NUMBERS_SIZE, octets)?;
@@ -77,7 +77,7 @@ fn split_entry_fields(family: Family, octets: &[u8]) -> Option<EntryFields<'_>>
         return None;
     };
     let (attributes, _) = split_length_prefixed(peer.rest)?;
-    Some(EntryFields {
+    Some(TableDumpFields {
         attributes,
         prefix: prefix.value,
         peer: peer.value,
@@ -95,10 +95,11 @@ pub(crate) struct TimeChoice {
     pub(crate) stamp: Stamp,
 }
 
-/// Parses a TABLE_DUMP body for a prefix of `family` into one announcement (RFC 6396, section 4.2),
-/// as [`read_table_dump`] does, which has it compiled for each family. The route reuses memory of
-/// earlier records in `pool`; `choice` selects its time. Fails with `Malformed` if the body has
-/// another form, or with `Memory` if memory allocation fails.
+/// Parses a TABLE_DUMP body for a prefix of `family` into one announcement (RFC 6396, section 4.2).
+/// [`read_table_dump`] has it compiled for each family. `choice` has the timestamp of the record,
+/// and states whether the route gets that time or the Originated Time in the body. The route reuses
+/// memory of earlier records in `pool`. Fails with `Malformed` if the body has another form, or with
+/// `Memory` if memory allocation fails.
 // Inlined, so that the compiler makes code for each family.
 #[inline(always)]
 fn read_table_dump_of(
@@ -111,7 +112,7 @@ fn read_table_dump_of(
     ensures { ParsesOrFails (SpellsMapped (SpellsTableDump family) (table_dump_items choice.stamp choice.seconds))
         octets.now result }
 {
-    let Some(entry) = split_entry_fields(family, octets) else {
+    let Some(entry) = split_table_dump_fields(family, octets) else {
         return Err(WireFault::Malformed);
     };
     let time = route_time(choice.stamp, choice.seconds, entry.time);
@@ -130,7 +131,8 @@ fn read_table_dump_of(
 }
 
 /// Parses a TABLE_DUMP body for a prefix of `family` into one announcement (RFC 6396, section 4.2).
-/// The route reuses memory of earlier records in `pool`; `choice` selects its time. Fails with
+/// `choice` has the timestamp of the record, and states whether the route gets that time or the
+/// Originated Time in the body. The route reuses memory of earlier records in `pool`. Fails with
 /// `Malformed` if the body has another form, or with `Memory` if memory allocation fails.
 pub(crate) fn read_table_dump(
     alloc: Global,

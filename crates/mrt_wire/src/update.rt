@@ -10,7 +10,7 @@ ghost use Rattle.mrt_wire.specs.Decoding.{AddsItems, announced_with};
 
 use crate::pool::Pool;
 use crate::route_pool::RoutePool;
-use bgp_wire::{Attrs, Prefixes, UpdateParts};
+use bgp_wire::{Attrs, Prefixes, UpdateBuffer};
 use ip_prefix::Addr;
 use mrt_events::{Item, Items, Peer, Route, SharedRanges};
 use std::alloc::{AllocError, Global};
@@ -49,8 +49,9 @@ fn add_withdrawals(
 
 /// Appends an announcement of each prefix of `announcement` to `items`, all with one shared route,
 /// which is made from `attrs` in the memory of `routes`. Does nothing if there are no prefixes. If
-/// `keep_attrs` is `true`, `attrs` is left as it is; otherwise it is unspecified afterwards. Fails
-/// if memory allocation fails; `items` may have some of the announcements then.
+/// `announcement.keep_attrs` is `true`, `attrs` is left as it is, on an error too; otherwise it may
+/// be moved into the route, and is unspecified afterwards. Fails if memory allocation fails;
+/// `items` may have some of the announcements then.
 #[inline(always)]
 fn add_announcements(
     alloc: Global,
@@ -83,7 +84,7 @@ fn add_announcements(
 /// Returns the number of prefixes that `parts` withdraws and announces together, which is that of
 /// the items to be made, or `usize::MAX` if there are more.
 #[inline]
-fn prefix_count(parts: &UpdateParts) -> usize {
+fn prefix_count(parts: &UpdateBuffer) -> usize {
     let withdrawn = parts.withdrawn.as_slice().len();
     let mp_withdrawn = parts.mp_withdrawn.as_slice().len();
     let announced = parts.announced.as_slice().len();
@@ -94,10 +95,10 @@ fn prefix_count(parts: &UpdateParts) -> usize {
         .saturating_add(mp_announced)
 }
 
-/// Returns the items of the UPDATE that was parsed into `pool.parts`, sent by `peer`: its
-/// withdrawals, by MP_UNREACH_NLRI last, and then its announcements, by MP_REACH_NLRI last (RFC
-/// 4760, sections 3 and 4). Routes get the time `seconds`, since 1970. Fails if memory allocation
-/// fails. The attributes in `pool.parts` are unspecified afterwards.
+/// Returns the items of the UPDATE from `peer` that was parsed into `pool.parts`: its withdrawals,
+/// those of MP_UNREACH_NLRI last, and then its announcements, those of MP_REACH_NLRI last (RFC
+/// 4760, sections 3 and 4). `seconds`, in seconds since 1970, becomes the time of the routes. Fails
+/// if memory allocation fails. The attributes in `pool.parts` are unspecified afterwards.
 #[inline]
 pub(crate) fn items_of_update(
     alloc: Global,

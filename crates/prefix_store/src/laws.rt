@@ -11,8 +11,8 @@ ghost use Rattle.prefix_store.specs.Stored.{Routes, put};
 ghost use Rattle.prefix_store.specs.Contents.{first_above, routes_above};
 ghost use Rattle.prefix_store.specs.Lookups.{IsLongestMatch};
 
-/// States that [`GREATEST_COUNT`](crate::GREATEST_COUNT), the number that a store returns for as
-/// many or more keys or routes, is `u64::MAX`.
+/// States that [`GREATEST_COUNT`](crate::GREATEST_COUNT) is `u64::MAX`. A store that has more keys
+/// or routes than this number returns this number as their count.
 pub fn law_greatest_count_is_u64_max()
     ensures { GREATEST_COUNT + 1 ≡ 2 ^ 64 }
 {}

@@ -20,9 +20,10 @@ pub enum PrefetchTarget<'a, S> {
     At(&'a S, Prefix),
 }
 
-/// A batch of up to eight prefixes, each with the store that it is looked up in. Their memory is
-/// read together before they are used ([`PrefixStore::prefetch`](crate::PrefixStore::prefetch)).
-/// `first` is the prefix that was added last; slots after the oldest one are `Unused`.
+/// A batch of up to eight prefixes, each with the store that it will be looked up in, whose memory
+/// is read together beforehand ([`PrefixStore::prefetch`](crate::PrefixStore::prefetch)). The slots
+/// are in order: `first` has the prefix that was added last, and those after the oldest prefix are
+/// `Unused`.
 #[derive(Drop)]
 pub struct PrefetchBatch<'a, S> {
     pub first: PrefetchTarget<'a, S>,
@@ -52,9 +53,10 @@ impl<'a, S> PrefetchBatch<'a, S> {
         }
     }
 
-    /// Adds a prefix in `store` as `first`, and returns `true` if the batch is full then, with
-    /// [`PREFETCH_BATCH_LEN`] prefixes. A full batch is to be taken out
-    /// ([`PrefetchBatch::take_all`]) before the next call, which would drop its oldest prefix.
+    /// Adds `prefix`, which is to be prefetched in `store`, in the slot `first`, and moves the
+    /// others on by one slot. Returns `true` if the batch is full then, with [`PREFETCH_BATCH_LEN`]
+    /// prefixes. A full batch is to be taken out ([`PrefetchBatch::take_all`]) before the next
+    /// call, which would drop its oldest prefix.
     pub fn add(&mut self, store: &'a S, prefix: Prefix) -> bool {
         let second = mem::replace(&mut self.first, PrefetchTarget::At(store, prefix));
         let third = mem::replace(&mut self.second, second);

@@ -85,8 +85,8 @@ pub trait PrefixStore<R: Drop>: Sized + Drop {
     fn has_key(&self, prefix: &Prefix) -> bool
         ensures { result ≡ set.contains (keys self.now) prefix.now };
 
-    /// Returns the route at `prefix`, or `None` if there is none, be `prefix` a key (a prefix with
-    /// memory for a route) or not.
+    /// Returns the route at `prefix` itself. Returns `None` if there is none: `prefix` is a key (a
+    /// prefix with memory for a route) without a route, or isn't a key.
     fn get(&self, prefix: &Prefix) -> Option<&R>
         ensures { option_copied result ≡ finite.get (routes self.now) prefix.now };
 
@@ -105,10 +105,10 @@ pub trait PrefixStore<R: Drop>: Sized + Drop {
             slice_get (above (option_copied prefix.entry) (finite.entries (routes self.now))) 0 };
 
     /// Replaces the elements of `found` by the routes at the least prefixes that are greater than
-    /// `prefix`, or at the least of all if `prefix` is `None`, with their prefixes, in ascending
-    /// order (by family, address and length). Fills `found` up to its capacity; if it isn't full
-    /// then, there are no more routes. A walk so needs one call for many routes. Allocates no
-    /// memory.
+    /// `prefix`, each with its prefix, in ascending order (by family, address and length). If
+    /// `prefix` is `None`, starts at the least prefix that has a route. `prefix` needn't be in the
+    /// store. Fills `found` up to its capacity; if it isn't full then, there are no more routes. A
+    /// walk so needs one call for many routes. Allocates no memory.
     fn next_routes<'a>(&'a self, prefix: Option<&Prefix>, found: &mut Vec<(Prefix, &'a R)>)
         ensures found { dereferenced found.new.items ≡ take (vec_capacity found.old)
             (above (option_copied prefix.entry) (finite.entries (routes self.now))) }
@@ -125,9 +125,10 @@ pub trait PrefixStore<R: Drop>: Sized + Drop {
         }
     }
 
-    /// Moves all routes into `taken`, in ascending order of their prefixes, in place of its
-    /// elements. The keys (the prefixes with memory for a route) stay. Requires that `taken` has
-    /// capacity for all routes. Allocates no memory.
+    /// Moves all routes out of the store into `taken`, in ascending order of their prefixes. The
+    /// elements that `taken` had are dropped. The keys (the prefixes with memory for a route) stay,
+    /// without routes. Requires that the capacity of `taken` is at least the number of routes.
+    /// Allocates no memory.
     fn drain_routes(&mut self, taken: &mut Vec<R>)
         requires { finite.len (routes self.old) ≤ vec_capacity taken.old }
         ensures keys { keys self.new ≡ keys self.old }

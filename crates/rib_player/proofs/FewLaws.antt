@@ -16,7 +16,7 @@ use Rattle.mrt_events.proofs.PeerLaws.{peer_cmp_total, peer_cmp-IsAntisymmetric}
 use Rattle.prefix_store.specs.Stored as stored
 use Rattle.prefix_store.specs.Stored.{saturated_count}
 use Rattle.rib_player.specs.History.{pair_of}
-use Rattle.rib_player.specs.Tables.{Routes, Stores, store_at, routes_in, peer_routes, routed_peers}
+use Rattle.rib_player.specs.Tables.{Routes, PeerStores, store_at, routes_in, peer_routes, routed_peers}
 use Rattle.rib_player.specs.Lookups.{counted_peers}
 use Rattle.rib_player.specs.Representation.{IsUpdatedAt, route_presence}
 use Rattle.rib_player.specs.Indices.{ListsAll}
@@ -93,18 +93,18 @@ module _ {S : Type 0} (routes : S → stored.Routes (Rc Route Global)) where
   listed_count (Some store) = cond (nat_lt 0 (finite.len (routes store))) (Some (saturated_count (finite.len (routes store)))) None
 
   -- each peer of these numbers is listed if it has a route, and no others are
-  pub record IsFound (stores : Stores S) (order : List (Peer × ℕ)) (done : List ℕ) (found : List (Peer × ℕ)) : Type 0 where
+  pub record IsFound (stores : PeerStores S) (order : List (Peer × ℕ)) (done : List ℕ) (found : List (Peer × ℕ)) : Type 0 where
     pub true_of : (p : Peer) → IfSome (lookup (same_peer p) found) (λ n. Some n ≡ listed_count (store_at stores p))
     pub each : AllByRecursion (λ number. (p : Peer) → lookup (same_peer p) order ≡ Some number → lookup (same_peer p) found ≡ listed_count (store_at stores p)) done
 
-  pub found-start : (stores : Stores S) (order : List (Peer × ℕ)) → IsFound stores order [] []
+  pub found-start : (stores : PeerStores S) (order : List (Peer × ℕ)) → IsFound stores order [] []
   found-start stores order = record { true_of = λ p. tt; each = tt }
 
   none-found : (o c : Option ℕ) → IfSome o (λ n. Some n ≡ c) → c ≡ None → o ≡ None
   none-found None c is none = refl
   none-found (Some n) c is none = is ∙ none
 
-  module _ {stores : Stores S} {order : List (Peer × ℕ)} {done : List ℕ} {found : List (Peer × ℕ)} (so_far : IsFound stores order done found) (number : ℕ) where
+  module _ {stores : PeerStores S} {order : List (Peer × ℕ)} {done : List ℕ} {found : List (Peer × ℕ)} (so_far : IsFound stores order done found) (number : ℕ) where
     pub found-absent : ((p : Peer) → lookup (same_peer p) order ≡ Some number → ⊥) → IsFound stores order (done ++ number ∷ []) found
     found-absent none = record {
       true_of = so_far.true_of;

@@ -1,7 +1,7 @@
 -- What forgetting steps makes of a player's timeline.
 use Rattle.std.proofs.Common.{◌≡◌, ℕ, ◌+◌, ◌-◌, ◌≤◌, min, slice_index_or, ap, ◌∙◌, arith, get_or-drop, drop-drop}
 use Rattle.std.specs.FinMap as finite
-use Rattle.rib_player.specs.Timeline.{Timeline, table_at, current, without_first, forgettable, after_forget}
+use Rattle.rib_player.specs.Timeline.{Timeline, table_at, current, without_first, forgotten_count, after_forget}
 
 -- the table at a position that is left stays
 pub table_at-without_first : (t : Timeline) (count i : ℕ) → t.floor + count ≤ i → table_at (without_first count t) i ≡ table_at t i
@@ -9,8 +9,8 @@ table_at-without_first t count i from =
     get_or-drop count t.tables (i - (t.floor + count)) finite.empty
     ∙ ap (λ n. slice_index_or t.tables n finite.empty) {y = i - t.floor} (omega arith)
 
-pub table_at-after_forget : (t : Timeline) (keep i : ℕ) → t.floor + forgettable t keep ≤ i → table_at (after_forget t keep) i ≡ table_at t i
-table_at-after_forget t keep i from = table_at-without_first t (forgettable t keep) i from
+pub table_at-after_forget : (t : Timeline) (keep i : ℕ) → t.floor + forgotten_count t keep ≤ i → table_at (after_forget t keep) i ≡ table_at t i
+table_at-after_forget t keep i from = table_at-without_first t (forgotten_count t keep) i from
 
 -- so that at the cursor does
 pub current-after_forget : (t : Timeline) (keep : ℕ) → t.floor ≤ t.cursor → current (after_forget t keep) ≡ current t
@@ -25,11 +25,11 @@ without_first-more t count more =
     λ i. record { floor = floors i; cursor = t.cursor; tables = drop-drop more count t.tables i; steps = drop-drop more count t.steps i }
 
 -- nothing is forgotten where no step is too many
-pub after_forget-none : (t : Timeline) (keep : ℕ) → forgettable t keep ≡ 0 → after_forget t keep ≡ t
+pub after_forget-none : (t : Timeline) (keep : ℕ) → forgotten_count t keep ≡ 0 → after_forget t keep ≡ t
 after_forget-none t keep e = ap (λ n. without_first n t) e ∙ without_first-none t
 
 -- twice is once, to the smaller number
 pub after_forget-twice : (t : Timeline) (keep less : ℕ) → t.floor ≤ t.cursor → after_forget (after_forget t keep) less ≡ after_forget t (min keep less)
 after_forget-twice t keep less h =
-    without_first-more t (forgettable t keep) (forgettable (after_forget t keep) less)
-    ∙ ap (λ n. without_first n t) {y = forgettable t (min keep less)} (omega arith)
+    without_first-more t (forgotten_count t keep) (forgotten_count (after_forget t keep) less)
+    ∙ ap (λ n. without_first n t) {y = forgotten_count t (min keep less)} (omega arith)

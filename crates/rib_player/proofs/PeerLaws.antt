@@ -29,7 +29,7 @@ use Rattle.mrt_events.specs.Event.{peer_cmp}
 use Rattle.mrt_events.proofs.PeerLaws.{peer_cmp_total, peer_cmp-IsAntisymmetric}
 use Rattle.rib_player.specs.declared.pair.Pair.{Pair}
 use Rattle.rib_player.specs.History.{pair_cmp, pair_of}
-use Rattle.rib_player.specs.Tables.{Routes, Stores, store_at, routes_in, peer_routes, routed_peers}
+use Rattle.rib_player.specs.Tables.{Routes, PeerStores, store_at, routes_in, peer_routes, routed_peers}
 use Rattle.rib_player.specs.Lookups.{IsBest, pointed_routes, peers_above, value_of}
 use Rattle.rib_player.specs.Representation.{IsUpdatedAt, routed_stores, peer_count}
 use Rattle.rib_player.proofs.ListLaws.{all-then}
@@ -206,7 +206,7 @@ module _ (all : Routes) (peer : Peer) (none : (n : Network) → finite.get all (
 
 -- ---- the routes once those of a peer are taken
 
-pub routes-taken : {S : Type 0} (routes : S → stored.Routes (Rc Route Global)) {old new : Stores S} {peer : Peer} {w : S} → IsUpdatedAt old new peer (Some w)
+pub routes-taken : {S : Type 0} (routes : S → stored.Routes (Rc Route Global)) {old new : PeerStores S} {peer : Peer} {w : S} → IsUpdatedAt old new peer (Some w)
     → routes w ≡ finite.empty → (q : Pair) → finite.get (routes_in routes new) q ≡ cond (same_peer q.peer peer) None (finite.get (routes_in routes old) q)
 routes-taken routes {old = old} {peer = peer} written none q =
     routes_in-other routes written q
@@ -323,7 +323,7 @@ module _ {S : Type 0} (routes : S → stored.Routes (Rc Route Global)) where
   store_has_route None = false
   store_has_route (Some store) = nat_lt 0 (finite.len (routes store))
 
-  has-routed_stores : (p : Peer) (stores : Stores S) → IsStrictlySortedBy peer_cmp (keys_of stores) → has_peer p (keys_of (routed_stores routes stores)) ≡ store_has_route (store_at stores p)
+  has-routed_stores : (p : Peer) (stores : PeerStores S) → IsStrictlySortedBy peer_cmp (keys_of stores) → has_peer p (keys_of (routed_stores routes stores)) ≡ store_has_route (store_at stores p)
   has-routed_stores p [] sorted = refl
   has-routed_stores p (e ∷ stores) sorted =
       let later = has-routed_stores p stores (sorted_tail peer_cmp e.0 (keys_of stores) sorted) in
@@ -331,12 +331,12 @@ module _ {S : Type 0} (routes : S → stored.Routes (Rc Route Global)) where
       let none = absent_peer e.0 (routed_stores routes stores) (below-filter has_route e.0 stores (sorted_head peer_cmp e.0 (keys_of stores) sorted)) in
       grind arith
 
-  pub some-routes_in : (stores : Stores S) (all : Routes) (p : Peer) (store : Option S) → store ≡ store_at stores p → routes_in routes stores ≡ all → nat_lt 0 (finite.len (peer_routes all p)) ≡ store_has_route store
+  pub some-routes_in : (stores : PeerStores S) (all : Routes) (p : Peer) (store : Option S) → store ≡ store_at stores p → routes_in routes stores ≡ all → nat_lt 0 (finite.len (peer_routes all p)) ≡ store_has_route store
   some-routes_in stores all p None found e = ap (λ n. nat_lt 0 n) (len-entries (peer_routes all p) ∙ ap length (no_entries all p (λ n. sym (get-found routes stores all (pair_of p n) None found e))))
   some-routes_in stores all p (Some store) found e = ap (λ n. nat_lt 0 n) (len-of_peer (routes store) all p (λ n. get-found routes stores all (pair_of p n) (Some store) found e))
 
   -- the peers with a route are those of the stores with a route
-  keys-routed_stores : (stores : Stores S) (all : Routes) → IsStrictlySortedBy peer_cmp (keys_of stores) → routes_in routes stores ≡ all → routed_peers all ≡ keys_of (routed_stores routes stores)
+  keys-routed_stores : (stores : PeerStores S) (all : Routes) → IsStrictlySortedBy peer_cmp (keys_of stores) → routes_in routes stores ≡ all → routed_peers all ≡ keys_of (routed_stores routes stores)
   unfolding routed_peers
   keys-routed_stores stores all sorted e =
       let marks = marked (λ (entry : Peer × S). entry.0) (routed_stores routes stores) in
@@ -352,23 +352,23 @@ module _ {S : Type 0} (routes : S → stored.Routes (Rc Route Global)) where
       ∙ keys-marked (λ (entry : Peer × S). entry.0) (routed_stores routes stores)
 
   -- the stores above a peer that have a route
-  abbrev stores_above : Option Peer → Stores S → Stores S
+  abbrev stores_above : Option Peer → PeerStores S → PeerStores S
   stores_above low stores = filter (λ (entry : Peer × S). has_route entry && is_above_bound peer_cmp low entry.0) stores
 
-  shown-above : (low : Option Peer) (test : Peer → Bool) (stores : Stores S) → ((p : Peer) → test p ≡ is_above_bound peer_cmp low p)
+  shown-above : (low : Option Peer) (test : Peer → Bool) (stores : PeerStores S) → ((p : Peer) → test p ≡ is_above_bound peer_cmp low p)
       → routed_stores routes (filter (λ (entry : Peer × S). test entry.0) stores) ≡ stores_above low stores
   shown-above low test stores same =
       filter_twice has_route (λ (entry : Peer × S). test entry.0) stores
       ∙ filter_agree (λ (entry : Peer × S). test entry.0 && has_route entry) (λ (entry : Peer × S). has_route entry && is_above_bound peer_cmp low entry.0)
       (λ entry. ap (λ b. b && has_route entry) (same entry.0) ∙ and_comm (is_above_bound peer_cmp low entry.0) (has_route entry)) stores
 
-  keys-above : (low : Option Peer) (stores : Stores S) → keys_of (stores_above low stores) ≡ peers_above low (keys_of (routed_stores routes stores))
+  keys-above : (low : Option Peer) (stores : PeerStores S) → keys_of (stores_above low stores) ≡ peers_above low (keys_of (routed_stores routes stores))
   keys-above low stores =
       ap keys_of (sym (filter_twice (λ (entry : Peer × S). is_above_bound peer_cmp low entry.0) has_route stores))
       ∙ keys-filter (is_above_bound peer_cmp low) (routed_stores routes stores)
 
   -- the first of these, and its count
-  pub first_counted : (low : Option Peer) (test : Peer → Bool) (stores shown : Stores S) (all : Routes) → ((p : Peer) → test p ≡ is_above_bound peer_cmp low p)
+  pub first_counted : (low : Option Peer) (test : Peer → Bool) (stores shown : PeerStores S) (all : Routes) → ((p : Peer) → test p ≡ is_above_bound peer_cmp low p)
       → IsStrictlySortedBy peer_cmp (keys_of stores) → shown ≡ filter (λ (entry : Peer × S). test entry.0) stores → routes_in routes stores ≡ all
       → option_map (peer_count routes) (slice_get (routed_stores routes shown) 0)
       ≡ option_map {U = Peer × ℕ} (λ p. (p, saturated_count (finite.len (peer_routes all p)))) (slice_get (peers_above low (routed_peers all)) 0)
@@ -386,11 +386,11 @@ module _ {S : Type 0} (routes : S → stored.Routes (Rc Route Global)) where
           (sym (first_found (λ (entry : Peer × S). has_route entry && is_above_bound peer_cmp low entry.0) stores entry sorted f)) e)))
 
   -- a count of at least 1 is that of a store with a route
-  pub routed-more : (peer : Peer) (store : S) (rest : Stores S) (n : ℕ) → n ≡ saturated_count (finite.len (routes store)) → 0 < n
+  pub routed-more : (peer : Peer) (store : S) (rest : PeerStores S) (n : ℕ) → n ≡ saturated_count (finite.len (routes store)) → 0 < n
       → routed_stores routes ((peer, store) ∷ rest) ≡ (peer, store) ∷ routed_stores routes rest
   routed-more peer store rest n is some = ap (λ b. cond b ((peer, store) ∷ routed_stores routes rest) (routed_stores routes rest)) (lt-ltb 0 (finite.len (routes store)) (omega (arith, is, some)))
 
-  pub routed-none : (peer : Peer) (store : S) (rest : Stores S) (n : ℕ) → n ≡ saturated_count (finite.len (routes store)) → n ≤ 0
+  pub routed-none : (peer : Peer) (store : S) (rest : PeerStores S) (n : ℕ) → n ≡ saturated_count (finite.len (routes store)) → n ≤ 0
       → routed_stores routes ((peer, store) ∷ rest) ≡ routed_stores routes rest
   routed-none peer store rest n is none = ap (λ b. cond b ((peer, store) ∷ routed_stores routes rest) (routed_stores routes rest)) (le-ltb 0 (finite.len (routes store)) (omega (arith, is, none)))
 

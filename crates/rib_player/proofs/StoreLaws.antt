@@ -24,7 +24,7 @@ use Rattle.mrt_events.specs.declared.event.Route.{Route}
 use Rattle.mrt_events.specs.Event.{peer_cmp}
 use Rattle.rib_player.specs.History.{pair_cmp, pair_of}
 use Rattle.prefix_store.specs.Stored.{put}
-use Rattle.rib_player.specs.Tables.{Routes, Pairs, Stores, store_at, has_key, stored_route, route_in, keys_in, routes_in}
+use Rattle.rib_player.specs.Tables.{Routes, Pairs, PeerStores, store_at, has_key, stored_route, route_in, keys_in, routes_in}
 use Rattle.rib_player.specs.Representation.{HaveKeys, IsUpdatedAt, route_presence}
 use Rattle.rib_player.specs.Lent.{IsLent}
 use Rattle.rib_player.specs.StoresByPeer.{stores_in}
@@ -84,7 +84,7 @@ any-pairs q peer [] = grind arith
 any-pairs q peer (n ∷ ns) = let parts = tied_parts q peer n in grind (arith, any-pairs q peer ns)
 
 -- what is read of each pair's store, where a peer's store is another
-module _ {S V : Type 0} (read : Option S → Network → V) {old new : Stores S} {peer : Peer} {w : Option S} (written : IsUpdatedAt old new peer w) where
+module _ {S V : Type 0} (read : Option S → Network → V) {old new : PeerStores S} {peer : Peer} {w : Option S} (written : IsUpdatedAt old new peer w) where
   read-other : (q : Pair) → read (store_at new q.peer) q.prefix ≡ cond (same_peer q.peer peer) (read w q.prefix) (read (store_at old q.peer) q.prefix)
   read-other q = let is = written.each q.peer in grind (arith, peer_symm peer q.peer)
 
@@ -111,11 +111,11 @@ put-route : (routes : Routes) (peer : Peer) (n : Network) (route : Option Route)
 put-route routes peer n route q = let there = get-put pair_cmp_total routes (pair_of peer n) route q in grind (arith, tied_parts q peer n)
 
 module _ {S : Type 0} (keys : S → stored.Keys) where
-  abbrev key_pairs : Stores S → List Pair
+  abbrev key_pairs : PeerStores S → List Pair
   key_pairs stores = flat_map (λ (entry : Peer × S). map (pair_of entry.0) (set.items (keys entry.1))) stores
 
   -- a key of a pair's store is among the keys of all
-  key_among : (stores : Stores S) (q : Pair) → (has_key keys (store_at stores q.peer) q.prefix && list_any (eq_by_cmp pair_cmp q) (key_pairs stores)) ≡ has_key keys (store_at stores q.peer) q.prefix
+  key_among : (stores : PeerStores S) (q : Pair) → (has_key keys (store_at stores q.peer) q.prefix && list_any (eq_by_cmp pair_cmp q) (key_pairs stores)) ≡ has_key keys (store_at stores q.peer) q.prefix
   key_among [] q = refl
   key_among (entry ∷ stores) q =
       let both = list_any-append (eq_by_cmp pair_cmp q) (map (pair_of entry.0) (set.items (keys entry.1))) (key_pairs stores) in
@@ -125,7 +125,7 @@ module _ {S : Type 0} (keys : S → stored.Keys) where
       grind arith
 
   -- a pair is a key where its prefix is a key of its peer's store
-  pub contains-keys_in : (stores : Stores S) (q : Pair) → set.contains (keys_in keys stores) q ≡ has_key keys (store_at stores q.peer) q.prefix
+  pub contains-keys_in : (stores : PeerStores S) (q : Pair) → set.contains (keys_in keys stores) q ≡ has_key keys (store_at stores q.peer) q.prefix
   unfolding keys_in
   contains-keys_in stores q =
       let test = λ (p : Pair). has_key keys (store_at stores p.peer) p.prefix in
@@ -134,7 +134,7 @@ module _ {S : Type 0} (keys : S → stored.Keys) where
       ∙ key_among stores q
 
   -- a peer's store is another, or goes
-  module _ {old new : Stores S} {peer : Peer} {w : Option S} (written : IsUpdatedAt old new peer w) where
+  module _ {old new : PeerStores S} {peer : Peer} {w : Option S} (written : IsUpdatedAt old new peer w) where
     pub keys_in-other : (q : Pair) → set.contains (keys_in keys new) q ≡ cond (same_peer q.peer peer) (has_key keys w q.prefix) (set.contains (keys_in keys old) q)
     keys_in-other q = contains-keys_in new q ∙ read-other (has_key keys) written q ∙ ap (cond (same_peer q.peer peer) (has_key keys w q.prefix)) (sym (contains-keys_in old q))
 
@@ -163,11 +163,11 @@ module _ {S : Type 0} (keys : S → stored.Keys) where
         (elim (same_peer peer p) as (λ a. IfSome (cond a w (store_at old p)) (λ store. 0 < set.len (keys store))) [ true ↦ one | false ↦ held p ])
 
 module _ {S : Type 0} (routes : S → stored.Routes (Rc Route Global)) where
-  abbrev route_pairs : Stores S → List Pair
+  abbrev route_pairs : PeerStores S → List Pair
   route_pairs stores = flat_map (λ (entry : Peer × S). map (pair_of entry.0) (finite.keys (routes entry.1))) stores
 
   -- a pair that is not among those with routes has none
-  no_route : (stores : Stores S) (q : Pair) → list_any (eq_by_cmp pair_cmp q) (route_pairs stores) ≡ false → stored_route routes (store_at stores q.peer) q.prefix ≡ None
+  no_route : (stores : PeerStores S) (q : Pair) → list_any (eq_by_cmp pair_cmp q) (route_pairs stores) ≡ false → stored_route routes (store_at stores q.peer) q.prefix ≡ None
   no_route [] q e = refl
   no_route (entry ∷ stores) q e =
       let both = list_any-append (eq_by_cmp pair_cmp q) (map (pair_of entry.0) (finite.keys (routes entry.1))) (route_pairs stores) in
@@ -177,14 +177,14 @@ module _ {S : Type 0} (routes : S → stored.Routes (Rc Route Global)) where
       grind arith
 
   -- the route at a pair is that of its peer's store
-  pub get-routes_in : (stores : Stores S) (q : Pair) → finite.get (routes_in routes stores) q ≡ stored_route routes (store_at stores q.peer) q.prefix
+  pub get-routes_in : (stores : PeerStores S) (q : Pair) → finite.get (routes_in routes stores) q ≡ stored_route routes (store_at stores q.peer) q.prefix
   unfolding routes_in
   get-routes_in stores q =
       get-tabulation (λ p. stored_route routes (store_at stores p.peer) p.prefix) (route_pairs stores) q
       ∙ cond_untested (list_any (eq_by_cmp pair_cmp q) (route_pairs stores)) (stored_route routes (store_at stores q.peer) q.prefix) None (no_route stores q)
 
   -- a peer's store is another, or goes
-  module _ {old new : Stores S} {peer : Peer} {w : Option S} (written : IsUpdatedAt old new peer w) where
+  module _ {old new : PeerStores S} {peer : Peer} {w : Option S} (written : IsUpdatedAt old new peer w) where
     pub routes_in-other : (q : Pair) → finite.get (routes_in routes new) q ≡ cond (same_peer q.peer peer) (stored_route routes w q.prefix) (finite.get (routes_in routes old) q)
     routes_in-other q = get-routes_in new q ∙ read-other (stored_route routes) written q ∙ ap (cond (same_peer q.peer peer) (stored_route routes w q.prefix)) (sym (get-routes_in old q))
 
@@ -203,11 +203,11 @@ module _ {S : Type 0} (routes : S → stored.Routes (Rc Route Global)) where
     routes_in-same is = same_routes _ _ (λ q. routes_in-changed (λ x r. r) is q ∙ either_same (same_peer q.peer peer) _)
 
 -- no stores
-pub keys_in-none : {S : Type 0} (keys : S → stored.Keys) (stores : Stores S) → stores ≡ [] → keys_in keys stores ≡ set.empty
+pub keys_in-none : {S : Type 0} (keys : S → stored.Keys) (stores : PeerStores S) → stores ≡ [] → keys_in keys stores ≡ set.empty
 unfolding keys_in
 keys_in-none keys stores e = ap (keys_in keys) e
 
-pub routes_in-none : {S : Type 0} (routes : S → stored.Routes (Rc Route Global)) (stores : Stores S) → stores ≡ [] → routes_in routes stores ≡ finite.empty
+pub routes_in-none : {S : Type 0} (routes : S → stored.Routes (Rc Route Global)) (stores : PeerStores S) → stores ≡ [] → routes_in routes stores ≡ finite.empty
 unfolding routes_in
 routes_in-none routes stores e = ap (routes_in routes) e
 
@@ -216,44 +216,44 @@ pub route-copied : (shared : Option (Bor (Rc Route Global))) → option_map (λ 
 route-copied shared = grind arith
 
 -- a table has the route that its peer's store has
-pub get-found : {S : Type 0} (routes : S → stored.Routes (Rc Route Global)) (stores : Stores S) (all : Routes) (q : Pair) (store : Option S) → store ≡ store_at stores q.peer → routes_in routes stores ≡ all
+pub get-found : {S : Type 0} (routes : S → stored.Routes (Rc Route Global)) (stores : PeerStores S) (all : Routes) (q : Pair) (store : Option S) → store ≡ store_at stores q.peer → routes_in routes stores ≡ all
     → stored_route routes store q.prefix ≡ finite.get all q
 get-found routes stores all q store found e = ap (λ s. stored_route routes s q.prefix) found ∙ sym (get-routes_in routes stores q) ∙ ap (λ r. finite.get r q) e
 
 -- and the key that it has
-pub contains-found : {S : Type 0} (keys : S → stored.Keys) (stores : Stores S) (all : Pairs) (q : Pair) (store : Option S) → store ≡ store_at stores q.peer → keys_in keys stores ≡ all
+pub contains-found : {S : Type 0} (keys : S → stored.Keys) (stores : PeerStores S) (all : Pairs) (q : Pair) (store : Option S) → store ≡ store_at stores q.peer → keys_in keys stores ≡ all
     → has_key keys store q.prefix ≡ set.contains all q
 contains-found keys stores all q store found e = ap (λ s. has_key keys s q.prefix) found ∙ sym (contains-keys_in keys stores q) ∙ ap (λ k. set.contains k q) e
 
 -- the store that a look-up finds
-pub store-keys : {S : Type 0} (keys : S → stored.Keys) (stores : Stores S) (all : Pairs) (peer : Peer) (found : Option (Bor S)) → option_copied found ≡ store_at stores peer → keys_in keys stores ≡ all
+pub store-keys : {S : Type 0} (keys : S → stored.Keys) (stores : PeerStores S) (all : Pairs) (peer : Peer) (found : Option (Bor S)) → option_copied found ≡ store_at stores peer → keys_in keys stores ≡ all
     → IfSome found (λ store. (n : Network) → set.contains (keys store.now) n ≡ set.contains all (pair_of peer n))
 store-keys keys stores all peer None is e = tt
 store-keys keys stores all peer (Some store) is e = λ n. contains-found keys stores all (pair_of peer n) (Some store.now) is e
 
-pub store-routes : {S : Type 0} (routes : S → stored.Routes (Rc Route Global)) (stores : Stores S) (all : Routes) (peer : Peer) (found : Option (Bor S)) → option_copied found ≡ store_at stores peer → routes_in routes stores ≡ all
+pub store-routes : {S : Type 0} (routes : S → stored.Routes (Rc Route Global)) (stores : PeerStores S) (all : Routes) (peer : Peer) (found : Option (Bor S)) → option_copied found ≡ store_at stores peer → routes_in routes stores ≡ all
     → IfSome found (λ store. (n : Network) → option_map value_of (finite.get (routes store.now) n) ≡ finite.get all (pair_of peer n))
 store-routes routes stores all peer None is e = tt
 store-routes routes stores all peer (Some store) is e = λ n. get-found routes stores all (pair_of peer n) (Some store.now) is e
 
 -- a peer without a store has no route
-pub store-absent : {S : Type 0} (routes : S → stored.Routes (Rc Route Global)) (stores : Stores S) (all : Routes) (peer : Peer) (found : Option (Bor S)) → option_copied found ≡ store_at stores peer → routes_in routes stores ≡ all
+pub store-absent : {S : Type 0} (routes : S → stored.Routes (Rc Route Global)) (stores : PeerStores S) (all : Routes) (peer : Peer) (found : Option (Bor S)) → option_copied found ≡ store_at stores peer → routes_in routes stores ≡ all
     → IfNone found ((n : Network) → finite.get all (pair_of peer n) ≡ None)
 store-absent routes stores all peer None is e = λ n. sym (get-found routes stores all (pair_of peer n) None is e)
 store-absent routes stores all peer (Some store) is e = tt
 
-pub store-some : {S : Type 0} (keys : S → stored.Keys) (stores : Stores S) (peer : Peer) (found : Option (Bor S)) → option_copied found ≡ store_at stores peer → HaveKeys keys stores
+pub store-some : {S : Type 0} (keys : S → stored.Keys) (stores : PeerStores S) (peer : Peer) (found : Option (Bor S)) → option_copied found ≡ store_at stores peer → HaveKeys keys stores
     → IfSome found (λ store. 0 < set.len (keys store.now))
 store-some keys stores peer None is held = tt
 store-some keys stores peer (Some store) is held = subst (λ s. IfSome s (λ store. 0 < set.len (keys store))) (sym is) (held peer)
 
-pub store-none : {S : Type 0} (keys : S → stored.Keys) (stores : Stores S) (all : Pairs) (peer : Peer) (found : Option (Bor S)) → option_copied found ≡ store_at stores peer → keys_in keys stores ≡ all
+pub store-none : {S : Type 0} (keys : S → stored.Keys) (stores : PeerStores S) (all : Pairs) (peer : Peer) (found : Option (Bor S)) → option_copied found ≡ store_at stores peer → keys_in keys stores ≡ all
     → IfNone found ((n : Network) → set.contains all (pair_of peer n) ≡ false)
 store-none keys stores all peer None is e = λ n. sym (contains-found keys stores all (pair_of peer n) None is e)
 store-none keys stores all peer (Some store) is e = tt
 
 -- a key has a store
-pub key-has-store : {S : Type 0} (keys : S → stored.Keys) (stores : Stores S) (all : Pairs) (q : Pair) → keys_in keys stores ≡ all → set.contains all q ≡ true → None ≡ store_at stores q.peer → ⊥
+pub key-has-store : {S : Type 0} (keys : S → stored.Keys) (stores : PeerStores S) (all : Pairs) (q : Pair) → keys_in keys stores ≡ all → set.contains all q ≡ true → None ≡ store_at stores q.peer → ⊥
 key-has-store keys stores all q e there none =
     let lost : false ≡ true = contains-found keys stores all q None none e ∙ there in
     cc
@@ -305,7 +305,7 @@ written-twice {old = old} {peer = peer} {v = v} {w = w} first second = record { 
     at false x = refl
 
 -- a peer's store was written
-pub record IsStored {S : Type 0} (old new : Stores S) (peer : Peer) (before after : S) : Type 0 where
+pub record IsStored {S : Type 0} (old new : PeerStores S) (peer : Peer) (before after : S) : Type 0 where
   pub found : Some before ≡ store_at old peer
   pub written : IsUpdatedAt old new peer (Some after)
 
@@ -315,7 +315,7 @@ pub stored-lent : {S : Type 0} (old new : numbered.Stores S) {peer : Peer} {afte
 stored-lent old new lent x is value on = record { found = sym (ap option_copied_mut is) ∙ value; written = (when_some lent x is on).written }
 
 -- and what was noted
-abbrev pub AreNoted : {S : Type 0} → (S → stored.Routes (Rc Route Global)) → Stores S → List (Peer × Bool) → Type 0
+abbrev pub AreNoted : {S : Type 0} → (S → stored.Routes (Rc Route Global)) → PeerStores S → List (Peer × Bool) → Type 0
 AreNoted routes stores routed = (p : Peer) → lookup (same_peer p) routed ≡ route_presence routes (store_at stores p)
 
 -- a count that is more than none
@@ -324,7 +324,7 @@ saturated_count-some zero = refl
 saturated_count-some (suc n) = lt-ltb 0 (stored.saturated_count (suc n)) (omega arith) ∙ sym (lt-ltb 0 (suc n) (omega arith))
 
 module _ {S : Type 0} (routes : S → stored.Routes (Rc Route Global)) where
-  pub noted-other : {old new : Stores S} {routed routed' : List (Peer × Bool)} {peer : Peer} {w : Option S} {is : Option Bool} → IsUpdatedAt old new peer w → IsUpdatedAt routed routed' peer is
+  pub noted-other : {old new : PeerStores S} {routed routed' : List (Peer × Bool)} {peer : Peer} {w : Option S} {is : Option Bool} → IsUpdatedAt old new peer w → IsUpdatedAt routed routed' peer is
       → is ≡ route_presence routes w → AreNoted routes old routed → AreNoted routes new routed'
   noted-other {old = old} {routed = routed} {peer = peer} {w = w} {is = is} written noted same all p =
       noted.each p ∙ at (same_peer peer p) ∙ ap (route_presence routes) (sym (written.each p))
@@ -359,7 +359,7 @@ module _ {S : Type 0} (routes : S → stored.Routes (Rc Route Global)) where
       at true tied = ap (route_presence routes) (ap (store_at (stores_in old)) (sym (one_peer peer p tied)) ∙ sym found) ∙ ap (λ r. Some (nat_lt 0 (finite.len r))) (sym same)
       at false tied = refl
 
-module _ {S : Type 0} (keys : S → stored.Keys) {old new : Stores S} {peer : Peer} {before after : S} (there : IsStored old new peer before after) where
+module _ {S : Type 0} (keys : S → stored.Keys) {old new : PeerStores S} {peer : Peer} {before after : S} (there : IsStored old new peer before after) where
   pub keys-kept : keys after ≡ keys before → keys_in keys new ≡ keys_in keys old
   keys-kept e = keys_in-same keys there.written (λ x. ap (λ k. set.contains k x) e ∙ ap (λ s. has_key keys s x) there.found)
 
@@ -377,7 +377,7 @@ module _ {S : Type 0} (keys : S → stored.Keys) {old new : Stores S} {peer : Pe
   keys-less n e = keys_in-remove keys there.written n (λ x.
       ap (λ k. set.contains k x) e ∙ contains-remove network_cmp_total (keys before) n x ∙ ap (λ s. not (same_network x n) && has_key keys s x) there.found)
 
-module _ {S : Type 0} (routes : S → stored.Routes (Rc Route Global)) {old new : Stores S} {peer : Peer} {before after : S} (there : IsStored old new peer before after) where
+module _ {S : Type 0} (routes : S → stored.Routes (Rc Route Global)) {old new : PeerStores S} {peer : Peer} {before after : S} (there : IsStored old new peer before after) where
   pub routes-kept : routes after ≡ routes before → routes_in routes new ≡ routes_in routes old
   routes-kept e = routes_in-same routes there.written (λ x. ap (λ r. option_map value_of (finite.get r x)) e ∙ ap (λ s. stored_route routes s x) there.found)
 
@@ -389,7 +389,7 @@ module _ {S : Type 0} (routes : S → stored.Routes (Rc Route Global)) {old new 
 none-left : (keys : stored.Keys) (x : Network) → set.len keys ≡ 0 → set.contains keys x ≡ false
 none-left keys x none = ap (λ k. set.contains k x) (set.empty_of_len keys none) ∙ contains-empty network_cmp x
 
-module _ {S : Type 0} (keys : S → stored.Keys) (routes : S → stored.Routes (Rc Route Global)) {old between new : Stores S} {peer : Peer} {before after : S} (there : IsStored old between peer before after) (removed : IsUpdatedAt between new peer None) where
+module _ {S : Type 0} (keys : S → stored.Keys) (routes : S → stored.Routes (Rc Route Global)) {old between new : PeerStores S} {peer : Peer} {before after : S} (there : IsStored old between peer before after) (removed : IsUpdatedAt between new peer None) where
   pub held-gone : HaveKeys keys old → HaveKeys keys new
   held-gone held = held-other keys (written-twice there.written removed) held tt
 
@@ -402,7 +402,7 @@ module _ {S : Type 0} (keys : S → stored.Keys) (routes : S → stored.Routes (
       sym (ap (option_map value_of) (among x (none-left (keys after) x none))) ∙ ap (λ r. option_map value_of (finite.get r x)) e ∙ ap (λ s. stored_route routes s x) there.found)
 
 -- a store is added
-module _ {S : Type 0} {old new : Stores S} {peer : Peer} {store : S} (absent : None ≡ store_at old peer) (added : IsUpdatedAt old new peer (Some store)) where
+module _ {S : Type 0} {old new : PeerStores S} {peer : Peer} {store : S} (absent : None ≡ store_at old peer) (added : IsUpdatedAt old new peer (Some store)) where
   pub keys-added : (keys : S → stored.Keys) (n : Network) → keys store ≡ set.insert set.empty n → keys_in keys new ≡ set.insert (keys_in keys old) (pair_of peer n)
   keys-added keys n e = keys_in-insert keys added n (λ x.
       ap (λ k. set.contains k x) e ∙ contains-insert network_cmp_total set.empty n x

@@ -13,7 +13,7 @@ use Rattle.mrt_events.specs.declared.event.Route.{Route}
 use Rattle.mrt_events.specs.Event.{ItemValue, Announced, Withdrawn, Changed}
 use Rattle.mrt_events.specs.declared.event.Event.{Event}
 use Rattle.rib_player.specs.History.{pair_cmp, Effect, item_effect, later, last_effect, effect, route_after, route}
-use Rattle.rib_player.specs.Tables.{Routes, tabulation, pairs_announced_by, announced_pairs, table, concerned_pairs, table_after, is_named, named_pairs}
+use Rattle.rib_player.specs.Tables.{Routes, tabulation, pairs_announced_by, announced_pairs, table, candidate_pairs, table_after, is_named, named_pairs}
 use Rattle.rib_player.proofs.PairLaws.{pair_cmp_total, pair_cmp-IsAntisymmetric, same_pair}
 use Rattle.octet_forms.proofs.Booleans.{cond_or, cond_untested}
 
@@ -68,8 +68,8 @@ get-table history pair =
     ∙ cond_untested (among pair (flat_map announced_pairs history)) (route pair history) None (unset_by_history pair history)
 
 -- what concerns a pair: it has a route, or the event announces one
-among-concerned_pairs : (routes : Routes) (event : Event) (q : Pair) → among q (concerned_pairs routes event) ≡ (is_some (get routes q) || among q (announced_pairs event))
-among-concerned_pairs routes event q =
+among-candidate_pairs : (routes : Routes) (event : Event) (q : Pair) → among q (candidate_pairs routes event) ≡ (is_some (get routes q) || among q (announced_pairs event))
+among-candidate_pairs routes event q =
     list_any-append (eq_by_cmp pair_cmp q) (keys routes) (announced_pairs event)
     ∙ ap (λ b. b || among q (announced_pairs event)) (sym (contains_key-keys routes q))
 
@@ -81,9 +81,9 @@ unconcerned before does b is e = grind arith
 pub get-table_after : (routes : Routes) (event : Event) (pair : Pair) → get (table_after routes event) pair ≡ route_after (get routes pair) (effect pair event)
 unfolding table_after
 get-table_after routes event pair =
-    get-tabulation (λ p. route_after (get routes p) (effect p event)) (concerned_pairs routes event) pair
-    ∙ cond_untested (among pair (concerned_pairs routes event)) (route_after (get routes pair) (effect pair event)) None
-    (λ e. unconcerned (get routes pair) (effect pair event) (among pair (announced_pairs event)) (unset_by_event pair event) (sym (among-concerned_pairs routes event pair) ∙ e))
+    get-tabulation (λ p. route_after (get routes p) (effect p event)) (candidate_pairs routes event) pair
+    ∙ cond_untested (among pair (candidate_pairs routes event)) (route_after (get routes pair) (effect pair event)) None
+    (λ e. unconcerned (get routes pair) (effect pair event) (among pair (announced_pairs event)) (unset_by_event pair event) (sym (among-candidate_pairs routes event pair) ∙ e))
 
 -- a pair that an event names is concerned
 named_concerned : (before : Option Route) (does : Effect) (b : Bool) → (b ≡ false → route_after None does ≡ None) → (is_named before does && (is_some before || b)) ≡ is_named before does
@@ -94,7 +94,7 @@ pub contains-named_pairs : (routes : Routes) (event : Event) (pair : Pair) → c
 unfolding named_pairs
 contains-named_pairs routes event pair =
     let test = λ (p : Pair). is_named (get routes p) (effect p event) in
-    contains-from_list pair_cmp_total (filter test (concerned_pairs routes event)) pair
-    ∙ any-filter_same (eq_by_cmp pair_cmp pair) test (test pair) (λ p e. ap test (sym (same_pair pair p e))) (concerned_pairs routes event)
-    ∙ ap (λ b. test pair && b) (among-concerned_pairs routes event pair)
+    contains-from_list pair_cmp_total (filter test (candidate_pairs routes event)) pair
+    ∙ any-filter_same (eq_by_cmp pair_cmp pair) test (test pair) (λ p e. ap test (sym (same_pair pair p e))) (candidate_pairs routes event)
+    ∙ ap (λ b. test pair && b) (among-candidate_pairs routes event pair)
     ∙ named_concerned (get routes pair) (effect pair event) (among pair (announced_pairs event)) (unset_by_event pair event)

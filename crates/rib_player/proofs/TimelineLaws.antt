@@ -7,7 +7,7 @@ use Rattle.rib_player.specs.declared.pair.Pair.{Pair}
 use Rattle.mrt_events.specs.declared.event.Event.{Event}
 use Rattle.rib_player.specs.History.{route}
 use Rattle.rib_player.specs.Tables.{table, table_after, named_pairs}
-use Rattle.rib_player.specs.Timeline.{Timeline, end_of, undoable, table_at, current, after_play, fresh, after_undo, after_redo, without_first, forgettable, after_forget}
+use Rattle.rib_player.specs.Timeline.{Timeline, end_of, undoable, table_at, current, after_play, fresh, after_undo, after_redo, without_first, forgotten_count, after_forget}
 use Rattle.rib_player.specs.Calls.{StandsFor, Call, Play, PlayRefused, Undo, Redo, Forget, Look, tables_along, steps_along, after_call, after_calls, history_after, history_after_calls}
 use Rattle.rib_player.proofs.TableLaws.{get-table}
 use Rattle.rib_player.proofs.HistoryLaws.{table-append}
@@ -110,7 +110,7 @@ StandsFor-without_first t history count within stands =
 
 -- so forgetting keeps the history
 pub StandsFor-after_forget : (t : Timeline) (history : List Event) (keep : ℕ) → StandsFor t history → StandsFor (after_forget t keep) history
-StandsFor-after_forget t history keep stands = StandsFor-without_first t history (forgettable t keep) (omega arith) stands
+StandsFor-after_forget t history keep stands = StandsFor-without_first t history (forgotten_count t keep) (omega arith) stands
 
 -- after a call, a player stands for the history that the call leaves
 pub StandsFor-after_call : (t : Timeline) (history : List Event) (call : Call) → StandsFor t history → StandsFor (after_call t call) (history_after t.cursor history call)

@@ -4,22 +4,25 @@ use Rattle.rib_player.specs.Tables.{Routes, Pairs, table, named_pairs}
 use Rattle.mrt_events.specs.declared.event.Event.{Event}
 use Rattle.rib_player.specs.Timeline.{Timeline, after_play, after_undo, after_redo, after_forget}
 
--- the table after a past, and after each of the events that follow it, in order
+-- the table after the events `past`, and then the table after each of `events`, which follow them, in order
 abbrev pub tables_along : List Event → List Event → List Routes
 tables_along past [] = table past ∷ []
 tables_along past (event ∷ events) = table past ∷ tables_along (past ++ event ∷ []) events
 
--- the pairs that each of the events that follow a past names, in order
+-- for each of `events`, in order, the pairs that it names (whose routes it sets or clears), played after
+-- `past`, the first list, and the events before it
 abbrev pub steps_along : List Event → List Event → List Pairs
 steps_along past [] = []
 steps_along past (event ∷ events) = named_pairs (table past) event ∷ steps_along (past ++ event ∷ []) events
 
--- the pairs that the event at an index of a history names, or `None` past its end
+-- the pairs that the event at index `i` of `history` names (whose routes it sets or clears), played after the
+-- events before it; `None` if there is no such index
 abbrev pub named_pairs_at : List Event → ℕ → Option Pairs
 named_pairs_at history i = option_map (named_pairs (table (take i history))) (slice_get history i)
 
--- a player stands for a history: from the floor on, its table at each position is that of the events before
--- it, and its steps name what these events name
+-- player `t` may have played `history`: its cursor is a position in it, not below the floor; from the floor
+-- on, its table at each position is that of the events before it, and each of its steps has the pairs that
+-- the event there names (whose routes it sets or clears)
 pub record StandsFor (t : Timeline) (history : List Event) : Type 0 where
   pub floor : t.floor ≤ t.cursor
   pub cursor : t.cursor ≤ length history

@@ -18,8 +18,8 @@ use Rattle.ip_prefix.specs.Bits.{number_of}
 use Rattle.ip_prefix.specs.Network.{Network, network_cmp}
 use Rattle.mrt_events.specs.declared.event.Event.{Event}
 use Rattle.mrt_events.specs.Event.{peer_cmp}
-use Rattle.rib_player.specs.declared.claims.Claims.{Claims}
-use Rattle.rib_player.specs.declared.claims.PeerClaims.{PeerClaims}
+use Rattle.rib_player.specs.declared.claims.ExtraClaims.{ExtraClaims}
+use Rattle.rib_player.specs.declared.claims.ExtraClaimsOfPeer.{ExtraClaimsOfPeer}
 use Rattle.rib_player.specs.declared.claims.TheConstants.{ADDRESSES}
 use Rattle.rib_player.specs.KeyCounts.{count_at}
 use Rattle.rib_player.specs.declared.pair.Pair.{Pair}
@@ -102,15 +102,15 @@ by_family V4 a b = a
 by_family V6 a b = b
 
 -- how many claims of a prefix the counts of one peer have
-abbrev pub count_of : PeerClaims → Network → ℕ
+abbrev pub count_of : ExtraClaimsOfPeer → Network → ℕ
 count_of counts n = by_family n.family (count_at nat_cmp counts.v4 (v4_prefix_number n)) (count_at network_cmp counts.v6 n)
 
 -- how many claims of a prefix the counts of a peer have; none if the peer has no counts
-abbrev pub count_of_peer : Option (Box PeerClaims Global) → Network → ℕ
+abbrev pub count_of_peer : Option (Box ExtraClaimsOfPeer Global) → Network → ℕ
 count_of_peer counts prefix = option_map_or (λ counts. count_of counts.value prefix) counts 0
 
 -- how many claims of a pair are counted beyond the first, which is its key
-abbrev pub claims_beyond : Claims → Pair → ℕ
+abbrev pub claims_beyond : ExtraClaims → Pair → ℕ
 claims_beyond claims pair = count_of_peer (tree.get peer_cmp claims.peers pair.peer) pair.prefix
 
 -- how many claims of a pair are held, given the keys and the number beyond the first: one if the pair is a
@@ -119,7 +119,7 @@ abbrev pub held_claims : Pairs → (Pair → ℕ) → Pair → ℕ
 held_claims keys beyond pair = one_if (set.contains keys pair) + beyond pair
 
 -- how many claims of a pair a table and the counts beside it hold
-abbrev pub claims_in : Contents → Claims → Pair → ℕ
+abbrev pub claims_in : Contents → ExtraClaims → Pair → ℕ
 claims_in table claims = held_claims table.keys (claims_beyond claims)
 
 -- only keys have claims beyond the first

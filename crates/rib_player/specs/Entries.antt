@@ -5,7 +5,7 @@ use Rattle.std.specs.declared.rc.Rc.{Rc}
 use Rattle.mrt_events.specs.declared.event.Route.{Route}
 use Rattle.rib_player.specs.declared.pair.Pair.{Pair}
 
--- one pair of a step
+-- what a step, the change by one event, has of one of its pairs of a peer and a prefix
 pub record Entry : Type 0 where
   -- the pair
   pub pair : Pair

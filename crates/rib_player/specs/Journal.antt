@@ -10,40 +10,45 @@ use Rattle.prefix_store.specs.Stored.{put}
 use Rattle.rib_player.specs.Tables.{Routes, route_in}
 use Rattle.rib_player.specs.Timeline.{Timeline}
 
--- a pair, and the route that it has on the other side of a step, if any
+-- a pair of a peer and a prefix, and the route, if any, that it has on the other side of a step: before the
+-- step, if it is applied, or after it, if it isn't
 abbrev pub Side : Type 0
 Side = Pair × Option Route
 
--- an entry as a side
+-- the pair of an entry, and the route that the entry holds for it, if any: that on the other side of the
+-- step, which is before an applied step and after one that isn't applied
 abbrev pub side_of : Entry → Side
 side_of entry = (entry.pair, route_in entry.other)
 
--- entries as sides, in order
+-- for each entry of a step, in order, its pair and the route that it holds (`side_of`)
 abbrev pub sides_of : List Entry → List Side
 sides_of entries = map side_of entries
 
--- the pairs of sides, in order
+-- the pair of each side, in order; a side is a pair of a peer and a prefix, and the route that it has on the
+-- other side of a step, if any
 abbrev pub pairs_in : List Side → List Pair
 pairs_in sides = map (λ side. side.0) sides
 
--- the table on the other side of a step, given its sides and the table on this side
+-- the table on the other side of a step: `routes`, the table on this side, in which each pair of `sides` gets
+-- the route, or none, that it has on the other side
 abbrev pub routes_across : List Side → Routes → Routes
 routes_across [] routes = routes
 routes_across (side ∷ sides) routes = routes_across sides (put routes side.0 side.1)
 
--- the tables before each of some applied steps, the first table first; the steps are given from the last to
--- the first, with the table after the last
+-- the table before each of some applied steps, in order; the steps are given from the last to the first, each
+-- by its pairs with the routes before it, and `routes` is the table after the last
 abbrev pub tables_before : List (List Side) → Routes → List Routes
 tables_before [] routes = []
 tables_before (sides ∷ earlier) routes = tables_before earlier (routes_across sides routes) ++ routes_across sides routes ∷ []
 
--- the tables after each of some steps that aren't applied, in order, given the table before the first
+-- the table after each of some steps that aren't applied, in order; each step is given by its pairs with the
+-- routes after it, and `routes` is the table before the first step
 abbrev pub tables_after : List (List Side) → Routes → List Routes
 tables_after [] routes = []
 tables_after (sides ∷ later) routes = routes_across sides routes ∷ tables_after later (routes_across sides routes)
 
--- the tables at all positions, in order, given the number of steps before the cursor, all steps in order, and
--- the table at the cursor
+-- the table at each position, in order, where `cursor` is the number of steps before the cursor, and `routes`
+-- the table there; `steps` are all steps in order, each by its pairs with the routes on the other side of it
 abbrev pub tables_over : ℕ → List (List Side) → Routes → List Routes
 tables_over cursor steps routes = tables_before (reverse (take cursor steps)) routes ++ routes ∷ tables_after (drop cursor steps) routes
 
@@ -57,10 +62,10 @@ timeline_of floor cursor steps routes = record {
   steps = map (λ sides. from_list (pairs_in sides)) steps;
 }
 
--- the sides of a step
+-- for each entry of a step, in order, its pair and the route that it holds
 abbrev pub step_sides : Step → List Side
 step_sides step = sides_of step.entries.items
 
--- the sides of each step, in order
+-- for each step, in order, the pairs of its entries and the routes that they hold
 abbrev pub steps_of : List Step → List (List Side)
 steps_of steps = map step_sides steps

@@ -13,10 +13,10 @@ use Rattle.mrt_events.specs.Event.{peer_cmp}
 use Rattle.ip_prefix.specs.Codes.{coded_network}
 use Rattle.ip_prefix.specs.Network.{Network}
 use Rattle.rib_player.specs.declared.pair.Pair.{Pair}
-use Rattle.rib_player.specs.Tables.{Routes, Pairs, Contents, Stores, store_at}
+use Rattle.rib_player.specs.Tables.{Routes, Pairs, Contents, PeerStores, store_at}
 use Rattle.ip_prefix.specs.declared.addr.Family.TheVariants.{V4}
 use Rattle.prefix_store.specs.Contents.{v4_network}
-use Rattle.rib_player.specs.declared.entry.RoutedSides.{RoutedSides}
+use Rattle.rib_player.specs.declared.entry.RoutePresence.{RoutePresence}
 use Rattle.rib_player.specs.declared.entry.EntryRepr.{EntryRepr}
 use Rattle.rib_player.specs.declared.entry.EntryRepr.TheVariants.{V4Absent, V4Present, V6Absent, V6Present, Taken}
 use Rattle.rib_player.specs.History.{pair_of}
@@ -38,7 +38,7 @@ coded_contents =
     (λ s. (s.keys, s.routes)) (λ p. record { keys = p.0; routes = p.1 }) (λ _. refl)
 
 -- the stores that have a route, each with its peer
-abbrev pub routed_stores : {S : Type 0} → (S → stored.Routes (Rc Route Global)) → Stores S → Stores S
+abbrev pub routed_stores : {S : Type 0} → (S → stored.Routes (Rc Route Global)) → PeerStores S → PeerStores S
 routed_stores routes stores = filter (λ entry. nat_lt 0 (finite.len (routes entry.1))) stores
 
 -- a peer, and the number of routes that its store returns
@@ -46,7 +46,7 @@ abbrev pub peer_count : {S : Type 0} → (S → stored.Routes (Rc Route Global))
 peer_count routes entry = (entry.0, stored.saturated_count (finite.len (routes entry.1)))
 
 -- each store has a key
-abbrev pub HaveKeys : {S : Type 0} → (S → stored.Keys) → Stores S → Type 0
+abbrev pub HaveKeys : {S : Type 0} → (S → stored.Keys) → PeerStores S → Type 0
 HaveKeys keys stores = (p : Peer) → IfSome (store_at stores p) (λ store. 0 < set.len (keys store))
 
 -- whether a store has a route; `None` if there is no store
@@ -54,7 +54,7 @@ abbrev pub route_presence : {S : Type 0} → (S → stored.Routes (Rc Route Glob
 route_presence routes store = option_map (λ s. nat_lt 0 (finite.len (routes s))) store
 
 -- each store has a key, and `routed` has, for each peer with a store, whether the store has a route
-pub record AreConsistentStores {S : Type 0} (keys : S → stored.Keys) (routes : S → stored.Routes (Rc Route Global)) (stores : Stores S) (routed : List (Peer × Bool)) : Type 0 where
+pub record AreConsistentStores {S : Type 0} (keys : S → stored.Keys) (routes : S → stored.Routes (Rc Route Global)) (stores : PeerStores S) (routed : List (Peer × Bool)) : Type 0 where
   pub held : HaveKeys keys stores
   pub noted : (p : Peer) → lookup (eq_by_cmp peer_cmp p) routed ≡ route_presence routes (store_at stores p)
 
@@ -80,7 +80,7 @@ cleared_entries (entry ∷ entries) (route ∷ routes) = cleared_entry entry rou
 cleared_entries entries routes = entries
 
 -- the entry of a pair with these marks and this route, if any
-abbrev pub entry_of : Pair → RoutedSides → Option (Rc Route Global) → Entry
+abbrev pub entry_of : Pair → RoutePresence → Option (Rc Route Global) → Entry
 entry_of pair marks other = record { pair = pair; other = other; before = marks.before; after = marks.after }
 
 -- the entry that its memory stands for; for memory without contents, an arbitrary entry

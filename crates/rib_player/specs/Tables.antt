@@ -21,11 +21,11 @@ use Rattle.prefix_store.specs.Stored as stored
 
 -- ---- tables of routes: the table of a history, an event applied to a table, and the pairs that it names
 
--- the routes of a table: at most one for each pair
+-- a finite map from pairs of a peer and a prefix to routes: at most one route of each peer to each prefix
 abbrev pub Routes : Type 0
 Routes = FinMap pair_cmp Route
 
--- a finite set of pairs
+-- a finite set of pairs of a peer and a prefix
 abbrev pub Pairs : Type 0
 Pairs = FinSet pair_cmp
 
@@ -49,12 +49,12 @@ table history = tabulation (λ pair. route pair history) (flat_map announced_pai
 
 -- all pairs that can have a route after an event: those that have one in the table before it, and those to
 -- which the event announces one
-abbrev pub concerned_pairs : Routes → Event → List Pair
-concerned_pairs routes event = keys routes ++ announced_pairs event
+abbrev pub candidate_pairs : Routes → Event → List Pair
+candidate_pairs routes event = keys routes ++ announced_pairs event
 
 -- the routes after an event on a table
 unfoldable pub table_after : Routes → Event → Routes
-table_after routes event = tabulation (λ pair. route_after (get routes pair) (effect pair event)) (concerned_pairs routes event)
+table_after routes event = tabulation (λ pair. route_after (get routes pair) (effect pair event)) (candidate_pairs routes event)
 
 -- whether an effect changes nothing
 abbrev pub is_keep : Effect → Bool
@@ -66,9 +66,10 @@ is_keep other = false
 abbrev pub is_named : Option Route → Effect → Bool
 is_named before effect = not (is_keep effect) && (is_some before || is_some (route_after before effect))
 
--- the pairs that an event on a table names
+-- the pairs of a peer and a prefix that an event on the table `routes` names: those whose route it sets or
+-- clears and that have a route in `routes` or after the event
 unfoldable pub named_pairs : Routes → Event → Pairs
-named_pairs routes event = from_list (filter (λ pair. is_named (get routes pair) (effect pair event)) (concerned_pairs routes event))
+named_pairs routes event = from_list (filter (λ pair. is_named (get routes pair) (effect pair event)) (candidate_pairs routes event))
 
 -- ---- what a table contains: its keys, the routes that some of them have, and the store of each peer
 
@@ -84,31 +85,35 @@ abbrev pub route_in : Option (Rc Route Global) → Option Route
 route_in slot = option_map (λ shared. shared.value) slot
 
 -- a list of stores, each with its peer
-abbrev pub Stores : Type 0 → Type 0
-Stores S = List (Peer × S)
+abbrev pub PeerStores : Type 0 → Type 0
+PeerStores S = List (Peer × S)
 
 -- the store of a peer, or `None` if the peer has none; of several, the first
-abbrev pub store_at : {S : Type 0} → Stores S → Peer → Option S
+abbrev pub store_at : {S : Type 0} → PeerStores S → Peer → Option S
 store_at stores peer = lookup (eq_by_cmp peer_cmp peer) stores
 
--- whether a store has a key, given its set of keys; no store has none
+-- whether prefix `n` is a key of a store, where `keys` gives the set of keys of a store; false if there is no
+-- store
 abbrev pub has_key : {S : Type 0} → (S → stored.Keys) → Option S → Network → Bool
 has_key keys None n = false
 has_key keys (Some store) n = set.contains (keys store) n
 
--- the route that a store has at a prefix, given its map of routes; no store has none
+-- the route at prefix `n` in a store, where `routes` gives the map of a store from prefixes to pointers to
+-- routes; `None` if there is no store, or none at `n` in it
 abbrev pub stored_route : {S : Type 0} → (S → stored.Routes (Rc Route Global)) → Option S → Network → Option Route
 stored_route routes None n = None
 stored_route routes (Some store) n = option_map (λ shared. shared.value) (finite.get (routes store) n)
 
--- the pairs whose prefix is a key of the store of their peer
-unfoldable pub keys_in : {S : Type 0} → (S → stored.Keys) → Stores S → Pairs
+-- the pairs of a peer and a prefix such that the prefix is a key of the peer's store in `stores`, where
+-- `keys` gives the set of keys of a store
+unfoldable pub keys_in : {S : Type 0} → (S → stored.Keys) → PeerStores S → Pairs
 keys_in keys stores =
     set.from_list (filter (λ q. has_key keys (store_at stores q.peer) q.prefix)
     (flat_map (λ entry. map (pair_of entry.0) (set.items (keys entry.1))) stores))
 
--- the routes of all stores, by pair
-unfoldable pub routes_in : {S : Type 0} → (S → stored.Routes (Rc Route Global)) → Stores S → Routes
+-- the routes of all stores by pair of a peer and a prefix, where `routes` gives the map of a store from
+-- prefixes to pointers to routes
+unfoldable pub routes_in : {S : Type 0} → (S → stored.Routes (Rc Route Global)) → PeerStores S → Routes
 routes_in routes stores =
     tabulation (λ q. stored_route routes (store_at stores q.peer) q.prefix)
     (flat_map (λ entry. map (pair_of entry.0) (finite.keys (routes entry.1))) stores)

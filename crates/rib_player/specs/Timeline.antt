@@ -14,7 +14,7 @@ pub record Timeline : Type 0 where
   pub cursor : ℕ
   -- the table at each position from the floor to the end, in order
   pub tables : List Routes
-  -- the pairs that each step from the floor to the end names, in order
+  -- the pairs that each step from the floor to the end names (whose routes its event sets or clears), in order
   pub steps : List Pairs
 
 -- the highest position: the number of all steps, including forgotten ones
@@ -29,7 +29,8 @@ ahead_of t = end_of t - t.cursor
 abbrev pub undoable : Timeline → ℕ
 undoable t = t.cursor - t.floor
 
--- the table at a position from the floor to the end; the empty table, or that at the floor, at others
+-- the table at a position, which is a number of steps since the player was made: below the floor the table at
+-- the floor, above the end the empty table
 abbrev pub table_at : Timeline → ℕ → Routes
 table_at t position = slice_index_or t.tables (position - t.floor) finite.empty
 
@@ -37,8 +38,8 @@ table_at t position = slice_index_or t.tables (position - t.floor) finite.empty
 abbrev pub current : Timeline → Routes
 current t = table_at t t.cursor
 
--- the keys of a player's table: the pairs that have a route at the cursor, or that a kept step names, before
--- or after the cursor
+-- the keys of a player's table, the pairs for whose routes it has memory: those that have a route at the
+-- cursor, and those that one of its steps, before or after the cursor, names (sets or clears)
 unfoldable pub needed_keys : Timeline → Pairs
 needed_keys t = set.from_list (finite.keys (current t) ++ flat_map set.items t.steps)
 
@@ -74,8 +75,8 @@ abbrev pub after_redo : Timeline → Timeline
 after_redo t = if nat_lt t.cursor (end_of t) then record t { cursor = t.cursor + 1 } else t
 
 -- how many steps `forget` forgets, so that at most `keep` are left before the cursor
-abbrev pub forgettable : Timeline → ℕ → ℕ
-forgettable t keep = undoable t - keep
+abbrev pub forgotten_count : Timeline → ℕ → ℕ
+forgotten_count t keep = undoable t - keep
 
 -- a player whose first `count` kept steps are forgotten: the floor is higher by so much, and the tables
 -- before it are gone
@@ -89,4 +90,4 @@ without_first count t = record {
 
 -- a player after `forget`: the oldest steps are forgotten, so that at most `keep` are left before the cursor
 abbrev pub after_forget : Timeline → ℕ → Timeline
-after_forget t keep = without_first (forgettable t keep) t
+after_forget t keep = without_first (forgotten_count t keep) t

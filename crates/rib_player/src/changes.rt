@@ -53,11 +53,11 @@ impl Changes {
         !self.lost.is_empty() && self.lost.contains(peer)
     }
 
-    /// Notes one item of an event: `peer` announces `route` for `prefix` or, for `None`, withdraws
-    /// it. Items are noted from the last to the first, so that this does nothing if the session
-    /// with `peer` is among the lost ones, which a later item loses. `table` isn't changed; it
-    /// gives the index of the peer's store. On an error, which means that memory allocation failed,
-    /// nothing is noted.
+    /// Notes one item of an event: `peer` announces `route` for `prefix`, or withdraws it if
+    /// `route` is `None`. Items are noted from the last to the first. If one noted before, which is
+    /// a later item of the event, loses the session with `peer`, this does nothing. `table` is
+    /// searched only for the number of the peer's store. Fails if memory allocation fails; nothing
+    /// is noted then.
     fn note_route<S: PrefixStore<Rc<Route>>>(
         &mut self,
         table: &Table<S>,
@@ -79,10 +79,11 @@ impl Changes {
     }
 
     /// Notes what `items` (announcements, withdrawals, changes of a session's state) do, from the
-    /// last to the first; they are required to be before all items of the event noted so far. Each
-    /// route is replaced by the equal one of `known`, the routes that the player shares, unless it
-    /// is long and has many owners. If `items` is empty, returns without a call. An error means
-    /// that memory allocation failed; some of the last items may have been noted.
+    /// last to the first. They are taken to come before all items of the event noted so far; there
+    /// may be none. Each announced route is replaced by the equal one of `known`, the routes that
+    /// the player shares, or else added there; one that is long and has many owners stays as it is.
+    /// `table` is searched only for the numbers of the peers' stores. Fails if memory allocation
+    /// fails; some of the last items may have been noted then.
     #[inline(always)]
     fn note_items_if_any<S: PrefixStore<Rc<Route>>>(
         &mut self,
@@ -93,7 +94,8 @@ impl Changes {
         ensures { OnOk result ((q : Pair) → noted_effect self.new q
             ≡ later (items_effect q items.now) (noted_effect self.old q)) }
     {
-        // Of most events either all items share a route or none do.
+        // Of most events either all items share a route or none do, so that `items` is often empty.
+        // This function is inlined, which saves a call then.
         if items.is_empty() {
             return Ok(());
         }
@@ -101,11 +103,12 @@ impl Changes {
     }
 
     /// Notes what `items` (announcements, withdrawals, changes of a session's state) do, from the
-    /// last to the first; they are required to be before all items of the event noted so far. If
-    /// `shared` is given, it is taken as the route of each announcement, which is required to be
-    /// equal. If not, each route is replaced by the equal one of `known`, the routes that the
-    /// player shares, unless it is long and has many owners. An error means that memory allocation
-    /// failed; some of the last items may have been noted.
+    /// last to the first. They are taken to come before all items of the event noted so far. With
+    /// `shared`, uses this route for each item; requires that all are announcements of equal
+    /// routes. With `None`, replaces each announced route by the equal one of `known`, the routes
+    /// that the player shares, or else adds it there; one that is long and has many owners stays as
+    /// it is. `table` is searched only for the numbers of the peers' stores. Fails if memory
+    /// allocation fails; some of the last items may have been noted then.
     fn note_items<S: PrefixStore<Rc<Route>>>(
         &mut self,
         table: &Table<S>,
@@ -140,11 +143,12 @@ impl Changes {
         Ok(())
     }
 
-    /// Notes `items`, which are required to be announcements of one peer with one route (or none at
-    /// all), from the last to the first, before all items of the event noted so far. The route is
-    /// looked up once in `known`, the routes that the player shares, and the equal one found or
-    /// added there is used for all prefixes. An error means that memory allocation failed; some of
-    /// the last items may have been noted.
+    /// Notes `items`, from the last to the first. Requires that all are announcements of one peer
+    /// with equal routes; there may be none. They are taken to come before all items of the event
+    /// noted so far. The route is looked up once in `known`, the routes that the player shares, or
+    /// else added there, and the one found or added is used for all prefixes. `table` is searched
+    /// only for the number of the peer's store. Fails if memory allocation fails; some of the last
+    /// items may have been noted then.
     #[inline(always)]
     fn note_items_of_one_route<S: PrefixStore<Rc<Route>>>(
         &mut self,
@@ -165,11 +169,10 @@ impl Changes {
 }
 
 /// Returns what the items of `event` do: which peers and prefixes get or lose a route, and which
-/// peers lose their session. The announced routes are replaced by equal ones of `known`, the routes
-/// that the player shares, which gets those that it doesn't have; a long route with many owners may
-/// stay as it is. `table` is the one before the event: it isn't changed, and gives the index of
-/// each peer's store. An error means that memory allocation failed; `known` may have got some
-/// routes.
+/// peers lose their session. Each announced route is replaced by the equal one of `known`, the
+/// routes that the player shares, or else added there; a long one with many owners may stay as it
+/// is. `table`, the one before the event, is searched only for the numbers of the peers' stores.
+/// Fails if memory allocation fails; some routes may have been added to `known` then.
 pub(crate) fn changes_of<S: PrefixStore<Rc<Route>>>(
     alloc: Global,
     event: &Event,
@@ -195,10 +198,12 @@ pub(crate) fn changes_of<S: PrefixStore<Rc<Route>>>(
     Ok(changes)
 }
 
-/// Returns a pointer to `peer` and the number of its store (the store's index in the table, a hint
-/// for a quick look-up), which the entries of a step share: the pointer of `last`, the entry made
-/// just before, if it is of this peer; else the one of `table`, if the peer has a store; else a new
-/// one with [`NO_NUMBER`]. An error means that memory allocation failed.
+/// Returns a shared pointer to `peer` and the number of its store, for an entry of a step. The
+/// number is the store's index in the table, a hint for a quick look-up. Fails if memory allocation
+/// fails. The pointer is
+/// - that of `last`, the entry made just before, if it is of this peer;
+/// - else that of `table`, if the peer has a store there;
+/// - else a new one, with [`NO_NUMBER`].
 pub(crate) fn share_numbered_peer<S: PrefixStore<Rc<Route>>>(
     alloc: Global,
     table: &Table<S>,
@@ -215,7 +220,7 @@ pub(crate) fn share_numbered_peer<S: PrefixStore<Rc<Route>>>(
         if same_peer(before.peer(), peer) {
             return before.clone();
         }
-        number = before.number().wrapping_add(1);
+        number = before.number_hint().wrapping_add(1);
     }
     if let Some(shared) = table.stores.find_numbered_peer(number, peer) {
         return shared.clone();

@@ -36,34 +36,37 @@ use std::mem::size_of;
 use std::rc::Rc;
 
 /// For each pair of a peer and a prefix, the number of its claims beyond the first. A claim is a
-/// reason to keep the pair as a key of the table, with memory for its route: a route that it has
-/// before all steps (played events) that can be undone, or such a step that gives it a route when
-/// it has none. The first claim isn't counted here, since the pair's being a key stands for it;
-/// only pairs that were withdrawn and announced again in the kept steps have more.
+/// reason to keep the pair as a key of the table, with memory for its route. A pair has one if it
+/// has a route before all kept steps (played events that undo or redo can go over), and one for
+/// each kept step that gives it a route when it has none. The first claim isn't counted, since it
+/// shows in that the pair is a key. So only pairs that lost their route and got one again in the
+/// kept steps have a count above 0.
 #[derive(Drop)]
-pub(crate) struct Claims {
+pub(crate) struct ExtraClaims {
     // The counts of a peer are boxed, so that free slots of the map take little memory.
     alloc: Global,
     /// The counts of a peer's prefixes, for each peer that has a count above 0.
-    pub(crate) peers: BTreeMap<Peer, Box<PeerClaims>>,
+    pub(crate) peers: BTreeMap<Peer, Box<ExtraClaimsOfPeer>>,
 }
 
-impl Claims {
-    /// Returns counts of claims (reasons to keep a pair as a key of the table) that are all 0,
-    /// without allocating.
-    pub(crate) fn new(alloc: Global) -> Claims
+impl ExtraClaims {
+    /// Returns counts that are all 0: no pair of a peer and a prefix has a claim (a reason to keep
+    /// it as a key of the table) beyond its first. Doesn't allocate.
+    pub(crate) fn new(alloc: Global) -> ExtraClaims
         ensures { (q : Pair) → claims_beyond result q ≡ 0 }
     {
-        Claims {
+        ExtraClaims {
             alloc,
             peers: BTreeMap::new(alloc),
         }
     }
 
-    /// Adds one to the count of claims of `pair` (reasons to keep it as a key of the table) beyond
-    /// the first. The count is required to be below `u64::MAX`. On an error, which means that
-    /// memory allocation failed, the counts are unchanged.
-    fn add(&mut self, pair: &Pair) -> Result<(), AllocError>
+    /// Adds one to the count of `pair`: the number of its claims beyond the first. A claim is a
+    /// reason to keep the pair as a key of the table: a route that it has before all kept steps, or
+    /// a kept step that gives it a route when it has none. The count is 0 for a pair that isn't
+    /// counted yet. It isn't checked that the pair has a first claim. Requires that the count is
+    /// below `u64::MAX`. Fails if memory allocation fails; the counts are unchanged then.
+    fn increment(&mut self, pair: &Pair) -> Result<(), AllocError>
         requires { claims_beyond self.old pair.now < GREATEST_COUNT }
         ensures counted { OnOk result ((q : Pair) → claims_beyond self.new q
             ≡ claims_beyond self.old q + one_if (eq_by_cmp pair_cmp q pair.now)) }
@@ -73,17 +76,18 @@ impl Claims {
         if let Some(counts) = self.peers.get_mut(&pair.peer) {
             return counts.increment(self.alloc, &pair.prefix);
         }
-        let mut counts = PeerClaims::new();
+        let mut counts = ExtraClaimsOfPeer::new();
         counts.increment(self.alloc, &pair.prefix)?;
         let counts = Box::new(self.alloc, counts)?;
         self.peers.insert(pair.peer, counts)?;
         Ok(())
     }
 
-    /// Subtracts one from the count of claims of `pair` (reasons to keep it as a key of the table)
-    /// beyond the first. Returns `true` if it did, or `false`, without a change, if the count is 0:
-    /// the first claim is then the only one, and the caller removes the key. Allocates no memory.
-    fn take(&mut self, pair: &Pair) -> bool
+    /// Subtracts one from the number of claims of `pair` (reasons to keep it as a key of the table)
+    /// beyond the first. Returns `true` if it did. Returns `false`, with nothing changed, if the
+    /// number is 0: only the first claim is left then, which isn't counted, and the caller removes
+    /// the key. Allocates no memory.
+    fn try_decrement(&mut self, pair: &Pair) -> bool
         ensures some { result ≡ nat_lt 0 (claims_beyond self.old pair.now) }
         ensures counted { (q : Pair) → claims_beyond self.new q
             + one_if (result && eq_by_cmp pair_cmp q pair.now) ≡ claims_beyond self.old q }
@@ -99,15 +103,15 @@ impl Claims {
     }
 }
 
-/// Applies an entry of a new step, which is what a played event does to one pair of a peer and a
-/// prefix. Makes the pair a key of the table (with memory for a route), and swaps the table's
-/// route, if any, with the one that the entry gives. If the pair was a key without a route and gets
-/// one, also adds a claim to `claims`: a reason to keep the key. The pair is required to have a
-/// route before or after, and a count of claims below `u64::MAX`. On an error, which means that
-/// memory allocation failed, table and claims are unchanged, and the entry is unspecified.
+/// Applies one entry of a new step: what a played event does to the route of a pair of a peer and a
+/// prefix. Swaps the entry's route with that of the table; either may be absent. A pair that had no
+/// route and gets one also gets a claim, a reason to keep it as a key of the table (with memory for
+/// a route): it becomes a key or, if it is one already, is counted in `claims`. Requires that the
+/// pair has a route before or after, and that its count in `claims` is below `u64::MAX`. Fails if
+/// memory allocation fails; table and claims are unchanged then, and the entry is unspecified.
 pub(crate) fn apply_entry<S: PrefixStore<Rc<Route>>>(
     table: &mut Table<S>,
-    claims: &mut Claims,
+    claims: &mut ExtraClaims,
     entry: &mut Entry,
 ) -> Result<(), AllocError>
     requires held { AreHeld table.old.keys (claims_beyond claims.old) }
@@ -129,21 +133,22 @@ pub(crate) fn apply_entry<S: PrefixStore<Rc<Route>>>(
     if made || !entry.releases_claim(JournalEnd::Last) {
         return Ok(());
     }
-    if let Err(refused) = claims.add(&entry.pair()) {
+    if let Err(refused) = claims.increment(&entry.pair()) {
         entry.exchange(table);
         return Err(refused);
     }
     Ok(())
 }
 
-/// Releases the claims (reasons to keep a pair as a key of the table) that end when the step with
-/// these entries is removed at `end` of the journal: those of the pairs for which
-/// [`Entry::releases_claim`] returns `true`. Each loses one of its claims in `claims` or, if it has
-/// none there, its key in `table`. Requires that no two entries are of one pair, that these pairs
-/// are keys, and that one without a claim in `claims` has no route. Allocates no memory.
+/// Releases the claims (reasons to keep a pair of a peer and a prefix as a key of the table) that
+/// end as a step is removed at `end` of the journal. `entries` are the entries of the step; each
+/// for which [`Entry::releases_claim`] returns `true` releases one claim of its pair. The pair's
+/// count in `claims`, of the claims beyond the first, goes down by one. If it is 0, the pair is
+/// removed from the keys of `table` instead. Requires that no two entries are of one pair, that
+/// each such pair is a key, and that one whose count is 0 has no route. Allocates no memory.
 pub(crate) fn release_claims<S: PrefixStore<Rc<Route>>>(
     table: &mut Table<S>,
-    claims: &mut Claims,
+    claims: &mut ExtraClaims,
     entries: &[Entry],
     end: JournalEnd,
 )
@@ -162,7 +167,7 @@ pub(crate) fn release_claims<S: PrefixStore<Rc<Route>>>(
     'entries: for entry in entries {
         if entry.releases_claim(end) {
             let pair = entry.pair();
-            if !claims.take(&pair) {
+            if !claims.try_decrement(&pair) {
                 table.discard(&pair);
             }
         }
@@ -178,24 +183,28 @@ const ADDRESSES: u64 = 1 << 32;
 /// returns, which begin with the address.
 const BELOW: u32 = 32;
 
-/// For each prefix of one peer, the number of claims beyond the first. A claim is a reason to keep
-/// the peer and the prefix as a key of the table, with memory for a route ([`Claims`]).
+/// For each prefix of one peer, the number of its claims beyond the first. A claim is a reason to
+/// keep the pair of the peer and the prefix as a key of the player's table, with memory for a
+/// route. The pair has a claim if it has a route before all kept steps (played events that undo or
+/// redo can go over), and one for each kept step that gives it a route when it has none. A prefix
+/// with one claim, or with none, has the count 0, and isn't stored.
 #[derive(Drop)]
-pub(crate) struct PeerClaims {
+pub(crate) struct ExtraClaimsOfPeer {
     /// The counts of IPv4 prefixes, each prefix as a number ([`v4_prefix_number`]).
     v4: KeyCounts<u64>,
     /// The counts of IPv6 prefixes.
     v6: KeyCounts<Prefix>,
 }
 
-/// The largest size of [`PeerClaims`] in octets, without the lists and maps that a family gets once
-/// two of its prefixes are counted. A larger one fails the check of the crate, by the next line.
+/// The largest size of [`ExtraClaimsOfPeer`] in octets, without the lists and maps that a family
+/// gets once two of its prefixes are counted. A larger one fails the check of the crate, by the
+/// next line.
 const COUNTS_OCTETS: usize = 72;
 
-const _: () = prove!(size_of::<PeerClaims>() <= COUNTS_OCTETS);
+const _: () = prove!(size_of::<ExtraClaimsOfPeer>() <= COUNTS_OCTETS);
 
 /// Returns a number that no other IPv4 prefix has: 2^32 times the length of `prefix`, plus its
-/// address as a number. For 10.0.0.0/8 that is `0x8_0a00_0000`. `prefix` is required to be IPv4.
+/// address as a number. For 10.0.0.0/8 that is `0x8_0a00_0000`. Requires that `prefix` is IPv4.
 #[inline]
 fn v4_prefix_number(prefix: &Prefix) -> u64
     requires { prefix.now.family ≡ V4 }
@@ -205,27 +214,31 @@ fn v4_prefix_number(prefix: &Prefix) -> u64
     u64::from(prefix.len()) * ADDRESSES + (prefix.high_64_bits() >> BELOW)
 }
 
-impl PeerClaims {
-    /// Returns counts of the claims of a peer's prefixes that are all 0, without allocating.
-    fn new() -> PeerClaims
+impl ExtraClaimsOfPeer {
+    /// Returns the counts of a peer that are all 0: no prefix has a claim (a reason to keep it as a
+    /// key of the table) beyond its first. Doesn't allocate.
+    fn new() -> ExtraClaimsOfPeer
         ensures { (n : Network) → count_of result n ≡ 0 }
     {
-        PeerClaims {
+        ExtraClaimsOfPeer {
             v4: KeyCounts::None,
             v6: KeyCounts::None,
         }
     }
 
-    /// Returns `true` if the count of each prefix is 0, so that nothing is lost if these counts are
-    /// dropped.
+    /// Returns `true` if the count of each prefix, of its claims beyond the first, is 0, so that
+    /// nothing is lost if these counts are dropped.
     fn is_empty(&self) -> bool
         ensures { result ≡ true → (n : Network) → count_of self.now n ≡ 0 }
     {
         self.v4.is_empty() && self.v6.is_empty()
     }
 
-    /// Adds one to the count of `prefix`, which is required to be below `u64::MAX`. On an error,
-    /// which means that memory allocation failed, the counts are unchanged.
+    /// Adds one to the count of `prefix`: the number of its claims beyond the first. A claim is a
+    /// reason to keep the peer and the prefix as a key of the table: a route of the peer to the
+    /// prefix before all kept steps, or a kept step that gives the peer a route to it when there is
+    /// none. The count is 0 for a prefix that isn't counted yet. Requires that it is below
+    /// `u64::MAX`. Fails if memory allocation fails; the counts are unchanged then.
     fn increment(&mut self, alloc: Global, prefix: &Prefix) -> Result<(), AllocError>
         requires { count_of self.old prefix.now < GREATEST_COUNT }
         ensures counted { OnOk result ((n : Network) → count_of self.new n
@@ -239,8 +252,9 @@ impl PeerClaims {
         }
     }
 
-    /// Subtracts one from the count of `prefix`. Returns `true` if it did, or `false`, without a
-    /// change, if the count is 0. Allocates no memory.
+    /// Subtracts one from the count of `prefix`: the number of its claims (reasons to keep the peer
+    /// and the prefix as a key of the table) beyond the first. Returns `true` if it did, or
+    /// `false`, with nothing changed, if the count is 0. Allocates no memory.
     fn try_decrement(&mut self, prefix: &Prefix) -> bool
         ensures some { result ≡ nat_lt 0 (count_of self.old prefix.now) }
         ensures counted { (n : Network) → count_of self.new n

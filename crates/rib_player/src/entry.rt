@@ -34,7 +34,7 @@ pub(crate) struct Entry {
 /// entry belongs to, and after it. Both are false until the step is first applied; undo and redo
 /// keep them.
 #[derive(Clone, Copy)]
-struct RoutedSides {
+struct RoutePresence {
     /// Whether there is a route before the step.
     before: bool,
     /// Whether there is a route after the step.
@@ -60,25 +60,27 @@ pub(crate) enum JournalEnd {
     Last,
 }
 
-/// How an [`Entry`] is stored: a variant for each family of its prefix, with a route and without
-/// one. Each has two flags (whether there is a route before the step and after it), the prefix, and
-/// a shared pointer to the peer.
+/// The stored form of an [`Entry`]: a variant for each address family, with a route and without
+/// one. The route is the one that [`Entry::route`] returns. Each of these variants also has the
+/// prefix, a shared pointer to the peer, and two flags: whether the two have a route before the
+/// step, and whether after it. [`EntryRepr::Taken`] has nothing.
 #[derive(Drop)]
 enum EntryRepr {
     // An IPv4 prefix is stored beside the two flags, so that an entry takes three words; an IPv6
     // prefix is boxed with its peer. The entries of a peer share the peer.
-    V4Absent(RoutedSides, V4Prefix, Rc<NumberedPeer>),
-    V4Present(RoutedSides, V4Prefix, Rc<NumberedPeer>, Rc<Route>),
-    V6Absent(RoutedSides, Box<V6Pair>),
-    V6Present(RoutedSides, Box<V6Pair>, Rc<Route>),
-    /// No contents. Stands in an entry only while a function moves its route in or out.
+    V4Absent(RoutePresence, V4Prefix, Rc<NumberedPeer>),
+    V4Present(RoutePresence, V4Prefix, Rc<NumberedPeer>, Rc<Route>),
+    V6Absent(RoutePresence, Box<PeerAndV6Prefix>),
+    V6Present(RoutePresence, Box<PeerAndV6Prefix>, Rc<Route>),
+    /// Left in an entry by [`std::mem::replace`] while its route is moved in or out; has no
+    /// contents.
     Taken,
 }
 
 /// The peer and the IPv6 prefix of an [`Entry`], boxed since an IPv6 prefix is too large for an
 /// entry.
 #[derive(Drop)]
-struct V6Pair {
+struct PeerAndV6Prefix {
     prefix: Prefix,
     peer: Rc<NumberedPeer>,
 }
@@ -103,8 +105,8 @@ impl Model for Entry {
 impl Entry {
     /// Returns an entry for `peer` and `prefix`, of a step (played event) that isn't applied yet.
     /// `other` is the route that they get by the step, or `None` if it clears their route. `peer`
-    /// also has the index of the peer's store, as a hint. An error means that memory allocation
-    /// failed, which can happen only for an IPv6 prefix.
+    /// also has the index of the peer's store, as a hint. Fails if memory allocation fails, which
+    /// can happen only for an IPv6 prefix.
     pub(crate) fn unapplied(
         alloc: Global,
         peer: Rc<NumberedPeer>,
@@ -114,14 +116,14 @@ impl Entry {
         ensures { IfOk result (λ entry.
             entry ≡ unapplied_entry (pair_of peer.value prefix.now) other) }
     {
-        let marks = RoutedSides {
+        let marks = RoutePresence {
             before: false,
             after: false,
         };
         let absent = match prefix.family() {
             Family::V4 => EntryRepr::V4Absent(marks, V4Prefix::pack(prefix), peer),
             Family::V6 => {
-                let pair = V6Pair {
+                let pair = PeerAndV6Prefix {
                     prefix: *prefix,
                     peer,
                 };
@@ -133,8 +135,8 @@ impl Entry {
         })
     }
 
-    /// Returns the entry's peer, as the pointer that entries share, with the index of its store as
-    /// a hint; and the entry's prefix.
+    /// Returns the peer and the prefix of the entry. The peer is the pointer that entries share;
+    /// with it is a hint of the index of the peer's store.
     #[inline]
     fn peer_and_prefix(&self) -> (&Rc<NumberedPeer>, Prefix)
         ensures peer { result.0.now.value ≡ self.now.pair.peer }
@@ -187,9 +189,9 @@ impl Entry {
         self.peer_and_prefix().1
     }
 
-    /// Returns the route that the entry keeps, or `None` if it keeps none: while the entry's step
-    /// (played event) is applied, the route before it, which undo puts back into the table; while
-    /// it isn't, the route after it.
+    /// Returns the route that the entry keeps, or `None` if it keeps none. While the entry's step
+    /// (a played event) is applied, this is the route before the step, which undo puts back into
+    /// the table. While the step isn't applied, it is the route after it.
     #[inline]
     pub(crate) fn route(&self) -> Option<&Rc<Route>>
         ensures { option_copied result ≡ self.now.other }
@@ -226,7 +228,7 @@ impl Entry {
     /// Sets whether the entry's peer and prefix have a route before the step and after it. The
     /// route that the entry keeps stays.
     #[inline]
-    fn set_routed_sides(&mut self, new: RoutedSides)
+    fn set_route_presence(&mut self, new: RoutePresence)
         ensures { self.new ≡ record {
           pair = self.old.pair;
           other = self.old.other;
@@ -245,8 +247,9 @@ impl Entry {
 }
 
 impl EntryRepr {
-    /// Takes the contents of an entry apart: returns them without a route, and the route, or `None`
-    /// if they have none, in which case they are unchanged. `self` is required not to be `Taken`.
+    /// Separates the contents of an entry from its route. Returns the contents without a route, and
+    /// the route; if they have none, returns them unchanged, and `None`. Requires that `self` isn't
+    /// [`EntryRepr::Taken`], which has no contents.
     #[inline]
     fn split_off_route(self) -> (EntryRepr, Option<Rc<Route>>)
         requires { HasContents self }
@@ -266,8 +269,9 @@ impl EntryRepr {
         }
     }
 
-    /// Returns the contents of an entry with `other` as their route, or unchanged for `None`.
-    /// `self` is required to have no route, and not to be `Taken`.
+    /// Returns the contents of an entry with `other` as their route, or unchanged if `other` is
+    /// `None`. Requires that `self` has no route, and that it isn't [`EntryRepr::Taken`], which has
+    /// no contents.
     #[inline]
     fn with_route(self, other: Option<Rc<Route>>) -> EntryRepr
         requires whole { HasContents self }

@@ -15,9 +15,9 @@ ghost use Rattle.rib_player.specs.Journal.{sides_of, steps_of, routes_across};
 ghost use Rattle.rib_player.specs.Sides.{sides_at, sides_across, ClearAllOf, AreDistinctKeys, AreDistinct, marks_of, marks_by_step, any_releases_claim_of, entry_count};
 ghost use Rattle.rib_player.specs.JournalState.{IsStepSwapped, AreApplied, CanDrop, StayClaimed};
 
-use crate::claims::{Claims, apply_entry, release_claims};
+use crate::claims::{ExtraClaims, apply_entry, release_claims};
 use crate::entry::{Entry, JournalEnd, Step};
-use crate::prefetching::{Prefetched, prefetch_entries, prefetch_steps};
+use crate::prefetching::{PrefetchedGroups, prefetch_next_entries, prefetch_steps};
 use crate::spare_capacity::{LEAST_ROOM, MOST_TIMES};
 use crate::table::Table;
 use known_routes::RouteInterner;
@@ -43,9 +43,8 @@ pub(crate) struct Journal {
 
 /// Swaps the route of each entry with the table's route of the entry's peer and prefix; either may
 /// be absent. If `entries` are all of a step (a played event), this undoes the step if it is
-/// applied, and redoes it if it isn't. The pair of peer and prefix of each entry is required to be
-/// a key of `table` (to have memory for a route), and no two entries may be of one pair. Allocates
-/// no memory.
+/// applied, and redoes it if it isn't. Requires that the entries' pairs of a peer and a prefix are
+/// distinct keys of `table` (have memory for a route). Allocates no memory.
 pub(crate) fn swap_routes<S: PrefixStore<Rc<Route>>>(table: &mut Table<S>, entries: &mut [Entry])
     requires { AreDistinctKeys table.old.keys (sides_of entries.old) }
     ensures keys { table.new.keys ≡ table.old.keys }
@@ -55,22 +54,23 @@ pub(crate) fn swap_routes<S: PrefixStore<Rc<Route>>>(table: &mut Table<S>, entri
 {
     let mut visited = 0u64;
     'entries: for index in 0..entries.len() {
-        visited = visited.wrapping_add(prefetch_entries(table, entries, index));
+        visited = visited.wrapping_add(prefetch_next_entries(table, entries, index));
         entries[index].exchange(table);
     }
     table.add_prefetched_nodes(visited);
 }
 
-/// Undoes the step (played event) `steps[index]` if it is applied, or else redoes it, by swapping
-/// its routes with the table's. Each group of [`STEPS_TOGETHER`] steps has its memory prefetched at
-/// once, when the first step of it that the caller comes to is reached: `first` is that step's
-/// index in its group, 0 for a caller that goes forward, `STEPS_TOGETHER - 1` for one that goes
-/// back. `prefetched` has the groups that were prefetched last. `index` is required to be in range,
-/// and the pairs of peer and prefix of the step to be distinct keys of `table`.
+/// Undoes the step (played event) `steps[index]` if it is applied, and redoes it otherwise, by
+/// swapping its routes with those of `table`. If it is the first step of its group of
+/// [`STEPS_TOGETHER`] that the caller comes to, also prefetches the memory of the group
+/// ([`prefetch_steps`]). This is the step with the index `first` in the group: 0 for a caller that
+/// goes forward, `STEPS_TOGETHER - 1` for one that goes back. `prefetched` has the groups
+/// prefetched last, and is updated. Requires that `index` is in range, and that the step's pairs of
+/// a peer and a prefix are distinct keys of `table`.
 pub(crate) fn apply_or_undo_step<S: PrefixStore<Rc<Route>>>(
     table: &mut Table<S>,
     steps: &mut VecDeque<Step>,
-    prefetched: &mut Prefetched,
+    prefetched: &mut PrefetchedGroups,
     index: usize,
     first: usize,
 )
@@ -85,10 +85,9 @@ pub(crate) fn apply_or_undo_step<S: PrefixStore<Rc<Route>>>(
 }
 
 /// Applies a new step (played event) that does nothing but clear all routes of `peer`: moves them
-/// from the table to `entries`, which are required to be one for each of these routes, in the order
-/// of prefixes. The keys stay: the pairs of peer and prefix keep memory for a route, so that undo
-/// needs none. On an error, which means that memory allocation failed, table and entries are
-/// unchanged.
+/// from the table to `entries`. Requires that these are one for each of the routes, in the order of
+/// prefixes. The keys stay: the pairs of peer and prefix keep memory for a route, so that undo
+/// needs none. Fails if memory allocation fails; table and entries are unchanged then.
 pub(crate) fn apply_session_loss<S: PrefixStore<Rc<Route>>>(
     alloc: Global,
     table: &mut Table<S>,
@@ -113,16 +112,19 @@ pub(crate) fn apply_session_loss<S: PrefixStore<Rc<Route>>>(
     Ok(())
 }
 
-/// Applies a new step (played event) to the table. Each entry is of another pair of a peer and a
-/// prefix, which becomes a key of the table; it gives the table its route, or none, and gets the
-/// one before the step. A pair that gets a route and had none also gets a claim (a reason to keep
-/// the key, see `claims.rt`). `lost` is a peer if all that the step does is to clear that peer's
-/// routes, else `None`. On an error, which means that memory allocation failed, table and claims
-/// are unchanged, and the entries are unspecified.
+/// Applies a new step (a played event) to the table. Each of its `entries` is for one pair of a
+/// peer and a prefix. The entry's route, or none, is swapped with the table's, so that the entry
+/// then has what undoes it. The pair becomes a key of the table: it has memory for a route, also
+/// while it has none. A pair that had no route and gets one also gets a claim, a reason to keep it
+/// as a key, which is counted in `claims` if the pair was a key before. If `lost` is a peer,
+/// requires that the entries clear all routes of that peer, in the order of prefixes, and nothing
+/// else. Requires that no two entries are of one pair, that each pair has a route before or after,
+/// and that all counts in `claims` are below `u64::MAX`. Fails if memory allocation fails; table
+/// and claims are unchanged then, and the entries are unspecified.
 pub(crate) fn apply_entries<S: PrefixStore<Rc<Route>>>(
     alloc: Global,
     table: &mut Table<S>,
-    claims: &mut Claims,
+    claims: &mut ExtraClaims,
     lost: Option<&Peer>,
     entries: &mut [Entry],
 ) -> Result<(), AllocError>
@@ -150,7 +152,7 @@ pub(crate) fn apply_entries<S: PrefixStore<Rc<Route>>>(
     let mut made = 0;
     let mut visited = 0u64;
     'entries: while made < entries.len() {
-        visited = visited.wrapping_add(prefetch_entries(table, entries, made));
+        visited = visited.wrapping_add(prefetch_next_entries(table, entries, made));
         if let Err(refused) = apply_entry(table, claims, &mut entries[made]) {
             let put = &mut entries[..made];
             swap_routes(table, put);
@@ -176,9 +178,10 @@ pub(crate) fn drop_step(known: &mut RouteInterner, step: Step) {
     }
 }
 
-/// Reserves capacity for one more step (played event). Before that, shrinks the capacity to the
-/// number of steps, at least [`LEAST_ROOM`], if it is more than [`MOST_TIMES`] times as large. On
-/// an error, which means that memory allocation failed, the steps are unchanged.
+/// Reserves capacity for one more step (played event). Before that, shrinks a capacity that is far
+/// too large: what the steps need is taken as their number, or as [`LEAST_ROOM`] if that is more,
+/// and if the capacity divided by [`MOST_TIMES`], rounded down, is above this number, it is shrunk
+/// to it. Fails if memory allocation fails; the steps are unchanged then.
 pub(crate) fn reserve_step(steps: &mut VecDeque<Step>) -> Result<(), AllocError>
     ensures room { OnOk result (deque_len steps.new < deque_capacity steps.new) }
     ensures steps { steps.new.items ≡ steps.old.items }
@@ -191,15 +194,16 @@ pub(crate) fn reserve_step(steps: &mut VecDeque<Step>) -> Result<(), AllocError>
 }
 
 /// Drops the undone steps (played events that redo would apply again), the last first, as a new
-/// event is played instead. `cursor` is the number of steps that stay, those that are applied.
-/// `claims` and the keys of `table` lose the claims of the dropped steps (reasons to keep a pair of
-/// a peer and a prefix as a key, see `claims.rt`), and `known` the routes that nobody else holds.
-/// The table's routes stay. Allocates no memory.
+/// event is played instead. `cursor` is the number of applied steps, which stay. The claims by the
+/// dropped steps (reasons to keep a pair of a peer and a prefix as a key of the table, see
+/// `claims.rt`) are taken off `claims`. A key that has no other claim is removed from `table`,
+/// whose routes stay. Routes that nothing else holds are removed from `known`, the routes that the
+/// player shares. Allocates no memory.
 pub(crate) fn drop_steps_ahead<S: PrefixStore<Rc<Route>>>(
     steps: &mut VecDeque<Step>,
     cursor: usize,
     table: &mut Table<S>,
-    claims: &mut Claims,
+    claims: &mut ExtraClaims,
     known: &mut RouteInterner,
 )
     requires within { cursor ≤ length steps.old.items }

@@ -19,10 +19,10 @@ use std::collections::BTreeMap;
 /// keys.
 const FEW: usize = 8;
 
-/// A multiset: the number of times that each key, a value of `K`, was added and not removed. This
-/// value has 32 octets for keys that are numbers, and 40 for prefixes, and one key takes no more. A
-/// list takes another 16 octets, or 32, for each of the most keys that it had; a map of several
-/// nodes takes at most 39, or 74, for each key.
+/// A multiset: for each key, a value of `K`, how often it is counted. The multiset itself has 32
+/// octets for keys that are numbers (`u64`), or 40 for prefixes, and takes no other memory for one
+/// key. Beside these, a list takes 16 octets, or 32, for each key, by the most keys that it ever
+/// had, and a map of several nodes at most 39, or 74, for each key.
 #[derive(Drop)]
 pub(crate) enum KeyCounts<K: Ord> {
     /// No key is counted.
@@ -50,9 +50,10 @@ fn position_of_key<K: Ord + Copy>(counts: &[(K, u64)], key: &K) -> Option<usize>
     None
 }
 
-/// Adds one to the count of `key` in the list of keys and counts, or appends `key` with the count 1
-/// if it isn't there. Its count is required to be below `u64::MAX`. On an error, which means that
-/// memory allocation failed, the list is unchanged.
+/// Adds one to the count of `key` in `counts`, a list of keys with their counts, in any order;
+/// appends `key` with the count 1 if it isn't there. Of several elements with `key`, the first is
+/// taken. Requires that its count is below `u64::MAX`. Fails if memory allocation fails; the list
+/// is unchanged then.
 fn increment_in_list<K: Ord + Copy>(counts: &mut Vec<(K, u64)>, key: K) -> Result<(), AllocError>
     requires { count_in K.cmp counts.old.items key < GREATEST_COUNT }
     ensures counted { OnOk result ((k : K) → count_in K.cmp counts.new.items k
@@ -68,10 +69,12 @@ fn increment_in_list<K: Ord + Copy>(counts: &mut Vec<(K, u64)>, key: K) -> Resul
     Ok(())
 }
 
-/// Subtracts one from the count of `key` in the list of keys and counts. Returns `true` if it did,
-/// or `false` if `key` isn't there or its count is 0. A key whose count becomes 0 is removed; the
-/// list keeps its capacity.
-fn decrement_in_list<K: Ord + Copy + Drop>(counts: &mut Vec<(K, u64)>, key: &K) -> bool
+/// Subtracts one from the count of `key` in `counts`, a list of keys with their counts, in any
+/// order. Of several elements with `key`, the count is that of the first. Returns `true` if the
+/// count was above 0, or `false` if it was 0 or `key` isn't in the list. If the count is 0
+/// afterwards, all elements with `key` are removed. The other elements keep their order, and the
+/// list its capacity.
+fn try_decrement_in_list<K: Ord + Copy + Drop>(counts: &mut Vec<(K, u64)>, key: &K) -> bool
     ensures some { result ≡ nat_lt 0 (count_in K.cmp counts.old.items key.now) }
     ensures counted { (k : K) → count_in K.cmp counts.new.items k
         + one_if (result && eq_by_cmp K.cmp k key.now) ≡ count_in K.cmp counts.old.items k }
@@ -89,7 +92,7 @@ fn decrement_in_list<K: Ord + Copy + Drop>(counts: &mut Vec<(K, u64)>, key: &K) 
 }
 
 /// Returns a map with the keys and counts of the list. Of several elements with equal keys, the
-/// first is taken. An error means that memory allocation failed.
+/// first is taken. Fails if memory allocation fails.
 fn map_of_list<K: Ord + Copy + Drop>(
     alloc: Global,
     counts: &[(K, u64)],
@@ -108,8 +111,8 @@ fn map_of_list<K: Ord + Copy + Drop>(
 }
 
 /// Adds one to the count of `key` in the map, or inserts `key` with the count 1 if it isn't there.
-/// Its count is required to be below `u64::MAX`. On an error, which means that memory allocation
-/// failed, the map is unchanged.
+/// Requires that its count is below `u64::MAX`. Fails if memory allocation fails; the map is
+/// unchanged then.
 fn increment_in_map<K: Ord + Copy + Drop>(
     counts: &mut BTreeMap<K, u64>,
     key: K,
@@ -145,8 +148,7 @@ fn decrement_in_map<K: Ord + Copy + Drop>(counts: &mut BTreeMap<K, u64>, key: &K
 }
 
 /// Returns a map with the keys and counts of the list, and with one more for `key`, which may be in
-/// the list or not. Its count is required to be below `u64::MAX`. An error means that memory
-/// allocation failed.
+/// the list or not. Requires that its count is below `u64::MAX`. Fails if memory allocation fails.
 fn map_of_list_and_one<K: Ord + Copy + Drop>(
     alloc: Global,
     counts: &[(K, u64)],
@@ -163,8 +165,8 @@ fn map_of_list_and_one<K: Ord + Copy + Drop>(
 
 /// Adds one to the count of `key` in the list, and returns `None`. If the list is full (has [`FEW`]
 /// keys), leaves it unchanged instead, and returns a map with its counts and one more for `key`,
-/// which the caller keeps in place of the list. The count is required to be below `u64::MAX`. On an
-/// error, which means that memory allocation failed, the list is unchanged.
+/// which the caller keeps in place of the list. Requires that the count is below `u64::MAX`. Fails
+/// if memory allocation fails; the list is unchanged then.
 fn increment_or_move<K: Ord + Copy + Drop>(
     alloc: Global,
     counts: &mut Vec<(K, u64)>,
@@ -186,8 +188,8 @@ fn increment_or_move<K: Ord + Copy + Drop>(
 }
 
 /// Returns a multiset in which `only` is counted `count` times, and `key` once more; the two may be
-/// equal, which gives one key with `count + 1`. That is required not to overflow. An error means
-/// that memory allocation failed, which can happen only if the keys are different.
+/// equal, which gives one key with `count + 1`. Requires that this doesn't overflow. Fails if
+/// memory allocation fails, which can happen only if the keys are different.
 fn increment_single<K: Ord + Copy + Drop>(
     alloc: Global,
     only: K,
@@ -231,9 +233,8 @@ impl<K: Ord + Copy + Drop> KeyCounts<K> {
         matches!(self, KeyCounts::None)
     }
 
-    /// Adds one to the count of `key`, which is 0 for a key that isn't there, and required to be
-    /// below `u64::MAX`. On an error, which means that memory allocation failed, the counts are
-    /// unchanged.
+    /// Adds one to the count of `key`, which is 0 for a key that isn't there. Requires that it is
+    /// below `u64::MAX`. Fails if memory allocation fails; the counts are unchanged then.
     pub(crate) fn increment(&mut self, alloc: Global, key: K) -> Result<(), AllocError>
         requires { count_at K.cmp self.old key < GREATEST_COUNT }
         ensures counted { OnOk result ((k : K) → count_at K.cmp self.new k
@@ -269,7 +270,7 @@ impl<K: Ord + Copy + Drop> KeyCounts<K> {
                 taken
             }
             KeyCounts::Few(counts) => {
-                let taken = decrement_in_list(counts, key);
+                let taken = try_decrement_in_list(counts, key);
                 if counts.is_empty() {
                     *self = KeyCounts::None;
                 }

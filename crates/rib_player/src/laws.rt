@@ -2,7 +2,7 @@
 //! [`Table`](crate::Table) cite. The functions here have no code and nothing calls them: each is a
 //! statement, its `ensures` clauses, that is proved when the crate is checked. A step is a played
 //! event, a position is a number of steps, the cursor is the position of the table now, and the
-//! floor is the lowest position that undo can reach. Read [`law_tables_by_position`] first;
+//! floor is the lowest position that undo can reach. Read [`law_player_follows_history`] first;
 //! `docs/proved.md` names them all.
 #![tactic(auto, using(crate::proofs::LawRules::law_lemmas))]
 
@@ -23,13 +23,13 @@ ghost use Rattle.mrt_events.specs.declared.event.TheConstants.{ESTABLISHED};
 ghost use Rattle.rib_player.specs.History.{pair_cmp, pair_of, effect, route_after, route};
 ghost use Rattle.rib_player.specs.Tables.{Routes, table, table_after, is_named, named_pairs, peer_routes, routed_peers};
 ghost use Rattle.rib_player.specs.Lookups.{routed_above};
-ghost use Rattle.rib_player.specs.Timeline.{Timeline, end_of, table_at, current, after_play, forgettable, after_forget, fresh, after_undo, after_redo, without_first, needed_keys, IsWellFormed};
+ghost use Rattle.rib_player.specs.Timeline.{Timeline, end_of, table_at, current, after_play, forgotten_count, after_forget, fresh, after_undo, after_redo, without_first, needed_keys, IsWellFormed};
 ghost use Rattle.rib_player.specs.Calls.{Call, StandsFor, named_pairs_at, play_undo_calls, play_undo_redo_calls, after_call, after_calls, history_after, history_after_calls};
 ghost use Rattle.rib_player.specs.Claims.{one_if, claims, first_clears, last_brings, event_brings, without_last};
 
 /// States that `ESTABLISHED` is 6, the number of the BGP session state Established (RFC 6396,
 /// section 4.4.1). A session is lost when its state changes from this one to another.
-pub fn law_state_numbers()
+pub fn law_established_state_number()
     ensures established { ESTABLISHED ≡ 6 }
 {}
 
@@ -40,13 +40,16 @@ pub fn law_pair_order()
     ensures ties { IsAntisymmetric pair_cmp }
 {}
 
-/// States, for each pair of a peer and a prefix:
-/// - The table of a list of events has there the route that the last event that sets or clears the
-///   pair leaves, or none if there is no such event.
-/// - The table after one more event has what that event sets or clears there, or else the route
-///   before.
-/// - An event names the pair if it sets or clears it and there is a route before or after.
-pub fn law_routes_at_pairs()
+/// States which route a table has at each pair of a peer and a prefix, and which pairs an event
+/// names:
+/// - After a list of events, the table has at a pair what the last event that sets or clears the
+///   pair left there: a route or none. It has none if there is no such event.
+/// - After one more event, the table has what that event sets or clears at the pair. If it does
+///   neither, the table has the route before.
+/// - An event names a pair if it sets or clears it and the pair has a route before or after the
+///   event. A player keeps memory for the pairs that the events of its kept steps name
+///   ([`law_which_pairs_are_keys`]).
+pub fn law_last_event_decides_route()
     ensures table { (history : List Event) (pair : Pair) →
         finite.get (table history) pair ≡ route pair history }
     ensures table_after { (routes : Routes) (event : Event) (pair : Pair) →
@@ -57,7 +60,8 @@ pub fn law_routes_at_pairs()
         ≡ is_named (finite.get routes pair) (effect pair event) }
 {}
 
-/// States how one peer's routes follow from the routes at all pairs of a peer and a prefix:
+/// States how one peer's routes, and the list of the peers that have a route, follow from the
+/// routes at all pairs of a peer and a prefix:
 /// - The peer's route to a prefix is the one at the pair of the two.
 /// - The list of peers that have a route has a peer if, and only if, the peer has at least one
 ///   route.
@@ -85,24 +89,25 @@ pub fn law_walk_over_peers()
         → routed_above routes low ≡ [] }
 {}
 
-/// States which pairs of a peer and a prefix are keys of a player's table, which keep memory for a
-/// route: those that have a route at the cursor, and those that a kept step (a played event that
-/// undo or redo can go over) names, before or after the cursor. A step names a pair if its event
-/// sets or clears it and there is a route before or after.
-pub fn law_needed_keys()
+/// States which pairs of a peer and a prefix are the keys of a player's table, for which it keeps
+/// memory for a route: those that have a route at the cursor, and those that a kept step (a played
+/// event that undo or redo can go over) names, before or after the cursor; and no others. A step
+/// names a pair if its event sets or clears it and the pair has a route before or after the step.
+pub fn law_which_pairs_are_keys()
     ensures { (t : Timeline) (pair : Pair) → set.contains (needed_keys t) pair
         ≡ (is_some (finite.get (current t) pair)
         || list_any (λ step. set.contains step pair) t.steps) }
 {}
 
 /// States that a pair of a peer and a prefix is a key of a player's table (keeps memory for a
-/// route) if, and only if, it has a claim: a route at the floor, or a kept step that gives it a
-/// route when it has none. And how the number of its claims changes:
+/// route) if, and only if, it has a claim. Its claims are its route before the first kept step
+/// (played event that undo or redo can go over), if it has one there, and each kept step that gives
+/// it a route when it has none. Their number changes so:
 /// - Forgetting the first step takes one if the pair has a route before that step and none after
 ///   it.
 /// - Dropping the last step takes one if the pair has none before that step and one after it.
 /// - Playing an event at the end adds one if the pair has none before the event and one after it.
-pub fn law_claimed_pairs()
+pub fn law_keys_and_claim_counts()
     ensures needed_keys { (t : Timeline) (history : List Event) (pair : Pair) → StandsFor t history →
         set.contains (needed_keys t) pair ≡ nat_lt 0 (claims t pair) }
     ensures forgotten { (t : Timeline) (pair : Pair) → IsWellFormed t → 0 < length t.steps →
@@ -118,20 +123,24 @@ pub fn law_claimed_pairs()
 
 /// States that the table of a list of events followed by one more event is the table of the list,
 /// changed by that event. So a table can be computed event by event.
-pub fn law_one_event_more()
+pub fn law_table_after_one_more_event()
     ensures { (history : List Event) (event : Event) →
         table (history ++ event ∷ []) ≡ table_after (table history) event }
 {}
 
-/// States what holds of a player that stands for a history (the list of the events that were played
-/// and not dropped), where a position is a number of these events:
-/// - Its table at each position from the floor on is that of the first events, as many as the
-///   position.
-/// - The kept step after such a position names the pairs (of a peer and a prefix) of the next
-///   event.
-/// - Its last position is the length of the history.
-/// - At the cursor, the route at each pair is what the events before the cursor leave there.
-pub fn law_tables_by_position()
+/// States how what a player has follows from its history. The history is the list of the events
+/// that were played, in order. It has those that undo can't reach any more too, but not those that
+/// a play after an undo dropped. Each player has one ([`law_history_after_all_calls`]). A position
+/// is a number of events, from the start of the history.
+/// - At each position from the lowest that undo can reach, the table is the one that the events
+///   before the position make.
+/// - For each event after that lowest position, the player keeps a step. The step names the pairs
+///   (of a peer and a prefix) that the event sets or clears, except those that have no route before
+///   it and none after it.
+/// - The last position is the length of the history.
+/// - In the table at the cursor, the current position, the last event before the cursor that sets
+///   or clears a pair decides the pair's route.
+pub fn law_player_follows_history()
     ensures tables { (t : Timeline) (history : List Event) → StandsFor t history →
         (i : ℕ) → t.floor ≤ i → i ≤ length history → table_at t i ≡ table (take i history) }
     ensures steps { (t : Timeline) (history : List Event) → StandsFor t history →
@@ -143,19 +152,23 @@ pub fn law_tables_by_position()
         (pair : Pair) → finite.get (current t) pair ≡ route pair (take t.cursor history) }
 {}
 
-/// States that a player that stands for a history (the list of the events that were played and not
-/// dropped) stands after any call for the one that `history_after` gives: after a play, the events
-/// before the cursor and the new one; after other calls, which include failed ones, the history
-/// before.
+/// States how one call changes the history of a player: the list of the events that were played,
+/// forgotten ones too, without those dropped by a play after an undo. After a play that succeeds,
+/// it is the events before the cursor, and the new one. Any other call, and any that fails, leaves
+/// it as it was. A list of events is the history of a player if the cursor is at most its length
+/// and, from the lowest position that undo can reach, the tables and steps are those that the
+/// events make.
 pub fn law_history_after_one_call()
     ensures { (t : Timeline) (history : List Event) (call : Call) → StandsFor t history →
         StandsFor (after_call t call) (history_after t.cursor history call) }
 {}
 
-/// States which history (list of the events that were played and not dropped) a player stands for
-/// after any list of calls, failed ones among them: for a new player, the one that
-/// `history_after_calls` computes from the calls alone; for a player that stood for a history
-/// before, the one that it computes from that history and the calls.
+/// States that the calls made on a player, failed ones too, give its history: the list of the
+/// events that were played, forgotten ones too, without those dropped by a play after an undo. The
+/// history of a new player after the calls is what `history_after_calls` computes from them; that
+/// of another player is what it computes from them and the history before. A list of events is the
+/// history of a player if the cursor is at most its length and, from the lowest position that undo
+/// can reach, the tables and steps are those that the events make.
 pub fn law_history_after_all_calls()
     ensures new { (calls : List Call) →
         StandsFor (after_calls fresh calls) (history_after_calls fresh [] calls) }
@@ -163,9 +176,10 @@ pub fn law_history_after_all_calls()
         StandsFor (after_calls t calls) (history_after_calls t history calls) }
 {}
 
-/// States, of a player that stands for a history of events, that playing an event and undoing it
-/// gives the table before the play; and, if there is a step to undo, that undoing and redoing it
-/// gives the whole player as before: table, steps and cursor.
+/// States that a step back undoes a step forward, and the reverse. Playing an event and undoing it
+/// gives the table before the play. Undoing a step, if there is one to undo, and redoing it gives
+/// the whole player as before: table, steps and cursor. This holds of a player that has a history
+/// of events, as each player has ([`law_history_after_all_calls`]).
 pub fn law_one_step_back()
     ensures undo { (t : Timeline) (history : List Event) (event : Event) → StandsFor t history →
         current (after_undo (after_play t event)) ≡ current t }
@@ -178,19 +192,20 @@ pub fn law_one_step_back()
 /// - The tables at the cursor and at each position that is left stay.
 /// - Nothing changes if no step is to be forgotten.
 /// - Forgetting twice is forgetting once with the smaller of the two numbers.
-pub fn law_forgotten_steps()
+pub fn law_forgetting_keeps_tables()
     ensures tables { (t : Timeline) (keep : ℕ) → (i : ℕ) → (after_forget t keep).floor ≤ i →
         table_at (after_forget t keep) i ≡ table_at t i }
     ensures current { (t : Timeline) (keep : ℕ) → t.floor ≤ t.cursor →
         current (after_forget t keep) ≡ current t }
-    ensures none { (t : Timeline) (keep : ℕ) → forgettable t keep ≡ 0 → after_forget t keep ≡ t }
+    ensures none { (t : Timeline) (keep : ℕ) → forgotten_count t keep ≡ 0 → after_forget t keep ≡ t }
     ensures twice { (t : Timeline) (keep less : ℕ) → t.floor ≤ t.cursor →
         after_forget (after_forget t keep) less ≡ after_forget t (min keep less) }
 {}
 
-/// States, of a player that stands for a history of events, that playing a list of events and
-/// undoing all of them gives the table before; and that redoing them after that gives the table of
-/// the events before the cursor followed by the list.
+/// States that playing a list of events and undoing all of them gives the table before, and that
+/// redoing them after that gives the table of the events before the cursor followed by the list.
+/// This holds of a player that has a history of events, as each player has
+/// ([`law_history_after_all_calls`]).
 pub fn law_steps_back_and_forth()
     ensures back { (t : Timeline) (history events : List Event) → StandsFor t history →
         current (after_calls t (play_undo_calls events)) ≡ current t }

@@ -23,10 +23,11 @@ mod stores;
 mod table;
 
 pub use laws::{
-    law_claimed_pairs, law_forgotten_steps, law_history_after_all_calls,
-    law_history_after_one_call, law_needed_keys, law_one_event_more, law_one_step_back,
-    law_pair_order, law_routes_at_pairs, law_routes_of_peers, law_state_numbers,
-    law_steps_back_and_forth, law_tables_by_position, law_walk_over_peers,
+    law_established_state_number, law_forgetting_keeps_tables, law_history_after_all_calls,
+    law_history_after_one_call, law_keys_and_claim_counts, law_last_event_decides_route,
+    law_one_step_back, law_pair_order, law_player_follows_history, law_routes_of_peers,
+    law_steps_back_and_forth, law_table_after_one_more_event, law_walk_over_peers,
+    law_which_pairs_are_keys,
 };
 pub use player::{Nothing, PlayFault, Player};
 pub use table::Table;

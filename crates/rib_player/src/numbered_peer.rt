@@ -13,8 +13,8 @@ pub(crate) const NO_NUMBER: usize = usize::MAX;
 
 /// A peer, and the number of its store (the store's index in the player's table) at the time when
 /// this value was made. The number is a hint: the store may have been removed or renumbered since,
-/// so a caller checks which peer has the number now. In contracts, its value is the peer; the
-/// number doesn't show.
+/// so a caller checks which peer has the number now. In contracts, the value stands for its peer
+/// alone, whatever its number.
 #[derive(Drop)]
 pub(crate) struct NumberedPeer {
     peer: Peer,
@@ -50,7 +50,7 @@ impl NumberedPeer {
     /// [`NO_NUMBER`] if it had none. By now it may be the number of another peer's store, or of
     /// none.
     #[inline]
-    pub(crate) fn number(&self) -> usize {
+    pub(crate) fn number_hint(&self) -> usize {
         self.number
     }
 }

@@ -6,14 +6,14 @@ ghost use Rattle.std.specs.Prelude.{◌≡◌, ◌<◌, ◌↔◌, IfOk, OnOk, O
 ghost use Rattle.std.specs.FinSet as set;
 ghost use Rattle.prefix_store.specs.Stored.{saturated_count};
 ghost use Rattle.prefix_store.specs.declared.store.TheConstants.{GREATEST_COUNT};
-ghost use Rattle.rib_player.specs.Timeline.{ahead_of, end_of, current, after_play, fresh, after_undo, after_redo, without_first, forgettable, after_forget, needed_keys, IsWellFormed};
+ghost use Rattle.rib_player.specs.Timeline.{ahead_of, end_of, current, after_play, fresh, after_undo, after_redo, without_first, forgotten_count, after_forget, needed_keys, IsWellFormed};
 
-use crate::claims::{Claims, release_claims};
+use crate::claims::{ExtraClaims, release_claims};
 use crate::entry::{JournalEnd, Step};
 use crate::journal::{
     Journal, apply_entries, apply_or_undo_step, drop_step, drop_steps_ahead, reserve_step,
 };
-use crate::prefetching::{Prefetched, STEPS_TOGETHER};
+use crate::prefetching::{PrefetchedGroups, STEPS_TOGETHER};
 use crate::seen_numbers::SeenNumbers;
 use crate::steps::entries_for_event;
 use crate::table::Table;
@@ -54,14 +54,14 @@ pub struct Player<S: PrefixStore<Rc<Route>>> {
     journal: Journal,
     /// How often each pair of a peer and a prefix is claimed beyond the first time. A claim is a
     /// reason to keep the pair as a key of the table, with memory for a route (`claims.rt`).
-    claims: Claims,
+    claims: ExtraClaims,
     /// The routes that were played, by which equal routes share memory.
     known: RouteInterner,
     /// The indices of the stores whose peers were seen in the event that is being played. Kept
     /// between plays so that its memory is used again.
     marks: SeenNumbers,
     /// The groups of steps whose memory was prefetched last, by undo or redo.
-    prefetched: Prefetched,
+    prefetched: PrefetchedGroups,
 }
 
 impl<S: PrefixStore<Rc<Route>>> Model for Player<S> {
@@ -99,10 +99,10 @@ impl<S: PrefixStore<Rc<Route>>> Player<S> {
                 cursor: 0,
                 floor: 0,
             },
-            claims: Claims::new(alloc),
+            claims: ExtraClaims::new(alloc),
             known: RouteInterner::new(alloc),
             marks: SeenNumbers::new(alloc),
-            prefetched: Prefetched {
+            prefetched: PrefetchedGroups {
                 last: usize::MAX,
                 before: usize::MAX,
             },
@@ -110,7 +110,8 @@ impl<S: PrefixStore<Rc<Route>>> Player<S> {
     }
 
     /// Returns the position of the cursor: the number of steps (played events) before it, which are
-    /// applied to the table now. Forgotten steps are counted too.
+    /// applied to the table now. Steps that were forgotten, so that they can't be undone any more,
+    /// are counted too.
     pub fn at(&self) -> u64
         ensures cursor { result ≡ self.now.cursor }
         ensures well_formed { IsWellFormed self.now }
@@ -134,11 +135,11 @@ impl<S: PrefixStore<Rc<Route>>> Player<S> {
         (self.journal.steps.len() - self.journal.cursor) as u64
     }
 
-    /// Returns the total number of pairs of a peer and a prefix that the steps (played events) that
-    /// aren't forgotten name, or `u64::MAX` if it is larger. A step names each pair that its event
-    /// sets or clears and that has a route before or after it; a pair counts once for each such
-    /// step. The memory that the steps take grows with it. Takes time linear in the number of
-    /// steps.
+    /// Returns how many pairs of a peer and a prefix the kept steps name in total, or `u64::MAX` if
+    /// there are more. A kept step is a played event that undo or redo can go over. A step names
+    /// each pair that its event sets or clears and that has a route before or after it; a pair
+    /// counts once for each step that names it. The memory that the steps take grows with this
+    /// number. Takes time linear in the number of steps.
     pub fn named(&self) -> u64
         ensures { result ≡ saturated_count (sum_by set.len self.now.steps) }
     {
@@ -150,8 +151,8 @@ impl<S: PrefixStore<Rc<Route>>> Player<S> {
         total
     }
 
-    /// Returns the routing tables of all peers after the steps (played events) before the cursor,
-    /// for look-ups.
+    /// Returns the routing tables of all peers as of the cursor: with all steps (played events)
+    /// before it applied, and none after it.
     pub fn table(&self) -> &Table<S>
         ensures keys { result.now.keys ≡ needed_keys self.now }
         ensures routes { result.now.routes ≡ current self.now }
@@ -161,17 +162,17 @@ impl<S: PrefixStore<Rc<Route>>> Player<S> {
 
     /// Applies `event` to the table as the next step, and moves the cursor after it. The steps
     /// after the cursor (undone events) are dropped, so that they can't be redone; returns how many
-    /// these were. The position ([`Player::at`]) is required to be below `u64::MAX`. On an error,
-    /// the player is unchanged, including the steps after the cursor.
+    /// these were. Requires that the position ([`Player::at`]) is below `u64::MAX`. Fails if memory
+    /// allocation fails; the player is unchanged then, including the steps after the cursor.
     pub fn play(&mut self, event: &Event) -> Result<u64, PlayFault>
         requires { self.old.cursor < GREATEST_COUNT }
         ensures after_play { OnOk result (self.new ≡ after_play self.old event.now) }
         ensures dropped { IfOk result (λ dropped. dropped ≡ ahead_of self.old) }
         ensures refused { OnErr result (self.new ≡ self.old) }
     {
-        self.known.begin_play();
-        self.table.shrink_if_sparse();
-        let played = self.play_step(event);
+        self.known.prepare_for_event();
+        self.table.shrink_if_oversized();
+        let played = self.play_without_cleanup(event);
         if played.is_err() {
             self.known.release_added();
         }
@@ -222,11 +223,12 @@ impl<S: PrefixStore<Rc<Route>>> Player<S> {
 }
 
 impl<S: PrefixStore<Rc<Route>>> Player<S> {
-    /// Does what [`Player::play`] does, but for freeing spare memory before: plays `event` as the
-    /// next step, drops the undone steps, and returns how many these were. On an error, the player
-    /// is unchanged, except that routes of the event may stay among those that it shares; the
-    /// caller has to call [`RouteInterner::release_added`] then.
-    fn play_step(&mut self, event: &Event) -> Result<u64, PlayFault>
+    /// Plays `event` as the next step, drops the undone steps, and returns how many these were.
+    /// Unlike [`Player::play`], doesn't free spare memory before. Requires that the position
+    /// ([`Player::at`]) is below `u64::MAX`. Fails if memory allocation fails; the player is
+    /// unchanged then, but routes of the event may be among those that it shares, and the caller
+    /// has to call [`RouteInterner::release_added`].
+    fn play_without_cleanup(&mut self, event: &Event) -> Result<u64, PlayFault>
         requires { self.old.cursor < GREATEST_COUNT }
         ensures after_play { OnOk result (self.new ≡ after_play self.old event.now) }
         ensures dropped { IfOk result (λ dropped. dropped ≡ ahead_of self.old) }
@@ -262,8 +264,8 @@ impl<S: PrefixStore<Rc<Route>>> Player<S> {
     }
 
     /// Forgets the oldest step (played event) that isn't forgotten yet, so that it can't be undone
-    /// any more. There is required to be one, before the cursor. The routes and the cursor's
-    /// position stay.
+    /// any more. The table's routes and the cursor's position stay. Requires that there is such a
+    /// step, and that it is before the cursor.
     fn forget_oldest(&mut self)
         requires { self.old.floor < self.old.cursor }
         ensures { self.new ≡ without_first 1 self.old }
@@ -281,11 +283,11 @@ impl<S: PrefixStore<Rc<Route>>> Player<S> {
         }
     }
 
-    /// Drops the routes that nothing but the player's table of shared routes holds, if those
-    /// released since the last time take more octets than a quarter of what all others take, plus a
-    /// mebibyte. Changes no answer of the player. Call it after dropping the event that was given
-    /// to [`play`](Player::play); without it, such routes stay until the next play or
-    /// [`forget`](Player::forget).
+    /// Drops the routes that nothing but the player's table of shared routes holds, if it pays: if
+    /// the routes that steps and events gave up since this was last done take more than 1 MiB plus
+    /// a quarter of the octets of all other routes. Changes no answer of the player. Call it after
+    /// dropping the event that was given to [`play`](Player::play); without this call, such routes
+    /// stay until the next play or [`forget`](Player::forget).
     pub fn drop_unused_routes(&mut self)
         ensures { self.new ≡ self.old }
     {
@@ -298,7 +300,7 @@ impl<S: PrefixStore<Rc<Route>>> Player<S> {
     /// memory.
     pub fn forget(&mut self, keep: u64) -> u64
         ensures after_forget { self.new ≡ after_forget self.old keep }
-        ensures forgotten { result ≡ forgettable self.old keep }
+        ensures forgotten { result ≡ forgotten_count self.old keep }
     {
         let count = (self.journal.cursor as u64).saturating_sub(keep);
         'steps: for _ in 0..count {

@@ -1,7 +1,7 @@
 //! Prefetches of the memory that the routes of steps (played events) need in the table, before
 //! undo, redo or play swap them with the table's, so that the processor waits for the nodes (of a
 //! store's tree of prefixes) of several pairs of a peer and a prefix at once. They change nothing.
-//! `journal.rt` calls [`prefetch_entries`] and [`prefetch_steps`].
+//! `journal.rt` calls [`prefetch_next_entries`] and [`prefetch_steps`].
 //!
 //! Nodes are prefetched only for entries of one peer, as those of a BGP message, whose store has
 //! many keys (prefixes with memory for a route). A RIB record names one prefix of many peers, and
@@ -41,7 +41,7 @@ fn prefetch_batch<S: PrefixStore<Rc<Route>>>(batch: &mut PrefetchBatch<'_, S>) -
 /// Adds the prefixes of `entries` (the routes that a step changed, all of one peer) to `batch`, to
 /// be looked up in `store`. Whenever the batch is full, prefetches their nodes and empties it;
 /// prefixes of the last batch may stay in it. Returns the number of nodes visited.
-fn add_entries<'a, S: PrefixStore<Rc<Route>>>(
+fn prefetch_full_batches<'a, S: PrefixStore<Rc<Route>>>(
     batch: &mut PrefetchBatch<'a, S>,
     store: &'a S,
     entries: &[Entry],
@@ -59,7 +59,7 @@ fn add_entries<'a, S: PrefixStore<Rc<Route>>>(
 /// prefetching doesn't pay: if there are no entries, the first and the last are of different peers,
 /// the peer has no store, or its store has fewer than [`LEAST_KEYS`] keys (prefixes with memory for
 /// a route). Entries between the first and the last aren't looked at.
-fn common_store<'a, S: PrefixStore<Rc<Route>>>(
+fn store_worth_prefetching<'a, S: PrefixStore<Rc<Route>>>(
     table: &'a Table<S>,
     entries: &[Entry],
 ) -> Option<&'a S> {
@@ -68,7 +68,7 @@ fn common_store<'a, S: PrefixStore<Rc<Route>>>(
     if entries.last()?.peer() != peer.peer() {
         return None;
     }
-    let store = table.stores.get(peer.number(), peer.peer())?;
+    let store = table.stores.get(peer.number_hint(), peer.peer())?;
     if store.key_count() < LEAST_KEYS {
         return None;
     }
@@ -76,12 +76,14 @@ fn common_store<'a, S: PrefixStore<Rc<Route>>>(
 }
 
 /// Prefetches the nodes for up to [`ENTRIES_AT_ONCE`] entries of a step (a played event), from the
-/// index `index` on, and returns the number of nodes visited. `entries` are all of the step. Does
-/// nothing and returns 0 unless `index` is a multiple of [`ENTRIES_AT_ONCE`] and the step has at
-/// least so many entries, of one peer with many keys (prefixes with memory for a route). `index` is
-/// required to be at most the number of entries.
+/// index `index` on, and returns the number of nodes visited. `entries` are all entries of the
+/// step. Requires that `index` is at most their number. Does nothing and returns 0 unless
+/// - `index` is a multiple of [`ENTRIES_AT_ONCE`],
+/// - the step has at least so many entries, and
+/// - the first and the last of all entries are of one peer, whose store has at least [`LEAST_KEYS`]
+///   keys (prefixes with memory for a route).
 #[inline]
-pub(crate) fn prefetch_entries<S: PrefixStore<Rc<Route>>>(
+pub(crate) fn prefetch_next_entries<S: PrefixStore<Rc<Route>>>(
     table: &Table<S>,
     entries: &[Entry],
     index: usize,
@@ -91,12 +93,12 @@ pub(crate) fn prefetch_entries<S: PrefixStore<Rc<Route>>>(
     if entries.len() < ENTRIES_AT_ONCE || index % ENTRIES_AT_ONCE != 0 {
         return 0;
     }
-    let Some(store) = common_store(table, entries) else {
+    let Some(store) = store_worth_prefetching(table, entries) else {
         return 0;
     };
     let mut batch = PrefetchBatch::new();
     let end = entries.len().min(index.saturating_add(ENTRIES_AT_ONCE));
-    let visited = add_entries(&mut batch, store, &entries[index..end]);
+    let visited = prefetch_full_batches(&mut batch, store, &entries[index..end]);
     visited.wrapping_add(prefetch_batch(&mut batch))
 }
 
@@ -104,7 +106,7 @@ pub(crate) fn prefetch_entries<S: PrefixStore<Rc<Route>>>(
 /// that they aren't prefetched again. A group is given by the index of its first step in the
 /// journal, or `usize::MAX` for none.
 #[derive(Clone, Copy)]
-pub(crate) struct Prefetched {
+pub(crate) struct PrefetchedGroups {
     // Two are kept, so that going back and forth over a position doesn't prefetch their nodes each
     // time.
     /// The group that was prefetched last.
@@ -113,16 +115,18 @@ pub(crate) struct Prefetched {
     pub(crate) before: usize,
 }
 
-/// Prefetches the nodes for the group of [`STEPS_TOGETHER`] steps (played events) that has the step
-/// with index `next`, and returns the number of nodes visited. Does nothing and returns 0 unless
-/// `first` is the index of this step in its group (0 to go forward, the last to go back), the step
-/// has entries, and the group isn't in `prefetched`, to which it is added. Steps of at least
-/// [`ENTRIES_AT_ONCE`] entries are left to [`prefetch_entries`]. `next` is required to be the index
-/// of a step.
+/// Prefetches the nodes for a group of [`STEPS_TOGETHER`] steps (played events), the one that
+/// `steps[next]` is in, adds the group to `prefetched`, and returns the number of nodes visited.
+/// The caller has to use the number, since a compiler may remove the prefetches otherwise. Steps of
+/// at least [`ENTRIES_AT_ONCE`] entries are left to [`prefetch_next_entries`]. `steps[next]` is the
+/// step that the caller comes to, and `first` is the index within each group of the step that it
+/// comes to first: 0 to go forward, the last to go back. Does nothing and returns 0 if
+/// `steps[next]` isn't at the index `first` of its group, if it has no entries, or if the group is
+/// in `prefetched` already. Requires that `next` is the index of a step.
 pub(crate) fn prefetch_steps<S: PrefixStore<Rc<Route>>>(
     table: &Table<S>,
     steps: &VecDeque<Step>,
-    prefetched: &mut Prefetched,
+    prefetched: &mut PrefetchedGroups,
     next: usize,
     first: usize,
 ) -> u64
@@ -143,8 +147,8 @@ pub(crate) fn prefetch_steps<S: PrefixStore<Rc<Route>>>(
     'steps: for index in start..end {
         let entries = &steps[index].entries;
         if entries.len() < ENTRIES_AT_ONCE {
-            if let Some(store) = common_store(table, entries) {
-                visited = visited.wrapping_add(add_entries(&mut batch, store, entries));
+            if let Some(store) = store_worth_prefetching(table, entries) {
+                visited = visited.wrapping_add(prefetch_full_batches(&mut batch, store, entries));
             }
         }
     }

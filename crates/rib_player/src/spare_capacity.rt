@@ -12,10 +12,11 @@ pub(crate) const MOST_TIMES: usize = 4;
 /// of up to so many elements may have capacity for [`MOST_TIMES`] times as many.
 pub(crate) const LEAST_ROOM: usize = 1024;
 
-/// Shrinks the capacity of `list` to its length, at least [`LEAST_ROOM`] elements, if the capacity
-/// divided by [`MOST_TIMES`] is more than that. The elements stay. Does nothing if it isn't, or if
-/// memory allocation for the smaller block fails.
-pub(crate) fn shrink_if_sparse<T>(list: &mut Vec<T>)
+/// Shrinks the capacity of `list` if it is far too large for the elements, which stay. What they
+/// need is taken as their number, or as [`LEAST_ROOM`] if that is more. If the capacity divided by
+/// [`MOST_TIMES`], rounded down, is above this number, it is shrunk to it. Does nothing if memory
+/// allocation for the smaller block fails.
+pub(crate) fn shrink_if_oversized<T>(list: &mut Vec<T>)
     ensures { list.new.items ≡ list.old.items }
 {
     let kept = list.len().max(LEAST_ROOM);

@@ -6,12 +6,14 @@ ghost use Rattle.std.specs.Prelude.{◌≡◌, ◌<◌, ◌≤◌, ◌++◌, ◌
 ghost use Rattle.rib_player.specs.Indices.{AreInverse, IsSetAt, IsSwapRemoved, ListsAll, swapped_index};
 ghost use Rattle.std.proofs.Props.{props};
 
-use crate::spare_capacity::shrink_if_sparse;
+use crate::spare_capacity::shrink_if_oversized;
 use std::alloc::{AllocError, Global};
 
-/// A set of some of the numbers below a bound, which grows by one with [`add`](SparseSet::add) and
-/// shrinks by one with [`remove`](SparseSet::remove). Making a number a member, or no member, takes
-/// constant time and no memory; listing the members takes no time for the others.
+/// A set of numbers below a bound, the least number that can't be a member. Making a number a
+/// member, or no member, takes constant time and no memory ([`SparseSet::set_member`]); listing the
+/// members takes no time for the others. [`SparseSet::raise_bound`] raises the bound by one,
+/// without a new member. [`SparseSet::remove`] takes a number out of those below the bound, which
+/// gets lower by one, and renames the greatest of them to it.
 #[derive(Drop)]
 pub(crate) struct SparseSet {
     /// All numbers below the bound, the members first.
@@ -24,9 +26,9 @@ pub(crate) struct SparseSet {
     ghost within: { count ≤ vec_len numbers },
 }
 
-/// Swaps the elements of `numbers` at the indices `one` and `other`, and adjusts `places`, which is
-/// required to be the inverse of `numbers` (`places[numbers[i]] == i`) and stays so. Both indices
-/// are required to be in range; they may be equal.
+/// Swaps the elements of `numbers` at the indices `one` and `other`, and adjusts `places`. Requires
+/// that `places` is the inverse of `numbers` (`places[numbers[i]] == i`), as it is afterwards, and
+/// that both indices are in range; they may be equal.
 fn swap_numbers(numbers: &mut Vec<usize>, places: &mut Vec<usize>, one: usize, other: usize)
     requires inverse { AreInverse numbers.old.items places.old.items }
     requires one { one < vec_len numbers.old }
@@ -48,7 +50,8 @@ fn swap_numbers(numbers: &mut Vec<usize>, places: &mut Vec<usize>, one: usize, o
 impl SparseSet {
     ghost use Rattle.rib_player.specs.SparseSet.{HasRoom, choices};
 
-    /// Returns a set with the bound 0, which has no members, without allocating.
+    /// Returns a set without members, without allocating. Its bound, the least number that can't be
+    /// a member, is 0.
     pub(crate) fn new(alloc: Global) -> SparseSet
         ensures { choices result ≡ [] }
     {
@@ -59,8 +62,8 @@ impl SparseSet {
         }
     }
 
-    /// Reserves capacity for raising the bound by one ([`SparseSet::add`]). On an error, which
-    /// means that memory allocation failed, bound and members are unchanged.
+    /// Reserves capacity for one call of [`SparseSet::raise_bound`], which raises the set's bound
+    /// by one. Fails if memory allocation fails; bound and members are unchanged then.
     pub(crate) fn reserve(&mut self) -> Result<(), AllocError>
         ensures room { OnOk result (HasRoom self.new) }
         ensures kept { choices self.new ≡ choices self.old }
@@ -69,9 +72,10 @@ impl SparseSet {
         self.places.reserve(1)
     }
 
-    /// Raises the bound by one; the new number, the bound before, isn't a member. Capacity for it
-    /// is required, as [`SparseSet::reserve`] gives it, so that this can't fail.
-    pub(crate) fn add(&mut self)
+    /// Raises the bound, below which all members are, by one. The number that this admits, the
+    /// bound before, isn't a member yet. Requires that there is capacity for it, as
+    /// [`SparseSet::reserve`] makes it, so that this can't fail.
+    pub(crate) fn raise_bound(&mut self)
         requires { HasRoom self.old }
         ensures { choices self.new ≡ choices self.old ++ false ∷ [] }
     {
@@ -81,7 +85,7 @@ impl SparseSet {
     }
 
     /// Makes `number` a member of the set if `is` is `true`, or no member if it is `false`; does
-    /// nothing if it is so already. `number` is required to be below the bound. Allocates no
+    /// nothing if it is so already. Requires that `number` is below the set's bound. Allocates no
     /// memory.
     #[inline]
     pub(crate) fn set_member(&mut self, number: usize, is: bool)
@@ -93,8 +97,9 @@ impl SparseSet {
         }
     }
 
-    /// Makes `number` a member of the set if `is` is `true`, or no member if it is `false`. This is
-    /// required to be a change: `number` is below the bound, and a member only if `is` is `false`.
+    /// Makes `number` a member of the set if `is` is `true`, or no member if it is `false`.
+    /// Requires that it is below the set's bound, and that this is a change: it isn't a member yet
+    /// if `is` is `true`, and is one if `is` is `false`. Allocates no memory.
     fn set_membership(&mut self, number: usize, is: bool)
         requires { slice_get (choices self.old) number ≡ Some (not is) }
         ensures { IsSetAt (choices self.old) (choices self.new) number is }
@@ -109,9 +114,11 @@ impl SparseSet {
         }
     }
 
-    /// Removes `number` from those below the bound, and lowers the bound by one. The last number,
-    /// if it is another one, is renamed to `number`, and stays a member or not, as an element that
-    /// [`Vec::swap_remove`] moves. `number` is required to be below the bound. Allocates no memory.
+    /// Takes `number`, a member or not, out of the numbers below the set's bound, and lowers the
+    /// bound by one. The greatest of these numbers, if it is another one, is renamed to `number`,
+    /// and is a member then if it was one before. So the set follows the indices of a list of which
+    /// [`Vec::swap_remove`] removes an element. Requires that `number` is below the bound.
+    /// Allocates no memory.
     pub(crate) fn remove(&mut self, number: usize)
         requires { number < length (choices self.old) }
         ensures { IsSwapRemoved (choices self.old) (choices self.new) number }
@@ -132,12 +139,12 @@ impl SparseSet {
         &self.numbers[..self.count]
     }
 
-    /// Shrinks the lists of the set if their capacity is far more than the bound
-    /// (`spare_capacity.rt`). Bound and members stay.
-    pub(crate) fn shrink_if_sparse(&mut self)
+    /// Shrinks the capacity of each list of the set if [`shrink_if_oversized`] finds it too large
+    /// for its elements, one for each number below the set's bound. Bound and members stay.
+    pub(crate) fn shrink_if_oversized(&mut self)
         ensures { choices self.new ≡ choices self.old }
     {
-        shrink_if_sparse(&mut self.numbers);
-        shrink_if_sparse(&mut self.places);
+        shrink_if_oversized(&mut self.numbers);
+        shrink_if_oversized(&mut self.places);
     }
 }

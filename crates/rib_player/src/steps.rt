@@ -27,8 +27,8 @@ use std::rc::Rc;
 const MANY: usize = 64;
 
 /// Appends to `entries`, for each prefix of `found`, an entry (what a step does to the route of a
-/// peer and a prefix) that clears the route of `peer` to it. The routes of `found` aren't used. An
-/// error means that memory allocation failed; some of the entries may have been appended then.
+/// peer and a prefix) that clears the route of `peer` to it. The routes of `found` aren't used.
+/// Fails if memory allocation fails; some of the entries may have been appended then.
 fn push_cleared_entries(
     alloc: Global,
     peer: &Rc<NumberedPeer>,
@@ -46,7 +46,7 @@ fn push_cleared_entries(
 
 /// Returns the entries that clear all routes of `peer`: one for each prefix to which it has a route
 /// in `table`, in the order of prefixes, or none if it has no route. They aren't applied: the table
-/// isn't changed. An error means that memory allocation failed.
+/// isn't changed. Fails if memory allocation fails.
 fn session_loss_entries<S: PrefixStore<Rc<Route>>>(
     alloc: Global,
     peer: &Peer,
@@ -73,10 +73,10 @@ fn session_loss_entries<S: PrefixStore<Rc<Route>>>(
     }
 }
 
-/// Returns the entries of `changes` (an event's announcements and withdrawals), followed by those
-/// that clear the routes of each peer whose session it loses. A pair of a peer and a prefix may
-/// have several entries, of which the first counts. The table isn't changed. An error means that
-/// memory allocation failed.
+/// Returns all entries that an event makes: those of `changes`, for its announcements and
+/// withdrawals, followed by those that clear the routes in `table` of each peer of `changes.lost`,
+/// whose session the event ends. A pair of a peer and a prefix may have several entries, of which
+/// the first counts. Fails if memory allocation fails.
 fn with_lost_entries<S: PrefixStore<Rc<Route>>>(
     changes: Changes,
     table: &Table<S>,
@@ -149,11 +149,11 @@ fn are_one_peer_descending(entries: &[Entry]) -> bool
     true
 }
 
-/// Returns, of the entries (routes that an event sets or clears) with an equal peer and an equal
-/// prefix, only the first, and drops the others. The order of the result is unspecified. `marks` is
-/// memory to use for the peers seen; what it held is lost. An error means that memory allocation
-/// failed.
-fn one_entry_per_pair<S: PrefixStore<Rc<Route>>>(
+/// Returns the first of the entries (routes that an event sets or clears) of each pair of a peer
+/// and a prefix, in unspecified order, and drops the others. `table` is searched only for the
+/// numbers of the peers' stores, to compare peers quickly. `marks` is scratch memory for these
+/// numbers; what it held is lost. Fails if memory allocation fails; the entries are dropped then.
+fn first_entry_per_pair<S: PrefixStore<Rc<Route>>>(
     entries: Vec<Entry>,
     table: &Table<S>,
     marks: &mut SeenNumbers,
@@ -181,10 +181,12 @@ fn one_entry_per_pair<S: PrefixStore<Rc<Route>>>(
 
 /// Returns the entries of the step that playing `event` on `table` makes: one for each pair of a
 /// peer and a prefix that the event sets or clears and that has a route before or after it, with
-/// the route that it gets. They aren't applied, and the table isn't changed. The second value is a
-/// peer if all that the step does is to clear that peer's routes, else `None`. Routes are replaced
-/// by equal ones of `known`, the routes that the player shares; `marks` is memory to use for the
-/// peers seen. An error means that memory allocation failed.
+/// the route that it gets. They aren't applied. If the second value is a peer, the step clears all
+/// routes of that peer, in the order of prefixes, and does nothing else. Each announced route is
+/// replaced by the equal one of `known`, the routes that the player shares, or else added there; a
+/// long one with many owners may stay as it is. `marks` is scratch memory for the peers seen; what
+/// it held is lost. Fails if memory allocation fails; some routes may have been added to `known`
+/// then.
 pub(crate) fn entries_for_event<S: PrefixStore<Rc<Route>>>(
     alloc: Global,
     event: &Event,
@@ -208,7 +210,7 @@ pub(crate) fn entries_for_event<S: PrefixStore<Rc<Route>>>(
     }
     let then = with_lost_entries(changes, table)?;
     let noted = then.len();
-    let mut routed = one_entry_per_pair(then, table, marks)?;
+    let mut routed = first_entry_per_pair(then, table, marks)?;
     if routed.len() < noted {
         known.release_added();
     }

@@ -21,7 +21,7 @@ ghost use Rattle.std.proofs.Props.{props};
 use crate::entry::Entry;
 use crate::numbered_peer::NumberedPeer;
 use crate::seen_numbers::SeenNumbers;
-use crate::spare_capacity::shrink_if_sparse;
+use crate::spare_capacity::shrink_if_oversized;
 use crate::sparse_set::SparseSet;
 use known_routes::peer_hash;
 use mrt_events::{Peer, same_peer};
@@ -64,8 +64,9 @@ pub(crate) struct Stores<S> {
     ghost each: { length (choices routed) ≡ length held.items },
 }
 
-/// Returns the index in `Stores::places`, a small hash table of numbers of peers, for `peer`: the
-/// highest 12 bits of its hash. Different peers may have the same index.
+/// Returns the index for `peer` in `Stores::places`, a small hash table from peers to the indices
+/// of their stores: the highest 12 bits of the peer's hash. Different peers may have the same
+/// index.
 #[inline]
 fn slot_of(peer: &Peer) -> usize {
     (peer_hash(peer) >> LOWEST_BITS) as usize
@@ -120,32 +121,32 @@ impl<S> Stores<S> {
     }
 
     /// Returns the number of `peer`, which is the index of its store, or `None` if it has no store.
-    /// `number` is a hint, tried first; a wrong one, such as
+    /// `hint` may be the number, and is tried first; a wrong one, such as
     /// [`NO_NUMBER`](crate::numbered_peer::NO_NUMBER), takes only time.
     #[inline(always)]
-    fn find_number_by_hint(&self, number: usize, peer: &Peer) -> Option<usize>
+    fn find_number_by_hint(&self, hint: usize, peer: &Peer) -> Option<usize>
         ensures { result ≡ lookup (eq_by_cmp peer_cmp peer.now) self.now.order.entries }
     {
-        if self.has_number(number, peer) {
-            return Some(number);
+        if self.has_number(hint, peer) {
+            return Some(hint);
         }
         self.find_number(peer)
     }
 
     /// Returns the peer with its number (the index of its store), as the pointer that the entries
-    /// of steps share, or `None` if it has no store. `number` is a hint of its number, tried first;
+    /// of steps share, or `None` if it has no store. `hint` may be its number, and is tried first;
     /// a wrong one takes only time.
     #[inline]
-    pub(crate) fn find_numbered_peer(&self, number: usize, peer: &Peer) -> Option<&Rc<NumberedPeer>>
+    pub(crate) fn find_numbered_peer(&self, hint: usize, peer: &Peer) -> Option<&Rc<NumberedPeer>>
         ensures { IfSome result (λ shared. shared.now.value ≡ peer.now) }
     {
-        self.names.get(self.find_number_by_hint(number, peer)?)
+        self.names.get(self.find_number_by_hint(hint, peer)?)
     }
 
     /// Returns `true` if the peers of all entries (the routes that an event sets or clears) have
     /// stores and no two entries are of one peer, also if there are no entries; else `false`.
-    /// `marks` is memory to use for the numbers seen; what it held is lost. An error means that
-    /// memory allocation failed.
+    /// `marks` is scratch memory for the numbers seen; what it held is lost. Fails if memory
+    /// allocation fails.
     pub(crate) fn have_distinct_stores(
         &self,
         entries: &[Entry],
@@ -153,10 +154,10 @@ impl<S> Stores<S> {
     ) -> Result<bool, AllocError>
         ensures { IfOk result (λ are. IsTrue are → AreDistinct (sides_of entries.now)) }
     {
-        marks.begin_row(self.names.len());
+        marks.clear(self.names.len());
         'entries: for entry in entries {
             let peer = entry.shared_peer();
-            let Some(number) = self.find_number_by_hint(peer.number(), peer.peer()) else {
+            let Some(number) = self.find_number_by_hint(peer.number_hint(), peer.peer()) else {
                 return Ok(false);
             };
             let newly_seen = marks.newly_seen(number)?;
@@ -167,8 +168,7 @@ impl<S> Stores<S> {
         Ok(true)
     }
 
-    /// Returns the store with this index, which is the number of its peer, or `None` if there is
-    /// none.
+    /// Returns the store whose index is `number`, or `None` if no store has this index.
     #[inline]
     pub(crate) fn at(&self, number: usize) -> Option<&S>
         ensures { option_copied result ≡ slice_get self.now.held.items number }
@@ -176,8 +176,8 @@ impl<S> Stores<S> {
         self.held.get(number)
     }
 
-    /// Returns the peer with this number and its store, whose index the number is, or `None` if
-    /// there is none.
+    /// Returns the store whose index is `number`, with its peer, or `None` if no store has this
+    /// index.
     pub(crate) fn peer_and_store_at(&self, number: usize) -> Option<(&Peer, &S)>
         ensures store { IfSome result (λ found.
             store_at (stores_in self.now) found.0.now ≡ Some found.1.now) }
@@ -190,13 +190,13 @@ impl<S> Stores<S> {
         Some((name.peer(), store))
     }
 
-    /// Returns the store with the routes of `peer`, or `None` if it has none. `number` is a hint of
-    /// the store's index, tried first; a wrong one takes only time.
+    /// Returns the store with the routes of `peer`, or `None` if it has none. `hint` may be
+    /// the store's index, and is tried first; a wrong one takes only time.
     #[inline]
-    pub(crate) fn get(&self, number: usize, peer: &Peer) -> Option<&S>
+    pub(crate) fn get(&self, hint: usize, peer: &Peer) -> Option<&S>
         ensures { option_copied result ≡ store_at (stores_in self.now) peer.now }
     {
-        self.at(self.find_number_by_hint(number, peer)?)
+        self.at(self.find_number_by_hint(hint, peer)?)
     }
 
     /// Returns a mutable reference to the store with the routes of `peer`, or `None` if it has
@@ -214,9 +214,10 @@ impl<S> Stores<S> {
         self.held.get_mut(found)
     }
 
-    /// Records in the set of the stores that have a route whether the one with index `number` has
-    /// one, as `has` says. A caller that changes whether it has one has to call this. `number` is
-    /// required to be the index of a store. Allocates no memory.
+    /// Records whether the store with index `number` has a route: puts it into the set of the
+    /// stores that have one if `has` is `true`, or takes it out if `has` is `false`. A caller that
+    /// gives a store its first route or takes its last one has to call this. Requires that `number`
+    /// is the index of a store. Allocates no memory.
     #[inline]
     pub(crate) fn set_routed(&mut self, number: usize, has: bool)
         requires { number < length self.old.held.items }
@@ -228,10 +229,11 @@ impl<S> Stores<S> {
         self.routed.set_member(number, has);
     }
 
-    /// Records in the set of the stores that have a route whether the one with index `number` has
-    /// one, after at most one route was set or cleared; `count` is the number of its routes now.
-    /// Does nothing if `count` is two or more, since the store is required to be recorded as having
-    /// one already then. `number` is required to be the index of a store. Allocates no memory.
+    /// Brings the set of the stores that have a route up to date, after at most one route was set
+    /// or cleared in the store with the index `number`, which now has `count` routes. Removes the
+    /// store if `count` is 0, and adds it if `count` is 1. A larger count changes nothing, since
+    /// the store had a route before too. Requires that `number` is the index of a store, and that
+    /// this store is in the set already if `count` is two or more. Allocates no memory.
     #[inline]
     pub(crate) fn update_routed(&mut self, number: usize, count: u64)
         requires within { number < length self.old.held.items }
@@ -247,15 +249,16 @@ impl<S> Stores<S> {
         self.set_routed(number, count > 0);
     }
 
-    /// Shrinks the lists of stores, of peers and of numbers if their capacity is far more than
-    /// their length (`spare_capacity.rt`). Stores and numbers stay.
-    pub(crate) fn shrink_if_sparse(&mut self)
+    /// Shrinks the capacity of the list of stores, of that of their peers, and of the set of the
+    /// stores that have a route, each if [`shrink_if_oversized`] finds it too large for its
+    /// elements. Stores and their indices stay.
+    pub(crate) fn shrink_if_oversized(&mut self)
         ensures stores { stores_in self.new ≡ stores_in self.old }
         ensures routed { routed_in self.new ≡ routed_in self.old }
     {
-        shrink_if_sparse(&mut self.held);
-        shrink_if_sparse(&mut self.names);
-        self.routed.shrink_if_sparse();
+        shrink_if_oversized(&mut self.held);
+        shrink_if_oversized(&mut self.names);
+        self.routed.shrink_if_oversized();
     }
 }
 
@@ -263,9 +266,9 @@ impl<S: Drop> Stores<S> {
     ghost use Rattle.rib_player.specs.StoresByPeer.{stores_in};
     ghost use Rattle.rib_player.specs.Noted.{routed_in};
 
-    /// Adds `store`, which has no route yet, for `peer`, which is required to have no store. It
-    /// gets the next number, the number of stores before. On an error, which means that memory
-    /// allocation failed, nothing is added, and `store` is dropped.
+    /// Adds `store`, which is taken to have no route yet, for `peer`. Its index, by which it is
+    /// found, is the number of stores before the call. Requires that `peer` has no store. Fails if
+    /// memory allocation fails; nothing is added then, and `store` is dropped.
     pub(crate) fn insert(&mut self, peer: Peer, store: S) -> Result<(), AllocError>
         requires { store_at (stores_in self.old) peer ≡ None }
         ensures added { OnOk result
@@ -286,7 +289,7 @@ impl<S: Drop> Stores<S> {
         self.order.insert(peer, number)?;
         self.held.push_reserved(store);
         self.names.push_reserved(name);
-        self.routed.add();
+        self.routed.raise_bound();
         set_slot(&mut self.places, &peer, number);
         Ok(())
     }
@@ -311,8 +314,8 @@ impl<S: Drop> Stores<S> {
     }
 }
 
-/// Sets the number that `order` has for `peer` to `number`. `peer` is required to be in `order`,
-/// the map from peers to the indices of their stores.
+/// Sets the number that `order`, the map from peers to the indices of their stores, has for `peer`
+/// to `number`. Requires that `peer` is in `order`.
 fn renumber(order: &mut BTreeMap<Peer, usize>, peer: &Peer, number: usize)
     requires { IsSome (lookup (eq_by_cmp peer_cmp peer.now) order.old.entries) }
     ensures { IsUpdatedAt order.old.entries order.new.entries peer.now (Some number) }
@@ -322,9 +325,10 @@ fn renumber(order: &mut BTreeMap<Peer, usize>, peer: &Peer, number: usize)
     }
 }
 
-/// Sets the element of `places` for `peer` (at [`slot_of`]) to `number`, or to `u32::MAX` if
-/// `number` is greater, and replaces what another peer had there. Does nothing if `places` is
-/// empty.
+/// Notes in `places`, a hash table of the numbers of peers, that `peer` has the number `number`:
+/// sets the element at [`slot_of`], and so replaces what another peer may have there. A number
+/// above `u32::MAX` is noted as `u32::MAX`. Readers don't rely on an element: they check whether
+/// the store with that number is the peer's. Does nothing if `places` is empty.
 fn set_slot(places: &mut Vec<u32>, peer: &Peer, number: usize)
     requires { vec_len places.old ≤ PLACES }
     ensures { vec_len places.new ≤ PLACES }

@@ -29,12 +29,12 @@ use std::ops::Bound;
 use std::rc::Rc;
 
 /// The smallest number of peers with a key (a prefix with memory for a route) for which
-/// [`Table::few_peers`] returns a list. With one peer less it returns `None`.
+/// [`Table::routed_peers_if_few`] returns a list. With one peer less it returns `None`.
 const LEAST_PEERS: usize = 64;
 
 /// The smallest ratio of the peers with a key (a prefix with memory for a route) to those with a
-/// route for which [`Table::few_peers`] returns a list. If one more peer has a route, it returns
-/// `None`.
+/// route for which [`Table::routed_peers_if_few`] returns a list. If one more peer has a route, it
+/// returns `None`.
 const FEW_OF: usize = 4;
 
 /// A routing table for each peer: at most one route for each pair of a peer and a prefix. A pair is
@@ -89,25 +89,25 @@ impl<S: PrefixStore<Rc<Route>>> Table<S> {
         self.visited = self.visited.wrapping_add(visited);
     }
 
-    /// Shrinks the lists of stores and peers if their capacity is far more than their length
-    /// (`spare_capacity.rt`). Keys and routes stay.
-    pub(crate) fn shrink_if_sparse(&mut self)
+    /// Shrinks the capacity of the lists of stores and peers, each if
+    /// [`shrink_if_oversized`](crate::spare_capacity::shrink_if_oversized) finds it too large for
+    /// its elements. Keys and routes stay.
+    pub(crate) fn shrink_if_oversized(&mut self)
         ensures { self.new ≡ self.old }
     {
-        self.stores.shrink_if_sparse();
+        self.stores.shrink_if_oversized();
     }
 
     /// Swaps the table's route of `pair`, a peer and a prefix, with `route`; either may be `None`.
-    /// The pair is required to be a key (to have memory for a route), so that no memory is
-    /// allocated. `number` is a hint of the index of the peer's store, or [`NO_NUMBER`]; a wrong
-    /// one takes only time.
-    pub(crate) fn exchange(&mut self, pair: &Pair, number: usize, route: &mut Option<Rc<Route>>)
+    /// Requires that the pair is a key (has memory for a route). `hint` may be the index of the
+    /// peer's store, or [`NO_NUMBER`]; a wrong one takes only time. Allocates no memory.
+    pub(crate) fn exchange(&mut self, pair: &Pair, hint: usize, route: &mut Option<Rc<Route>>)
         requires { set.contains self.old.keys pair.now ≡ true }
         ensures keys { self.new.keys ≡ self.old.keys }
         ensures routes { self.new.routes ≡ put self.old.routes pair.now (route_in route.old) }
         ensures taken_out { route_in route.new ≡ finite.get self.old.routes pair.now }
     {
-        let mut number = number;
+        let mut number = hint;
         let Some(store) = self.stores.get_mut(&mut number, &pair.peer) else {
             unreachable!();
         };
@@ -118,13 +118,13 @@ impl<S: PrefixStore<Rc<Route>>> Table<S> {
 
     /// Swaps the table's route of `pair`, a peer and a prefix, with `route`, either of which may be
     /// `None`, and makes the pair a key, which has memory for a route. Returns `true` if it wasn't
-    /// a key before, `false` if it was. `number` is a hint of the index of the peer's store, or
-    /// [`NO_NUMBER`]; a wrong one takes only time. On an error, which means that memory allocation
-    /// failed, table and `route` are unchanged.
+    /// a key before, `false` if it was. `hint` may be the index of the peer's store, or
+    /// [`NO_NUMBER`]; a wrong one takes only time. Fails if memory allocation fails; table and
+    /// `route` are unchanged then.
     pub(crate) fn put(
         &mut self,
         pair: &Pair,
-        number: usize,
+        hint: usize,
         route: &mut Option<Rc<Route>>,
     ) -> Result<bool, AllocError>
         ensures keys { OnOk result (self.new.keys ≡ set.insert self.old.keys pair.now) }
@@ -137,7 +137,7 @@ impl<S: PrefixStore<Rc<Route>>> Table<S> {
         ensures kept { OnErr result (route.new ≡ route.old) }
     {
         // If the new store of a peer can't be inserted, it is dropped with its one key.
-        let mut number = number;
+        let mut number = hint;
         if let Some(store) = self.stores.get_mut(&mut number, &pair.peer) {
             let made = store.put(&pair.prefix, route);
             let count = store.route_count();
@@ -152,7 +152,7 @@ impl<S: PrefixStore<Rc<Route>>> Table<S> {
     }
 
     /// Frees the memory for a route of `pair`, a peer and a prefix, so that it is no key any more.
-    /// It is required to be a key, and to have no route. With the last key of a peer, drops the
+    /// Requires that it is a key, and that it has no route. With the last key of a peer, drops the
     /// peer's store.
     pub(crate) fn discard(&mut self, pair: &Pair)
         requires key { set.contains self.old.keys pair.now ≡ true }
@@ -170,9 +170,10 @@ impl<S: PrefixStore<Rc<Route>>> Table<S> {
         }
     }
 
-    /// Moves all routes of the peer into `taken`, in the order of their prefixes, in place of its
-    /// elements; empties it if there are none. The keys stay: the prefixes keep memory for a route.
-    /// `taken` is required to have capacity for all of the routes.
+    /// Moves all routes of `peer` out of the table into `taken`, in ascending order of their
+    /// prefixes, in place of its elements; leaves it empty if the peer has no route. The prefixes
+    /// stay keys, which keep memory for a route. Requires that `taken` has capacity for all of the
+    /// routes.
     pub(crate) fn drain_routes(&mut self, peer: &Peer, taken: &mut Vec<Rc<Route>>)
         requires { finite.len (peer_routes self.old.routes peer.now) ≤ vec_capacity taken.old }
         ensures keys { self.new.keys ≡ self.old.keys }
@@ -199,24 +200,19 @@ impl<S: PrefixStore<Rc<Route>>> Table<S> {
         self.find_route(NO_NUMBER, peer, prefix)
     }
 
-    /// Returns the route of the peer to exactly this prefix, or `None` if it has none. `number` is
-    /// a hint of the index of the peer's store, or [`NO_NUMBER`]; a wrong one takes only time.
+    /// Returns the route of the peer to exactly this prefix, or `None` if it has none. `hint` may
+    /// be the index of the peer's store, or [`NO_NUMBER`]; a wrong one takes only time.
     #[inline]
-    pub(crate) fn find_route(
-        &self,
-        number: usize,
-        peer: &Peer,
-        prefix: &Prefix,
-    ) -> Option<&Rc<Route>>
+    pub(crate) fn find_route(&self, hint: usize, peer: &Peer, prefix: &Prefix) -> Option<&Rc<Route>>
         ensures { option_map (λ route. route.now.value) result ≡
             finite.get self.now.routes (pair_of peer.now prefix.now) }
     {
-        self.find_store(number, peer)?.get(prefix)
+        self.find_store(hint, peer)?.get(prefix)
     }
 
     /// Returns the peer's route to the longest prefix that contains `addr`, with that prefix, or
-    /// `None` if no prefix that the peer has a route to contains it. By this route a router
-    /// forwards that has the peer's routes alone (RFC 1812, section 5.2.4.3).
+    /// `None` if the peer has no route to a prefix that contains it. A router that had this peer's
+    /// routes alone would forward to `addr` by this one (RFC 1812, section 5.2.4.3).
     pub fn longest(&self, peer: &Peer, addr: &Addr) -> Option<(Prefix, &Rc<Route>)>
         ensures { IsBest self.now.routes peer.now addr.now
             (option_map (λ found. (found.0, found.1.now.value)) result) }
@@ -235,11 +231,11 @@ impl<S: PrefixStore<Rc<Route>>> Table<S> {
         self.store(peer)?.after(prefix)
     }
 
-    /// Replaces the elements of `found` by the peer's routes to the least prefixes that are greater
-    /// than `prefix`, or to the least of all if it is `None`, each with its prefix, in ascending
-    /// order. Fills `found` up to its capacity, which stays and should be above 0; leaves it empty
-    /// if there is no such route. A walk over all routes needs fewer calls than by
-    /// [`Table::after`]. Allocates no memory.
+    /// Replaces the elements of `found` by the peer's routes to the prefixes that follow `prefix`,
+    /// or to its first prefixes if that is `None`. Each route is with its prefix, in ascending
+    /// order of prefixes. There are as many as `found` has capacity for, or fewer if the peer has
+    /// no more; none if the capacity is 0. The capacity stays, and no memory is allocated. A walk
+    /// over all routes needs fewer calls of this than of [`Table::after`].
     pub fn next_routes<'a>(
         &'a self,
         peer: &Peer,
@@ -282,11 +278,12 @@ impl<S: PrefixStore<Rc<Route>>> Table<S> {
     }
 
     /// Returns the peers that have a route, in ascending order, each with the number of its routes
-    /// (`u64::MAX` if that is larger), if they are few of those with a key (a prefix with memory
-    /// for a route). Returns `Ok(None)` if fewer than 64 peers have a key, or more than a quarter
-    /// of them have a route: a walk by [`Table::peer_after`] then passes over few others, and needs
-    /// no memory. An error means that memory allocation for the list failed.
-    pub fn few_peers(&self) -> Result<Option<BTreeMap<Peer, u64>>, AllocError>
+    /// (`u64::MAX` if that is larger), if such a list is worth its memory. Returns `Ok(None)` if it
+    /// isn't: if fewer than 64 peers have a key (a prefix with memory for a route, with or without
+    /// one), or if more than a quarter of these have a route. A walk by [`Table::peer_after`],
+    /// which needs no memory, then passes over few peers without a route. Fails if memory
+    /// allocation for the list fails.
+    pub fn routed_peers_if_few(&self) -> Result<Option<BTreeMap<Peer, u64>>, AllocError>
         ensures { IfOk result (λ few. IfSome few (λ peers.
             peers.entries ≡ counted_peers self.now.routes)) }
     {
@@ -308,8 +305,8 @@ impl<S: PrefixStore<Rc<Route>>> Table<S> {
     }
 
     /// Returns the store with the peer's prefixes and routes, for look-ups in it, or `None` if the
-    /// peer has no key: no route, and no prefix with memory for one. A store that is returned may
-    /// have no route.
+    /// peer has no key: no prefix with memory for a route, with or without one. A store that is
+    /// returned may have no route.
     #[inline]
     pub fn store(&self, peer: &Peer) -> Option<&S>
         ensures keys { IfSome result (λ store. (n : Network) →
@@ -327,10 +324,10 @@ impl<S: PrefixStore<Rc<Route>>> Table<S> {
     }
 
     /// Returns the store with the peer's prefixes and routes, or `None` if the peer has no key: no
-    /// route, and no prefix with memory for one. `number` is a hint of the index of its store, or
-    /// [`NO_NUMBER`]; a wrong one takes only time.
+    /// prefix with memory for a route, with or without one. `hint` may be the store's
+    /// index, or [`NO_NUMBER`]; a wrong one takes only time.
     #[inline]
-    fn find_store(&self, number: usize, peer: &Peer) -> Option<&S>
+    fn find_store(&self, hint: usize, peer: &Peer) -> Option<&S>
         ensures keys { IfSome result (λ store. (n : Network) →
             set.contains (S.keys store.now) n ≡ set.contains self.now.keys (pair_of peer.now n)) }
         ensures routes { IfSome result (λ store. (n : Network) →
@@ -342,6 +339,6 @@ impl<S: PrefixStore<Rc<Route>>> Table<S> {
         ensures absent { IfNone result ((n : Network) →
             finite.get self.now.routes (pair_of peer.now n) ≡ None) }
     {
-        self.stores.get(number, peer)
+        self.stores.get(hint, peer)
     }
 }

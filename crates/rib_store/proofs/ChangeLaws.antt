@@ -5,7 +5,7 @@ use Rattle.ip_prefix.specs.Network.{Network}
 use Rattle.ip_prefix.specs.Turns.{way, turn_of}
 use Rattle.ip_prefix.proofs.Turns.{here_only}
 use Rattle.rib_store.specs.Tree.{Shape, Empty, Rooted, at, select_by_turn, root, same_way, slot_of, IsOnSide, IsRooted, IsUpdatedAt, IsRadixTree, IsKeyOrFork}
-use Rattle.rib_store.specs.declared.tree.Slot.{Slot}
+use Rattle.rib_store.specs.declared.tree.KeySlot.{KeySlot}
 use Rattle.rib_store.proofs.WayLaws.{same_is}
 use Rattle.rib_store.proofs.TreeLaws.{at_left, at_right, at_rooted, on_same}
 
@@ -81,10 +81,10 @@ stands_then None l r l' r' left right stands = (subst IsSome (sym left) stands.0
 stands_then (Some slot) l r l' r' left right stands = tt
 
 -- a node is in shape where one of its trees changes so
-pub shaped_left : {R : Type 0} (prefix : Network) (slot : Slot R) (l r m : Shape R) → root m ≡ root l → IsRadixTree m → IsRadixTree (Rooted prefix slot l r) → IsRadixTree (Rooted prefix slot m r)
+pub shaped_left : {R : Type 0} (prefix : Network) (slot : KeySlot R) (l r m : Shape R) → root m ≡ root l → IsRadixTree m → IsRadixTree (Rooted prefix slot l r) → IsRadixTree (Rooted prefix slot m r)
 shaped_left prefix slot l r m same shaped was =
     (record { left = on_same l m (way prefix) false same was.0.left; right = was.0.right }, stands_then (slot_of slot) l r m r same refl was.1, shaped, was.3)
 
-pub shaped_right : {R : Type 0} (prefix : Network) (slot : Slot R) (l r m : Shape R) → root m ≡ root r → IsRadixTree m → IsRadixTree (Rooted prefix slot l r) → IsRadixTree (Rooted prefix slot l m)
+pub shaped_right : {R : Type 0} (prefix : Network) (slot : KeySlot R) (l r m : Shape R) → root m ≡ root r → IsRadixTree m → IsRadixTree (Rooted prefix slot l r) → IsRadixTree (Rooted prefix slot l m)
 shaped_right prefix slot l r m same shaped was =
     (record { left = was.0.left; right = on_same r m (way prefix) true same was.0.right }, stands_then (slot_of slot) l r l m refl same was.1, was.2, shaped)

@@ -5,7 +5,7 @@ use Rattle.ip_prefix.specs.Network.{Network, network_cmp}
 use Rattle.prefix_store.specs.Lookups.{is_above, above, dereferenced}
 use Rattle.ip_prefix.specs.declared.turn.Turn.{Turn}
 use Rattle.ip_prefix.specs.Turns.{way, turn_of, side}
-use Rattle.rib_store.specs.declared.tree.Slot.{Slot}
+use Rattle.rib_store.specs.declared.tree.KeySlot.{KeySlot}
 use Rattle.rib_store.specs.declared.tree.Tree.{Tree}
 use Rattle.rib_store.specs.Tree.{shape_of, has_routes, HasCorrectMarks, Shape, Empty, Rooted, select_by_turn, own, slots_of, slot_of, IsOnSide, IsRadixTree}
 use Rattle.rib_store.specs.Slots.{Slots, routed}
@@ -71,7 +71,7 @@ all-routed (Rooted prefix slot l r) =
     ∙ sym (routed-own prefix (slot_of slot) (slots_of l ++ slots_of r))
 
 -- as many as the node has, and as its children have
-pub count_rooted : {R : Type 0} (prefix : Network) (slot : Slot R) (l r : Shape R)
+pub count_rooted : {R : Type 0} (prefix : Network) (slot : KeySlot R) (l r : Shape R)
     → length (all_routes (Rooted prefix slot l r)) ≡ length (option_to_list (routed_at prefix (slot_of slot))) + (length (all_routes l) + length (all_routes r))
 count_rooted prefix slot l r =
     length-append (option_to_list (routed_at prefix (slot_of slot))) (all_routes l ++ all_routes r)
@@ -107,7 +107,7 @@ unmarked-all network t marked e =
     none-above (all_routes (shape_of network t)) (sym (first-all (shape_of network t)) ∙ unmarked_first network t marked e)
 
 -- those behind a prefix, by where it lies
-pub first_after-turn : {R : Type 0} (prefix : Network) (slot : Slot R) (l r : Shape R) (low : Network) (t : Turn) → turn_of (way prefix) (way low) ≡ t
+pub first_after-turn : {R : Type 0} (prefix : Network) (slot : KeySlot R) (l r : Shape R) (low : Network) (t : Turn) → turn_of (way prefix) (way low) ≡ t
     → all_after (Rooted prefix slot l r) low ≡ select_by_turn t (cond (is_lt (network_cmp low prefix)) (all_routes (Rooted prefix slot l r)) []) (all_routes l ++ all_routes r) (all_after l low ++ all_routes r) (all_after r low)
 first_after-turn prefix slot l r low t e =
     ap (λ k. select_by_turn k (cond (is_lt (network_cmp low prefix)) (all_routes (Rooted prefix slot l r)) []) (all_routes l ++ all_routes r) (all_after l low ++ all_routes r) (all_after r low)) e

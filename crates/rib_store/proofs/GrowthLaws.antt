@@ -7,7 +7,7 @@ use Rattle.ip_prefix.specs.Turns.{way, turn_of, shared, side}
 use Rattle.rib_store.specs.Tree.{Shape, Empty, Rooted, at, slot_of, select_by_turn, root, root_with_key, IsOnSide, IsRooted, IsRadixTree, IsUpdatedAt, IsInserted, IsKeyOrFork}
 use Rattle.rib_store.proofs.WayLaws.{turn_shared, shared_inside, parts}
 use Rattle.std.specs.Prelude.{IsSome}
-use Rattle.rib_store.specs.declared.tree.Slot.TheVariants.{NoKey}
+use Rattle.rib_store.specs.declared.tree.KeySlot.TheVariants.{NoKey}
 use Rattle.rib_store.proofs.TreeLaws.{ShapedParts, at_left, at_right, at_rooted, rooted_shaped, shaped_rooted, root_rooted, some_is, on_side}
 use Rattle.rib_store.proofs.ChangeLaws.{fork_left, fork_right, fork_here, put_from}
 

@@ -2,14 +2,14 @@
 use Rattle.std.proofs.Common.{◌≡◌, Bool, true, false, ◌||◌, Option, None, refl, sym, ◌∙◌, arith}
 use Rattle.ip_prefix.specs.declared.turn.Turn.{Turn}
 use Rattle.ip_prefix.specs.Network.{Network}
-use Rattle.rib_store.specs.declared.tree.Slot.{Slot}
-use Rattle.rib_store.specs.declared.tree.Slot.TheVariants.{NoKey}
+use Rattle.rib_store.specs.declared.tree.KeySlot.{KeySlot}
+use Rattle.rib_store.specs.declared.tree.KeySlot.TheVariants.{NoKey}
 use Rattle.rib_store.specs.declared.tree.Tree.{Tree}
 use Rattle.rib_store.specs.declared.tree.Tree.TheVariants as tree
 use Rattle.rib_store.specs.Tree.{shape_of, is_filled, has_routes, any_has_routes, any_routes_elsewhere, HasCorrectMarks, slot_of}
 use Rattle.rib_store.specs.Walks.{routed_at, first_some, first}
 
-none_of : {R : Type 0} (prefix : Network) (slot : Slot R) (l r : Bool) (x y : Option (Network × R)) → (is_filled slot || (l || r)) ≡ false
+none_of : {R : Type 0} (prefix : Network) (slot : KeySlot R) (l r : Bool) (x y : Option (Network × R)) → (is_filled slot || (l || r)) ≡ false
     → (l ≡ false → x ≡ None) → (r ≡ false → y ≡ None) → first_some (routed_at prefix (slot_of slot)) (first_some x y) ≡ None
 none_of prefix slot l r x y e left right = grind arith
 
@@ -26,7 +26,7 @@ unmarked_first network (tree.Rooted' routed key p slot left right) marked e =
     (unmarked_first network left marked.1) (unmarked_first network right marked.2)
 
 -- what has no routes has none elsewhere than where a turn leads
-pub none_beside : {K R : Type 0} (t : Turn) (slot : Slot R) (left right : Tree K R) → any_has_routes slot left right ≡ false → any_routes_elsewhere t slot left right ≡ false
+pub none_beside : {K R : Type 0} (t : Turn) (slot : KeySlot R) (left right : Tree K R) → any_has_routes slot left right ≡ false → any_routes_elsewhere t slot left right ≡ false
 none_beside t slot left right e = grind arith
 
 -- a node is routed where what lies on its right is, or something elsewhere

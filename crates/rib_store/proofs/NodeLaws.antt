@@ -6,8 +6,8 @@ use Rattle.ip_prefix.specs.declared.turn.Turn.TheVariants.{Outside, Here, Left, 
 use Rattle.ip_prefix.specs.Network.{Network}
 use Rattle.ip_prefix.specs.Turns.{way, turn_of, side}
 use Rattle.ip_prefix.proofs.Turns.{here_only, here_from}
-use Rattle.rib_store.specs.declared.tree.Slot.{Slot}
-use Rattle.rib_store.specs.declared.tree.Slot.TheVariants.{NoKey, Vacant, Filled}
+use Rattle.rib_store.specs.declared.tree.KeySlot.{KeySlot}
+use Rattle.rib_store.specs.declared.tree.KeySlot.TheVariants.{NoKey, Vacant, Filled}
 use Rattle.rib_store.specs.Tree.{Shape, Empty, Rooted, slot_of, select_by_turn, root, IsOnSide, IsRadixTree, IsKeyOrFork}
 use Rattle.rib_store.proofs.WayLaws.{turn_through, outside_across, outside_above, outside_below}
 use Rattle.rib_store.proofs.TreeLaws.{on_below}
@@ -73,7 +73,7 @@ told_right b slot l r q w none on shaped there =
     grind arith
 
 -- where all keys lie on one turn from q, no test passes that doesn't pass there
-none_of : {R : Type 0} (prefix : Network) (l r : Shape R) (slot : Slot R) (q : List Bool) (w : Turn → Bool) (t : Turn) → w t ≡ false
+none_of : {R : Type 0} (prefix : Network) (l r : Shape R) (slot : KeySlot R) (q : List Bool) (w : Turn → Bool) (t : Turn) → w t ≡ false
     → IsRadixTree (Rooted prefix slot l r) → turn_of q (way prefix) ≡ t → ((k : List Bool) (s : Bool) → turn_of (way prefix) k ≡ side s → turn_of q k ≡ t)
     → any_key (by_turn w q) (Rooted prefix slot l r) ≡ false
 none_of prefix l r slot q w t fails shaped here below =
@@ -86,7 +86,7 @@ nothing : (a b c : Bool) → a ≡ false → (b ≡ false) ⊎ (c ≡ false) →
 nothing a b c e (inl f) = grind arith
 nothing a b c e (inr g) = grind arith
 
-told_outside : {R : Type 0} (prefix : Network) (l r : Shape R) (slot : Slot R) (q : List Bool) (t : Turn) → turn_of q (way prefix) ≡ t
+told_outside : {R : Type 0} (prefix : Network) (l r : Shape R) (slot : KeySlot R) (q : List Bool) (t : Turn) → turn_of q (way prefix) ≡ t
     → IsRadixTree (Rooted prefix slot l r) → turn_of (way prefix) q ≡ Outside
     → false ≡ (any_key (by_turn at_here q) (Rooted prefix slot l r) || (any_key (by_turn (at_side false) q) (Rooted prefix slot l r) && any_key (by_turn (at_side true) q) (Rooted prefix slot l r)))
 told_outside prefix l r slot q Outside e shaped out =

@@ -19,7 +19,7 @@ use Rattle.ip_prefix.specs.OrderLaws.{network_cmp_total}
 use Rattle.octet_forms.proofs.Booleans.{same_tests}
 use Rattle.octet_forms.proofs.Lists.{AllByRecursion-append}
 use Rattle.ip_prefix.proofs.Turns.{covers-way}
-use Rattle.rib_store.specs.declared.tree.Slot.TheVariants.{NoKey, Vacant, Filled}
+use Rattle.rib_store.specs.declared.tree.KeySlot.TheVariants.{NoKey, Vacant, Filled}
 use Rattle.rib_store.specs.Tree.{Shape, Empty, Rooted, own, slots_of, slot_of, select_by_turn, same_way, root, AreSides, IsOnSide, IsRadixTree}
 use Rattle.prefix_store.specs.Stored.{Keys}
 use Rattle.rib_store.specs.Slots.{Slots, keys_in}

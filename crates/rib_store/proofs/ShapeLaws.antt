@@ -2,12 +2,12 @@
 use Rattle.std.proofs.Common.{◌≡◌, ◌⊎◌, ◌||◌, is_some, inl, inr, Bool, false, Option, Some, None, List, refl, ap, subst, ◌∙◌, arith}
 use Rattle.std.specs.Prelude.{IsSome}
 use Rattle.ip_prefix.specs.declared.turn.Turn.{Turn}
-use Rattle.ip_prefix.specs.declared.turn.Turn.TheVariants.{Outside, Here, Left, Right}
+use Rattle.ip_prefix.specs.declared.turn.Turn.TheVariants.{Here, Left, Right}
 use Rattle.ip_prefix.specs.Network.{Network}
 use Rattle.ip_prefix.specs.Turns.{way, turn_of}
 use Rattle.rib_store.specs.declared.tree.Tree.{Tree}
 use Rattle.rib_store.specs.declared.tree.Tree.TheVariants as tree
-use Rattle.rib_store.specs.Tree.{Shape, Empty, shape_of, leaf_route, IsLeaf, IsNotBelow, HasCorrectMarks, has_routes, at, root, select_by_turn, IsUpdatedAt, IsRooted, IsRadixTree, IsInserted}
+use Rattle.rib_store.specs.Tree.{Shape, Empty, shape_of, leaf_route, IsLeaf, HasCorrectMarks, has_routes, at, root, select_by_turn, IsUpdatedAt, IsRooted, IsRadixTree, IsInserted}
 use Rattle.rib_store.proofs.TreeLaws.{at_rooted, shaped_rooted, root_rooted}
 use Rattle.rib_store.proofs.GrowthLaws.{placed_left, placed_right, leaf_shaped, leaf_slots}
 use Rattle.rib_store.proofs.ChangeLaws.{put_here, put_none, put_from}
@@ -79,20 +79,6 @@ hung {K} {R} network old new prefix key route slot below side was (inl left) tur
 hung {K} {R} network old new prefix key route slot below side was (inr right) turn slot_is leaf is =
     let is' : IsRooted (network prefix) (Some (leaf_route old)) Empty below new = subst (λ (x : Turn × Option (Option R)). IsRooted (network prefix) x.1 (select_by_turn x.0 Empty Empty below Empty) (select_by_turn x.0 below below Empty below) new) (λ i. (right i, slot_is i)) is in
     placed_right (way key) (network prefix) (Some (leaf_route old)) (Some route) Empty Empty below (rooted_leaf network old prefix was) is' (turn ∙ right) (shaped_leaf network old prefix was) (lone_placed key route below leaf)
-
--- no key is below
-pub none_below : {K R : Type 0} (network : K → Network) (t : Tree K R) (prefix : K) (key : List Bool) (side : Turn) → IsLeaf prefix t → (side ≡ Left) ⊎ (side ≡ Right)
-    → turn_of (way (network prefix)) key ≡ side → at (shape_of network t) key ≡ None
-none_below network t prefix key side is (inl left) turn = at_leaf network t prefix is key ∙ ap (λ w. select_by_turn w None (Some (leaf_route t)) None None) (turn ∙ left)
-none_below network t prefix key side is (inr right) turn = at_leaf network t prefix is key ∙ ap (λ w. select_by_turn w None (Some (leaf_route t)) None None) (turn ∙ right)
-
--- ---- keys at the root
-
-pub not_below : (t : Turn) → (t ≡ Left → ⊥) → (t ≡ Right → ⊥) → IsNotBelow t
-not_below Outside left right = tt
-not_below Here left right = tt
-not_below Left left right = left refl
-not_below Right left right = right refl
 
 -- ---- keys that go
 

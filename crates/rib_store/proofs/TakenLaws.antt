@@ -7,8 +7,8 @@ use Rattle.std.specs.FinMap as finite
 use Rattle.std.specs.FinMap.{get-empty, len-entries}
 use Rattle.ip_prefix.specs.Network.{Network, network_cmp}
 use Rattle.ip_prefix.specs.Turns.{way}
-use Rattle.rib_store.specs.declared.tree.Slot.{Slot}
-use Rattle.rib_store.specs.declared.tree.Slot.TheVariants.{NoKey, Vacant, Filled}
+use Rattle.rib_store.specs.declared.tree.KeySlot.{KeySlot}
+use Rattle.rib_store.specs.declared.tree.KeySlot.TheVariants.{NoKey, Vacant, Filled}
 use Rattle.rib_store.specs.declared.tree.Tree.{Tree}
 use Rattle.rib_store.specs.declared.tree.Tree.TheVariants as tree
 use Rattle.rib_store.specs.Tree.{Shape, shape_of, is_filled, has_routes, HasCorrectMarks, Empty, Rooted, own, root, slot_of, slots_of, vacated, without_routes, IsOnSide, IsRadixTree, IsKeyOrFork}
@@ -23,7 +23,7 @@ use Rattle.prefix_store.proofs.StoredLaws.{same_routes}
 
 -- ---- a tree whose root isn't marked has none
 
-vacant : {R : Type 0} (slot : Slot R) → is_filled slot ≡ false → slot ≡ vacated slot
+vacant : {R : Type 0} (slot : KeySlot R) → is_filled slot ≡ false → slot ≡ vacated slot
 vacant slot e = grind arith
 
 pub unmarked-without_routes : {K R : Type 0} (network : K → Network) (t : Tree K R) → HasCorrectMarks t → has_routes t ≡ false → shape_of network t ≡ without_routes (shape_of network t)
@@ -47,7 +47,7 @@ on-without_routes : {R : Type 0} (from : List Bool) (bit : Bool) (t : Shape R) �
 on-without_routes from bit Empty on = on
 on-without_routes from bit (Rooted prefix slot l r) on = on
 
-stands-without_routes : {R : Type 0} (slot : Slot R) (l r : Shape R) → IsKeyOrFork (slot_of slot) l r → IsKeyOrFork (slot_of (vacated slot)) (without_routes l) (without_routes r)
+stands-without_routes : {R : Type 0} (slot : KeySlot R) (l r : Shape R) → IsKeyOrFork (slot_of slot) l r → IsKeyOrFork (slot_of (vacated slot)) (without_routes l) (without_routes r)
 stands-without_routes NoKey l r stands = (subst IsSome (sym (root-without_routes l)) stands.0, subst IsSome (sym (root-without_routes r)) stands.1)
 stands-without_routes Vacant l r stands = tt
 stands-without_routes (Filled route) l r stands = tt
@@ -70,7 +70,7 @@ vacant_slot slot = (slot.0, None)
 abbrev unrouted : {R : Type 0} → Slots R → Slots R
 unrouted slots = map vacant_slot slots
 
-own-without_routes : {R : Type 0} (prefix : Network) (slot : Slot R) (below : Slots R) → own prefix (slot_of (vacated slot)) (unrouted below) ≡ unrouted (own prefix (slot_of slot) below)
+own-without_routes : {R : Type 0} (prefix : Network) (slot : KeySlot R) (below : Slots R) → own prefix (slot_of (vacated slot)) (unrouted below) ≡ unrouted (own prefix (slot_of slot) below)
 own-without_routes prefix slot below = grind arith
 
 slots-without_routes : {R : Type 0} (t : Shape R) → slots_of (without_routes t) ≡ unrouted (slots_of t)

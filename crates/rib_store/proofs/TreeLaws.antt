@@ -6,7 +6,7 @@ use Rattle.ip_prefix.specs.declared.turn.Turn.TheVariants.{Outside, Left, Right}
 use Rattle.ip_prefix.specs.declared.addr.Family.{Family}
 use Rattle.ip_prefix.specs.Network.{Network}
 use Rattle.ip_prefix.specs.Turns.{way, turn_of, family_bit, side}
-use Rattle.rib_store.specs.declared.tree.Slot.{Slot}
+use Rattle.rib_store.specs.declared.tree.KeySlot.{KeySlot}
 use Rattle.rib_store.specs.Tree.{Shape, Empty, Rooted, at, slot_of, select_by_turn, root, AreSides, IsOfFamily, IsOnFamilySide, IsOnSide, IsRooted, IsRadixTree, IsKeyOrFork}
 use Rattle.rib_store.proofs.WayLaws.{beyond, turn_through, family_of}
 
@@ -33,12 +33,12 @@ at_right b Empty on q = chosen_same (turn_of b q) None
 at_right b (Rooted prefix slot l r) on q = there_alone None b (way prefix) q true _ on (λ out. ap (λ t. select_by_turn t None (slot_of slot) (at l q) (at r q)) out)
 
 -- what a tree has at a key is what it has on the side where the key lies, if it lies below the root
-pub at_left_under : {R : Type 0} (prefix : Network) (slot : Slot R) (l r : Shape R) (q : List Bool) → IsRadixTree (Rooted prefix slot l r)
+pub at_left_under : {R : Type 0} (prefix : Network) (slot : KeySlot R) (l r : Shape R) (q : List Bool) → IsRadixTree (Rooted prefix slot l r)
     → (turn_of (way prefix) q ≢ Outside → Left ≡ turn_of (way prefix) q) → at (Rooted prefix slot l r) q ≡ at l q
 at_left_under prefix slot l r q shaped under =
     let there = at_left (way prefix) l shaped.0.left q in grind arith
 
-pub at_right_under : {R : Type 0} (prefix : Network) (slot : Slot R) (l r : Shape R) (q : List Bool) → IsRadixTree (Rooted prefix slot l r)
+pub at_right_under : {R : Type 0} (prefix : Network) (slot : KeySlot R) (l r : Shape R) (q : List Bool) → IsRadixTree (Rooted prefix slot l r)
     → (turn_of (way prefix) q ≢ Outside → Right ≡ turn_of (way prefix) q) → at (Rooted prefix slot l r) q ≡ at r q
 at_right_under prefix slot l r q shaped under =
     let there = at_right (way prefix) r shaped.0.right q in grind arith

@@ -7,8 +7,8 @@ use Rattle.ip_prefix.specs.Network.{Network}
 use Rattle.ip_prefix.specs.declared.turn.Turn.{Turn}
 use Rattle.ip_prefix.specs.declared.turn.Turn.TheVariants.{Outside, Here, Left, Right}
 use Rattle.ip_prefix.specs.Turns.{way, turn_of, side, shared, family_bit}
-use Rattle.rib_store.specs.declared.tree.Slot.{Slot}
-use Rattle.rib_store.specs.declared.tree.Slot.TheVariants.{NoKey, Vacant, Filled}
+use Rattle.rib_store.specs.declared.tree.KeySlot.{KeySlot}
+use Rattle.rib_store.specs.declared.tree.KeySlot.TheVariants.{NoKey, Vacant, Filled}
 use Rattle.rib_store.specs.declared.tree.Tree.{Tree}
 use Rattle.ip_prefix.specs.declared.addr.Family.{Family}
 use Rattle.rib_store.specs.Slots.{Slots}
@@ -20,7 +20,7 @@ use Rattle.rib_store.specs.declared.tree.Tree.TheVariants as tree
 pub data Shape (R : Type 0) : Type 0 where
   Empty : Shape R
   -- a node: its prefix, its slot, its left child and its right child
-  Rooted : Network → Slot R → Shape R → Shape R → Shape R
+  Rooted : Network → KeySlot R → Shape R → Shape R → Shape R
 
 -- the nodes of a tree, whose prefixes are represented by values of K; `network` gives the prefix
 -- that such a value represents
@@ -74,7 +74,7 @@ IsAtRoot network key (tree.Rooted' routed other p slot left right) = IsNotBelow 
 -- ---- the marks
 
 -- whether the slot has a route
-abbrev pub is_filled : {R : Type 0} → Slot R → Bool
+abbrev pub is_filled : {R : Type 0} → KeySlot R → Bool
 is_filled NoKey = false
 is_filled Vacant = false
 is_filled (Filled route) = true
@@ -88,7 +88,7 @@ has_routes (tree.Forked' routed key p left right) = routed
 has_routes (tree.Rooted' routed key p slot left right) = routed
 
 -- whether the slot, or some key of one of the two trees, has a route, by the marks of their roots
-abbrev pub any_has_routes : {K R : Type 0} → Slot R → Tree K R → Tree K R → Bool
+abbrev pub any_has_routes : {K R : Type 0} → KeySlot R → Tree K R → Tree K R → Bool
 any_has_routes slot left right = is_filled slot || (has_routes left || has_routes right)
 
 -- whether one of the three holds, without that which `turn` leads to: left, right, or otherwise the
@@ -101,7 +101,7 @@ any_elsewhere Right slot left right = slot || left
 
 -- whether the slot or one of the two trees has a route, without what `turn` leads to: the left
 -- tree, the right tree, or otherwise the slot
-abbrev pub any_routes_elsewhere : {K R : Type 0} → Turn → Slot R → Tree K R → Tree K R → Bool
+abbrev pub any_routes_elsewhere : {K R : Type 0} → Turn → KeySlot R → Tree K R → Tree K R → Bool
 any_routes_elsewhere turn slot left right = any_elsewhere turn (is_filled slot) (has_routes left) (has_routes right)
 
 -- each mark in the tree is correct: it is true exactly if the node's slot or a key below it has a
@@ -128,7 +128,7 @@ same_way one other = select_by_turn (turn_of one other) false true false false
 
 -- the slot as an option: `None` if the node isn't a key, `Some None` if it is a key without a
 -- route, or else the route
-abbrev pub slot_of : {R : Type 0} → Slot R → Option (Option R)
+abbrev pub slot_of : {R : Type 0} → KeySlot R → Option (Option R)
 slot_of NoKey = None
 slot_of Vacant = Some None
 slot_of (Filled route) = Some (Some route)
@@ -203,7 +203,7 @@ abbrev pub IsUpdatedAt : {A : Type 0} → (List Bool → A) → List Bool → A 
 IsUpdatedAt before key slot after = (q : List Bool) → after q ≡ cond (same_way key q) slot (before q)
 
 -- the slot without its route: a key stays a key
-abbrev pub vacated : {R : Type 0} → Slot R → Slot R
+abbrev pub vacated : {R : Type 0} → KeySlot R → KeySlot R
 vacated NoKey = NoKey
 vacated Vacant = Vacant
 vacated (Filled route) = Vacant

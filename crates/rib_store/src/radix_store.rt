@@ -12,7 +12,7 @@ ghost use Rattle.rib_store.specs.Slots.{route_of_slot};
 ghost use Rattle.rib_store.specs.Store.{trees_of, contents_of, AreRadixTrees};
 ghost use Rattle.rib_store.specs.Nodes.{AreNodes, AreNodesContaining, IsOrOneMore};
 
-use crate::tree::{Descent, DescentNode, Descents, Tree};
+use crate::tree::{DescentNode, PrefetchDescent, PrefetchDescents, Tree};
 use ip_prefix::{Addr, Family, Prefix};
 use prefix_store::{GREATEST_COUNT, PrefetchBatch, PrefetchTarget, PrefixStore, V4Prefix};
 use std::alloc::{AllocError, Global};
@@ -22,9 +22,9 @@ use std::marker::Model;
 /// the keys (prefixes that the store keeps, with or without a route) and of the routes.
 ///
 /// A look-up of a prefix or an address visits at most 33 nodes for IPv4 and 129 for IPv6. `after`
-/// visits such a path and then the path to the next route, and `next_routes` continues to as many
-/// routes as its vector has capacity for; both skip subtrees without a route. `key_count` and
-/// `route_count` visit no nodes.
+/// visits the path to its argument and then the path to the next route. `next_routes` begins like
+/// `after`, and goes on until the vector that it fills is at its capacity. Both skip subtrees
+/// without a route. `key_count` and `route_count` visit no nodes.
 #[derive(Drop)]
 pub struct RadixStore<R> {
     alloc: Global,
@@ -48,16 +48,16 @@ impl<R> Model for RadixStore<R> {
 }
 
 impl<R: Drop> RadixStore<R> {
-    /// Returns the number of nodes of both trees, or `u64::MAX` if there are more; for tests and
-    /// statistics. There is a node for each key (a prefix that the store keeps, with or without a
-    /// route) and for each branch where paths to keys part, so at most two for each key. Visits all
-    /// nodes.
+    /// Returns the number of nodes of the store's two trees, for IPv4 and IPv6, together, or
+    /// `u64::MAX` if there are more; for tests and statistics. There is a node for each key (a
+    /// prefix that the store keeps, with or without a route) and for each branch where paths to
+    /// keys part, so at most two for each key. Visits all nodes.
     pub fn nodes(&self) -> u64
         ensures nodes { (nodes : Keys) × AreNodes self.now.keys nodes ×
             (result ≡ saturated_count (set.len nodes)) }
         ensures twice { result ≤ 2 * set.len self.now.keys }
     {
-        self.v4.node_count().saturating_add(self.v6.node_count())
+        self.v4.count_nodes().saturating_add(self.v6.count_nodes())
     }
 
     /// Returns the route at the longest prefix that contains `addr`, with that prefix, or `None` if
@@ -80,8 +80,9 @@ impl<R: Drop> RadixStore<R> {
         }
     }
 
-    /// Looks up `prefix` itself. Returns `None` if the store doesn't keep `prefix`, `Some(None)` if
-    /// it keeps it without a route, or else `Some` of its route.
+    /// Looks up `prefix` itself. Returns `None` if it isn't a key (a prefix that the store keeps,
+    /// with or without a route), `Some(None)` if it is a key without a route, and
+    /// `Some(Some(route))` if it has one.
     #[inline]
     fn slot(&self, prefix: &Prefix) -> Option<Option<&R>>
         ensures key { is_some result ≡ set.contains self.now.keys prefix.now }
@@ -159,7 +160,7 @@ impl<R: Drop> PrefixStore<R> for RadixStore<R> {
         }
         // A count that was saturated is made anew.
         self.key_count = if self.key_count == GREATEST_COUNT {
-            self.v4.key_count().saturating_add(self.v6.key_count())
+            self.v4.count_keys().saturating_add(self.v6.count_keys())
         } else {
             self.key_count - 1
         };
@@ -195,16 +196,16 @@ impl<R: Drop> PrefixStore<R> for RadixStore<R> {
     fn next_routes<'a>(&'a self, prefix: Option<&Prefix>, found: &mut Vec<(Prefix, &'a R)>) {
         found.clear();
         match prefix {
-            None => self.v4.append_routes(found),
+            None => self.v4.fill_with_routes(found),
             Some(low) => match low.family() {
-                Family::V4 => self.v4.append_routes_after(low, found),
+                Family::V4 => self.v4.fill_with_routes_after(low, found),
                 Family::V6 => {
-                    self.v6.append_routes_after(low, found);
+                    self.v6.fill_with_routes_after(low, found);
                     return;
                 }
             },
         }
-        self.v6.append_routes(found);
+        self.v6.fill_with_routes(found);
     }
 
     fn drain_routes(&mut self, taken: &mut Vec<R>) {
@@ -215,7 +216,7 @@ impl<R: Drop> PrefixStore<R> for RadixStore<R> {
     }
 
     fn prefetch(batch: &PrefetchBatch<'_, Self>) -> u64 {
-        let mut descents = Descents {
+        let mut descents = PrefetchDescents {
             first: descent_to(&batch.first),
             second: descent_to(&batch.second),
             third: descent_to(&batch.third),
@@ -237,20 +238,20 @@ impl<R: Drop> PrefixStore<R> for RadixStore<R> {
     }
 }
 
-/// Returns a descent (a walk down a tree that only reads its nodes, so that they are in the
-/// processor's cache) that starts at the root of the tree of the family of the prefix of `place`,
-/// in its store. If `place` is `Unused`, a slot of a batch without a prefix, the descent has ended
-/// already and reads nothing.
-fn descent_to<'a, R: Drop>(place: &PrefetchTarget<'a, RadixStore<R>>) -> Descent<'a, R> {
+/// Returns a descent to the prefix of `place`: a walk down a tree that only reads its nodes, so
+/// that they are in the processor's cache. It starts at the root of a tree of the store of `place`,
+/// the tree of the prefix's family. If `place` is `Unused`, a slot of a batch without a prefix, the
+/// descent has ended already and reads nothing.
+fn descent_to<'a, R: Drop>(place: &PrefetchTarget<'a, RadixStore<R>>) -> PrefetchDescent<'a, R> {
     let PrefetchTarget::At(store, prefix) = place else {
-        return Descent::ended();
+        return PrefetchDescent::ended();
     };
     let store: &'a RadixStore<R> = *store;
     let root = match prefix.family() {
         Family::V4 => DescentNode::V4(&store.v4),
         Family::V6 => DescentNode::V6(&store.v6),
     };
-    Descent::new(root, prefix)
+    PrefetchDescent::new(root, prefix)
 }
 
 /// Returns the number of routes of a store after a route was swapped in or out, or `u64::MAX` if
@@ -277,7 +278,7 @@ fn route_count_after<R: Drop>(
         return count.saturating_add(1);
     }
     if count == GREATEST_COUNT {
-        return v4.route_count().saturating_add(v6.route_count());
+        return v4.count_routes().saturating_add(v6.count_routes());
     }
     count - 1
 }

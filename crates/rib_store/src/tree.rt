@@ -5,7 +5,7 @@
 
 ghost use Rattle.std.specs.Prelude.{◌≡◌, true, false, Some, None, is_some, MatchOption, [], ◌∷◌, vec_capacity, option_copied, option_map, option_to_list};
 ghost use Rattle.prefix_store.specs.Lookups.{dereferenced};
-ghost use Rattle.rib_store.specs.declared.tree.Slot.TheVariants.{NoKey};
+ghost use Rattle.rib_store.specs.declared.tree.KeySlot.TheVariants.{NoKey};
 ghost use Rattle.rib_store.specs.Tree.{slot_of, has_routes, is_filled, any_has_routes, any_routes_elsewhere};
 ghost use Rattle.rib_store.specs.Walks.{routed_at, filled};
 
@@ -17,7 +17,7 @@ mod nodes;
 mod puts;
 mod routes;
 
-pub(crate) use descents::{Descent, DescentNode, Descents};
+pub(crate) use descents::{DescentNode, PrefetchDescent, PrefetchDescents};
 use ip_prefix::{Prefix, Turn};
 use prefix_store::V4Prefix;
 use std::mem::size_of;
@@ -36,9 +36,9 @@ pub(crate) enum Tree<K, R> {
     Bare(K),
     /// A key (a prefix that the tree keeps) with this route and without keys below it.
     Leaf(K, R),
-    /// A branch, whose prefix isn't a key but covers keys on both sides: its mark, which is whether
-    /// some key below it has a route, its prefix, and its children. Walks over the routes skip a
-    /// node whose mark is `false` without visiting its children.
+    /// A fork: a branch, whose prefix isn't a key but covers keys on both sides. It has its mark,
+    /// which is whether some key below it has a route, its prefix, and its children. Walks over the
+    /// routes skip a node whose mark is `false` without visiting its children.
     Forked(bool, K, Box<Fork<K, R>>),
     /// A key with keys below it, or a branch that was such a key before: its mark, which is whether
     /// it or some key below it has a route; its prefix; and its slot and its children. Removing a
@@ -46,7 +46,7 @@ pub(crate) enum Tree<K, R> {
     Rooted(bool, K, Box<Node<K, R>>),
 }
 
-/// The children of a branch: of a node whose prefix isn't a key (a prefix that the tree keeps), but
+/// The children of a fork: a node whose prefix isn't a key (a prefix that the tree keeps), but
 /// covers keys on both sides.
 #[cycle(tree)]
 #[derive(Drop)]
@@ -55,12 +55,14 @@ pub(crate) struct Fork<K, R> {
     right: Tree<K, R>,
 }
 
-/// The slot (whether the node's prefix is a key, and its route) and the children of a node that may
-/// be a key: a prefix that the tree keeps, with or without a route.
+/// The slot and the children of a node that may be a key: a prefix that the tree keeps, with or
+/// without a route. The slot tells whether the node's prefix is a key, and holds its route. The
+/// prefix itself is beside this in [`Tree::Rooted`]. A node that has never been a key has a
+/// [`Fork`] instead.
 #[cycle(tree)]
 #[derive(Drop)]
 pub(crate) struct Node<K, R> {
-    slot: Slot<R>,
+    slot: KeySlot<R>,
     left: Tree<K, R>,
     right: Tree<K, R>,
 }
@@ -92,7 +94,7 @@ const _: () = prove!(size_of::<Node<Prefix, Rc<u32>>>() <= V6_NODE_OCTETS);
 /// What a node of a tree holds of its prefix: whether it is a key (a prefix that the tree keeps,
 /// with or without a route), and its route.
 #[derive(Drop)]
-pub(crate) enum Slot<R> {
+pub(crate) enum KeySlot<R> {
     /// The prefix of the node isn't a key. The node is there for its two children.
     NoKey,
     /// The prefix is a key without a route.
@@ -118,7 +120,7 @@ impl<K, R> Tree<K, R> {
 }
 
 impl<K, R> Fork<K, R> {
-    /// Returns `true` if some key below the branch has a route. Reads it from the marks of the two
+    /// Returns `true` if some key below the fork has a route. Reads it from the marks of the two
     /// children (each tells whether a key in that subtree has a route), and visits nothing below
     /// them.
     fn has_routes(&self) -> bool
@@ -127,9 +129,10 @@ impl<K, R> Fork<K, R> {
         self.left.has_routes() || self.right.has_routes()
     }
 
-    /// Returns `true` if some key below the branch, other than in the child on the side `turn`, has
-    /// a route: on the right if `turn` is `Left`, on the left if it is `Right`, or on either side
-    /// otherwise. Reads it from the marks of the children, and visits nothing below them.
+    /// Returns `true` if some key below the fork, but not in the child on the side `turn`, has a
+    /// route: in the right child if `turn` is `Left`, in the left one if it is `Right`, or in
+    /// either if it is `Here` or `Outside`. Reads it from the marks of the two children (each tells
+    /// whether a key in that subtree has a route), and visits nothing below them.
     fn has_routes_elsewhere(&self, turn: Turn) -> bool
         ensures { result ≡ any_routes_elsewhere turn NoKey self.now.left self.now.right }
     {
@@ -140,22 +143,22 @@ impl<K, R> Fork<K, R> {
         }
     }
 
-    /// Returns `true` if the mark of the branch (whether some key below it has a route) needn't be
-    /// updated after a change in its child on the side `turn`. `routed` is the mark now; `brought`
-    /// is `true` if the change puts a route, and `false` if it may take one away. Returns `false`
-    /// if the mark may change; then no other child has a route, and the mark becomes that of the
-    /// changed child.
+    /// Returns `true` if the mark of the fork, which tells whether some key below it has a route,
+    /// is `true` and stays so after a change in the child on the side `turn`. `routed` is the mark
+    /// before the change. `adds_route` is `true` if the change puts a route, and `false` if it may
+    /// take one away. Returns `false` if the mark may change; then the other child has no route,
+    /// and the mark is to become that of the changed child.
     #[inline]
     #[tactic(auto, using(crate::proofs::MarkLaws::none_beside))]
-    fn stays_marked(&self, routed: bool, brought: bool, turn: Turn) -> bool
+    fn keeps_mark(&self, routed: bool, adds_route: bool, turn: Turn) -> bool
         requires { routed ≡ any_has_routes NoKey self.now.left self.now.right }
         ensures routed { result ≡ true → routed ≡ true }
-        ensures beside { result ≡ true → brought ≡ false →
+        ensures beside { result ≡ true → adds_route ≡ false →
             any_routes_elsewhere turn NoKey self.now.left self.now.right ≡ true }
         ensures alone { result ≡ false →
             any_routes_elsewhere turn NoKey self.now.left self.now.right ≡ false }
     {
-        if brought {
+        if adds_route {
             return routed;
         }
         self.has_routes_elsewhere(turn)
@@ -173,8 +176,10 @@ impl<K, R> Node<K, R> {
     }
 
     /// Returns `true` if the node's prefix or some key below it has a route, leaving out one part:
-    /// the child on the side `turn` if that is `Left` or `Right`, or otherwise the node's own slot.
-    /// Reads it from the slot and the marks of the children, and visits nothing below them.
+    /// the child on the side `turn` if that is `Left` or `Right`, or the node's own slot if it is
+    /// `Here` or `Outside`. Reads it from the slot and the marks of the children, and visits
+    /// nothing below them. The mark of a child, whether a key in that subtree has a route, lies
+    /// here beside the pointer to the child.
     fn has_routes_elsewhere(&self, turn: Turn) -> bool
         ensures { result ≡
             any_routes_elsewhere turn self.now.slot self.now.left self.now.right }
@@ -186,35 +191,35 @@ impl<K, R> Node<K, R> {
         }
     }
 
-    /// Returns `true` if the mark of the node (whether it or some key below it has a route) needn't
-    /// be updated after a change in one part: its child on the side `turn`, or its own slot if
-    /// `turn` is neither side. `routed` is the mark now; `brought` is `true` if the change puts a
-    /// route, and `false` if it may take one away. Returns `false` if the mark may change; then
-    /// there is no route in the other parts.
+    /// Returns `true` if the mark of the node, which tells whether it or some key below it has a
+    /// route, is `true` and stays so after a change in one part: the child on the side `turn`, or
+    /// the node's own slot if `turn` is neither side. `routed` is the mark before the change.
+    /// `adds_route` is `true` if the change puts a route, and `false` if it may take one away.
+    /// Returns `false` if the mark may change; then the other parts have no route.
     #[inline]
     #[tactic(auto, using(crate::proofs::MarkLaws::none_beside))]
-    fn stays_marked(&self, routed: bool, brought: bool, turn: Turn) -> bool
+    fn keeps_mark(&self, routed: bool, adds_route: bool, turn: Turn) -> bool
         requires { routed ≡ any_has_routes self.now.slot self.now.left self.now.right }
         ensures routed { result ≡ true → routed ≡ true }
-        ensures beside { result ≡ true → brought ≡ false →
+        ensures beside { result ≡ true → adds_route ≡ false →
             any_routes_elsewhere turn self.now.slot self.now.left self.now.right ≡ true }
         ensures alone { result ≡ false →
             any_routes_elsewhere turn self.now.slot self.now.left self.now.right ≡ false }
     {
-        if brought {
+        if adds_route {
             return routed;
         }
         self.has_routes_elsewhere(turn)
     }
 }
 
-impl<R> Slot<R> {
+impl<R> KeySlot<R> {
     /// Returns `true` if the slot has a route: if the node's prefix is a key (a prefix that the
     /// tree keeps) with a route.
     fn is_filled(&self) -> bool
         ensures { result ≡ is_filled self.now }
     {
-        matches!(self, Slot::Filled(_))
+        matches!(self, KeySlot::Filled(_))
     }
 
     /// Returns `None` if the node's prefix isn't a key (a prefix that the tree keeps), `Some(None)`
@@ -223,9 +228,9 @@ impl<R> Slot<R> {
         ensures { option_map (λ slot. option_copied slot) result ≡ slot_of self.now }
     {
         match self {
-            Slot::NoKey => None,
-            Slot::Vacant => Some(None),
-            Slot::Filled(route) => Some(Some(route)),
+            KeySlot::NoKey => None,
+            KeySlot::Vacant => Some(None),
+            KeySlot::Filled(route) => Some(Some(route)),
         }
     }
 
@@ -236,7 +241,7 @@ impl<R> Slot<R> {
             (λ found. routed_at prefix (slot_of self.now) ≡ Some (found.0, found.1.now)) }
     {
         match self {
-            Slot::Filled(route) => Some((prefix, route)),
+            KeySlot::Filled(route) => Some((prefix, route)),
             _ => None,
         }
     }
@@ -250,7 +255,7 @@ impl<R> Slot<R> {
         ensures room { vec_capacity found.new ≡ vec_capacity found.old }
     {
         match self {
-            Slot::Filled(route) => add_route(prefix, route, found),
+            KeySlot::Filled(route) => add_route(prefix, route, found),
             _ => {}
         }
     }

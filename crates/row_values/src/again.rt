@@ -3,7 +3,7 @@
 use crate::shown::Shown;
 use crate::wire::{put_attrs, put_prefixes, put_unread};
 use bgp_wire::{
-    AsWidth, Attrs, MessageKind, UpdateParts, WireFault, clone_attrs_from, read_message_into,
+    AsWidth, Attrs, MessageKind, UpdateBuffer, WireFault, clone_attrs_from, read_message_into,
     read_rib_attrs, read_rib_attrs_into,
 };
 use ip_prefix::Family;
@@ -87,7 +87,7 @@ fn has_lists(attrs: &Attrs) -> bool {
 
 /// Appends what messages with AS numbers of two octets say, each read in place of the one before.
 pub fn put_parts(alloc: Global, octets: &[u8], text: &mut Shown) {
-    let mut parts = UpdateParts::empty(alloc);
+    let mut parts = UpdateBuffer::empty(alloc);
     let mut left = octets;
     for _ in 0..octets.len() {
         let Some((message, rest)) = split_sized(left, LENGTH_PLACE, 0) else {
@@ -116,7 +116,7 @@ fn put_word(read: Result<MessageKind, WireFault>, text: &mut Shown) {
 }
 
 /// Appends the prefixes and next hops of parts, as those of a message, and their attributes.
-fn put_said(parts: &UpdateParts, text: &mut Shown) {
+fn put_said(parts: &UpdateBuffer, text: &mut Shown) {
     put_prefixes(b"-", &parts.withdrawn, text);
     put_prefixes(b"mp -", &parts.mp_withdrawn, text);
     put_prefixes(b"+", &parts.announced, text);

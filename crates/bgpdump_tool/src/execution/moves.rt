@@ -28,10 +28,11 @@ const IDLE: u16 = 1;
 /// Executes `next`: moves the player `count` steps forward, or as far as the input goes, and writes
 /// its position to `out`, such as `at 5`, or `at 5 end` if the input came to its end. A step redoes
 /// an undone event, or else plays the next one from `input`; each faulty record is reported to
-/// `err` and counts as one of the `count` steps. Requires that the player has played at most 2^20
-/// more events ([`LONGEST_SCRIPT`](crate::LONGEST_SCRIPT)) than the source has taken octets, and
-/// that these are at most 2^40, so that no count overflows. Fails with the [`Outcome`] that ends
-/// the program: a failed read or write, an input that is too long, or a lack of memory.
+/// `err` and counts as one of the `count` steps. Requires, so that no count overflows, that at most
+/// 2^40 octets were taken from `input`, and that the number of events played exceeds the number of
+/// these octets by at most 2^20 ([`LONGEST_SCRIPT`](crate::LONGEST_SCRIPT)). Fails with the
+/// [`Outcome`] that ends the program: a failed read or write, an input that is too long, or a lack
+/// of memory.
 pub(crate) fn next<S: PrefixStore<Rc<Route>>, I: Input, O: Output, E: Output>(
     session: &mut Session<S>,
     input: &mut I,
@@ -52,7 +53,7 @@ pub(crate) fn next<S: PrefixStore<Rc<Route>>, I: Input, O: Output, E: Output>(
         AreFlushed (O.pending out.new) (E.pending err.new) }
 {
     'steps: for _ in 0..count {
-        let ended = session.step(input, out, err)?;
+        let ended = session.step_forward(input, out, err)?;
         if ended {
             return replied(write_position(session.player.at(), ended, out, &mut session.text));
         }
@@ -60,13 +61,14 @@ pub(crate) fn next<S: PrefixStore<Rc<Route>>, I: Input, O: Output, E: Output>(
     replied(write_position(session.player.at(), false, out, &mut session.text))
 }
 
-/// Executes `goto`: moves the player back or forward to `position`, the number of played events
-/// before its cursor, and writes the position reached to `out`, such as `at 5`. It ends earlier at
-/// the oldest event that can be undone, or at the end of the input (`at 5 end`). Each faulty record
-/// is reported to `err` and counts as no event. Requires that the player has played at most 2^20
-/// more events ([`LONGEST_SCRIPT`](crate::LONGEST_SCRIPT)) than the source has taken octets, and
-/// that these are at most 2^40, so that no count overflows. Fails with the [`Outcome`] that ends
-/// the program: a failed read or write, an input that is too long, or a lack of memory.
+/// Executes `goto`: undoes, redoes or plays events until `position` events are before the player's
+/// cursor, and writes the position reached to `out`, such as `at 5`. A move back ends early at the
+/// oldest event that can be undone, and a move forward at the end of the input (`at 5 end`). Each
+/// faulty record is reported to `err` and counts as no event. So that no count overflows, requires
+/// that at most 2^40 octets were taken from `input`, and that the number of events played exceeds
+/// the number of these octets by at most 2^20 ([`LONGEST_SCRIPT`](crate::LONGEST_SCRIPT)). Fails
+/// with the [`Outcome`] that ends the program: a failed read or write, an input that is too long,
+/// or a lack of memory.
 pub(crate) fn goto<S: PrefixStore<Rc<Route>>, I: Input, O: Output, E: Output>(
     session: &mut Session<S>,
     input: &mut I,
@@ -92,7 +94,7 @@ pub(crate) fn goto<S: PrefixStore<Rc<Route>>, I: Input, O: Output, E: Output>(
         return replied(back(&mut session.player, count, out, &mut session.text));
     }
     'steps: while session.player.at() < u64::from(position) {
-        if session.step(input, out, err)? {
+        if session.step_forward(input, out, err)? {
             return replied(write_position(session.player.at(), true, out, &mut session.text));
         }
     }

@@ -36,28 +36,29 @@ pub(crate) fn peers<S: PrefixStore<Rc<Route>>, O: Output>(
         result }
     ensures failed { O.failed out.new ≡ (O.failed out.old || is_output_fault result) }
 {
-    match table.few_peers()? {
-        Some(few) => few_peers(&few, out, text),
+    match table.routed_peers_if_few()? {
+        Some(counts) => write_peer_counts(&counts, out, text),
         None => write_each_peer(table, out, text),
     }
 }
 
-/// Writes to `out` a line for each peer of `few`, which maps peers to their numbers of routes, such
-/// as `PEER|192.0.2.1|65000|12`, or `none` if `few` is empty. Overwrites `text`, a buffer. Fails if
-/// memory allocation or `out` fails; some of the reply's first octets may have been written then.
-fn few_peers<O: Output>(
-    few: &BTreeMap<Peer, u64>,
+/// Writes the reply to the command `peers` to `out`, where `counts` maps all peers that have a
+/// route to their numbers of routes: a line for each, such as `PEER|192.0.2.1|65000|12`, or `none`
+/// if there are none. Overwrites `text`, a buffer. Fails if memory allocation or `out` fails; some
+/// of the reply's first octets may have been written then.
+fn write_peer_counts<O: Output>(
+    counts: &BTreeMap<Peer, u64>,
     out: &mut O,
     text: &mut Text,
 ) -> Result<(), WriteFault>
-    ensures text { PutsAllOrFront (O.written out.old) (O.written out.new) (peer_counts_text few.now.entries)
+    ensures text { PutsAllOrFront (O.written out.old) (O.written out.new) (peer_counts_text counts.now.entries)
         result }
     ensures failed { O.failed out.new ≡ (O.failed out.old || is_output_fault result) }
 {
-    if few.is_empty() {
+    if counts.is_empty() {
         return write_none(out);
     }
-    'peers: for (peer, routes) in few.iter() {
+    'peers: for (peer, routes) in counts.iter() {
         write_peer_line(peer, *routes, out, text)?;
     }
     Ok(())

@@ -9,7 +9,7 @@ ghost use Rattle.rib_player.specs.Representation.{cleared_entry};
 ghost use Rattle.rib_player.specs.JournalState.{AreApplied};
 ghost use Rattle.rib_player.specs.Tables.{route_in};
 
-use crate::entry::{Entry, EntryRepr, RoutedSides};
+use crate::entry::{Entry, EntryRepr, RoutePresence};
 use crate::table::Table;
 use mrt_events::Route;
 use prefix_store::PrefixStore;
@@ -25,15 +25,15 @@ impl Entry {
     {
         let (peer, prefix) = self.peer_and_prefix();
         table
-            .find_route(peer.number(), peer.peer(), &prefix)
+            .find_route(peer.number_hint(), peer.peer(), &prefix)
             .is_some()
     }
 
     /// Swaps the route that the entry keeps with the table's route of the entry's peer and prefix;
     /// either may be absent, so that the other is moved. This undoes what the entry's step (a
     /// played event) did there if it is applied, and redoes it if it is undone; doing it twice
-    /// changes nothing. Peer and prefix are required to be a key of the table (to have memory for a
-    /// route), so that no memory is allocated.
+    /// changes nothing. Requires that peer and prefix are a key of the table (have memory for a
+    /// route). Allocates no memory.
     #[inline(always)]
     pub(crate) fn exchange<S: PrefixStore<Rc<Route>>>(&mut self, table: &mut Table<S>)
         requires { set.contains table.old.keys self.old.pair ≡ true }
@@ -46,7 +46,7 @@ impl Entry {
         ensures after { self.new.after ≡ self.old.after }
     {
         let pair = self.pair();
-        let number = self.shared_peer().number();
+        let number = self.shared_peer().number_hint();
         let (absent, mut other) = replace(&mut self.kept, EntryRepr::Taken).split_off_route();
         table.exchange(&pair, number, &mut other);
         self.kept = absent.with_route(other);
@@ -61,7 +61,7 @@ impl Entry {
     {
         let (absent, _) = replace(&mut self.kept, EntryRepr::Taken).split_off_route();
         self.kept = absent.with_route(Some(route));
-        self.set_routed_sides(RoutedSides {
+        self.set_route_presence(RoutePresence {
             before: true,
             after: false,
         });
@@ -70,8 +70,8 @@ impl Entry {
     /// Applies the entry, of a new step (played event): makes its peer and prefix a key of the
     /// table (which has memory for a route), swaps the entry's route with the table's, and sets
     /// whether there is a route before and after the step. Returns `true` if the pair of peer and
-    /// prefix wasn't a key before, `false` if it was. On an error, which means that memory
-    /// allocation failed, entry and table are unchanged.
+    /// prefix wasn't a key before, `false` if it was. Fails if memory allocation fails; entry and
+    /// table are unchanged then.
     #[inline]
     pub(crate) fn put<S: PrefixStore<Rc<Route>>>(
         &mut self,
@@ -87,14 +87,14 @@ impl Entry {
         ensures kept { OnErr result (self.new ≡ self.old) }
     {
         let pair = self.pair();
-        let number = self.shared_peer().number();
+        let number = self.shared_peer().number_hint();
         let (absent, mut other) = replace(&mut self.kept, EntryRepr::Taken).split_off_route();
         let after = other.is_some();
         let put = table.put(&pair, number, &mut other);
         let before = other.is_some();
         self.kept = absent.with_route(other);
         let made = put?;
-        self.set_routed_sides(RoutedSides { before, after });
+        self.set_route_presence(RoutePresence { before, after });
         Ok(made)
     }
 }

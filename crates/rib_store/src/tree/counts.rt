@@ -1,6 +1,6 @@
 //! Counts of the nodes, the keys (prefixes that the tree keeps, with or without a route) and the
 //! routes of a tree. Each visits all nodes. `radix_store.rt` keeps counts of keys and routes
-//! itself, and calls these only if its own count was above `u64::MAX`. Read [`Tree::node_count`]
+//! itself, and calls these only if its own count was above `u64::MAX`. Read [`Tree::count_nodes`]
 //! first.
 
 ghost use Rattle.std.specs.Prelude.{◌≡◌, length};
@@ -8,13 +8,13 @@ ghost use Rattle.rib_store.specs.Tree.{shape_of, slots_of};
 ghost use Rattle.prefix_store.specs.Stored.{saturated_count};
 ghost use Rattle.rib_store.specs.Walks.{all_routes, node_count};
 
-use crate::tree::{Slot, Tree};
+use crate::tree::{KeySlot, Tree};
 use prefix_store::PackedPrefix;
 
 impl<K: PackedPrefix, R> Tree<K, R> {
     /// Returns the number of nodes, or `u64::MAX` if there are more: one for each key (a prefix
     /// that the tree keeps), and one for each branch whose prefix isn't a key. Visits all nodes.
-    pub(crate) fn node_count(&self) -> u64
+    pub(crate) fn count_nodes(&self) -> u64
         ensures { result ≡ saturated_count (node_count (shape_of K.network self.now)) }
     {
         match self {
@@ -22,43 +22,46 @@ impl<K: PackedPrefix, R> Tree<K, R> {
             Tree::Bare(_) | Tree::Leaf(_, _) => 1,
             Tree::Rooted(_, _, node) => node
                 .left
-                .node_count()
-                .saturating_add(node.right.node_count())
+                .count_nodes()
+                .saturating_add(node.right.count_nodes())
                 .saturating_add(1),
             Tree::Forked(_, _, fork) => fork
                 .left
-                .node_count()
-                .saturating_add(fork.right.node_count())
+                .count_nodes()
+                .saturating_add(fork.right.count_nodes())
                 .saturating_add(1),
         }
     }
 
     /// Returns the number of keys (prefixes that the tree keeps, with or without a route), or
     /// `u64::MAX` if there are more. Visits all nodes.
-    pub(crate) fn key_count(&self) -> u64
+    pub(crate) fn count_keys(&self) -> u64
         ensures { result ≡ saturated_count (length (slots_of (shape_of K.network self.now))) }
     {
         match self {
             Tree::Empty => 0,
             Tree::Bare(_) | Tree::Leaf(_, _) => 1,
             Tree::Rooted(_, _, node) => {
-                let below = node.left.key_count().saturating_add(node.right.key_count());
+                let below = node
+                    .left
+                    .count_keys()
+                    .saturating_add(node.right.count_keys());
                 match node.slot {
-                    Slot::NoKey => below,
+                    KeySlot::NoKey => below,
                     _ => below.saturating_add(1),
                 }
             }
             Tree::Forked(_, _, fork) => fork
                 .left
-                .key_count()
-                .saturating_add(fork.right.key_count()),
+                .count_keys()
+                .saturating_add(fork.right.count_keys()),
         }
     }
 
     /// Returns the number of routes, which is that of the prefixes with a route, or `u64::MAX` if
     /// there are more. Visits all nodes.
     #[tactic(auto, using(crate::proofs::FillLaws::count_rooted))]
-    pub(crate) fn route_count(&self) -> u64
+    pub(crate) fn count_routes(&self) -> u64
         ensures { result ≡ saturated_count (length (all_routes (shape_of K.network self.now))) }
     {
         match self {
@@ -67,17 +70,17 @@ impl<K: PackedPrefix, R> Tree<K, R> {
             Tree::Rooted(_, _, node) => {
                 let below = node
                     .left
-                    .route_count()
-                    .saturating_add(node.right.route_count());
+                    .count_routes()
+                    .saturating_add(node.right.count_routes());
                 match node.slot {
-                    Slot::Filled(_) => below.saturating_add(1),
+                    KeySlot::Filled(_) => below.saturating_add(1),
                     _ => below,
                 }
             }
             Tree::Forked(_, _, fork) => fork
                 .left
-                .route_count()
-                .saturating_add(fork.right.route_count()),
+                .count_routes()
+                .saturating_add(fork.right.count_routes()),
         }
     }
 }

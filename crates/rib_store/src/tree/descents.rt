@@ -1,7 +1,7 @@
 //! Descents: walks down the trees towards eight prefixes at once, which only read the nodes, before
 //! routes are put or taken there. So the processor fetches the nodes of all eight into its cache
 //! together, and doesn't wait for one after the other. `RadixStore::prefetch` calls
-//! [`Descents::run`]; read [`Descent`] first.
+//! [`PrefetchDescents::run`]; read [`PrefetchDescent`] first.
 
 use crate::tree::Tree;
 use ip_prefix::Prefix;
@@ -17,18 +17,18 @@ const MOST_BITS: u8 = 64;
 const MOST_NODES: u8 = 32;
 
 /// A walk down a tree towards a prefix, which reads nodes so that they are in the processor's
-/// cache, and finds out nothing. At each node it goes left or right by one bit of the prefix, of
-/// its first [`MOST_BITS`], and compares no prefixes. It ends at the node of the prefix, or where a
-/// search for it would end.
+/// cache, and finds out nothing. At each node it goes left or right by one bit of the prefix, and
+/// compares no prefixes. It ends at a node without children, or at one whose own prefix has at
+/// least as many bits as the prefix that it goes to, or as [`MOST_BITS`].
 #[derive(Drop)]
-pub(crate) struct Descent<'a, R> {
+pub(crate) struct PrefetchDescent<'a, R> {
     /// The subtree that the descent has come to.
     root: DescentNode<'a, R>,
     /// The first 64 bits of the prefix, the first one highest, filled up with zeros.
     bits: u64,
     /// The number of leading bits of the prefix that may be read: its length, but at most
     /// [`MOST_BITS`]. The descent doesn't go below a node whose prefix has as many bits or more.
-    depth: u8,
+    usable_bits: u8,
 }
 
 /// The subtree that a descent (a walk that reads nodes into the processor's cache) has come to, or
@@ -43,13 +43,13 @@ pub(crate) enum DescentNode<'a, R> {
     V6(&'a Tree<Prefix, R>),
 }
 
-impl<'a, R> Descent<'a, R> {
+impl<'a, R> PrefetchDescent<'a, R> {
     /// Returns a descent that has ended before it began, and reads no node.
     pub(crate) fn ended() -> Self {
-        Descent {
+        PrefetchDescent {
             root: DescentNode::Ended,
             bits: 0,
-            depth: 0,
+            usable_bits: 0,
         }
     }
 
@@ -57,25 +57,27 @@ impl<'a, R> Descent<'a, R> {
     /// Expects the tree to be of the prefix's family; otherwise the descent only reads nodes that
     /// don't help.
     pub(crate) fn new(root: DescentNode<'a, R>, prefix: &Prefix) -> Self {
-        Descent {
+        PrefetchDescent {
             root,
             bits: prefix.high_64_bits(),
-            depth: prefix.len().min(MOST_BITS),
+            usable_bits: prefix.len().min(MOST_BITS),
         }
     }
 
-    /// Goes on to a child of the current node, and returns `true`. Returns `false`, and stays, if
-    /// the node has no children, if its prefix has as many bits as may be read, or if the descent
-    /// has ended.
+    /// Goes on from the current node to a child, and returns `true`. If the node's own prefix has n
+    /// bits, bit n, counted from 0, of the prefix that the descent goes to selects the child: the
+    /// left one if it is 0, the right one if it is 1. Returns `false`, and stays, if the node has
+    /// no children, if its own prefix has `usable_bits` bits (the number that may be read) or more,
+    /// or if the descent has ended.
     #[inline]
     fn advance(&mut self) -> bool {
         let next = match &self.root {
             DescentNode::Ended => return false,
-            DescentNode::V4(tree) => match child_towards(tree, self.bits, self.depth) {
+            DescentNode::V4(tree) => match child_towards(tree, self.bits, self.usable_bits) {
                 Some(next) => DescentNode::V4(next),
                 None => return false,
             },
-            DescentNode::V6(tree) => match child_towards(tree, self.bits, self.depth) {
+            DescentNode::V6(tree) => match child_towards(tree, self.bits, self.usable_bits) {
                 Some(next) => DescentNode::V6(next),
                 None => return false,
             },
@@ -85,23 +87,24 @@ impl<'a, R> Descent<'a, R> {
     }
 }
 
-/// Returns the child of the root of `tree` that a descent to a prefix goes on to. `bits` has the
-/// first 64 bits of that prefix, whose bit after the root's own bits selects the side: right if it
-/// is 1. `depth`, at most 64, is the number of bits that may be read. Returns `None` if the root
-/// has no children, or if its own prefix has `depth` bits or more, so that a descent in a long IPv6
-/// prefix ends there.
+/// Returns the child of the root of `tree` that a descent (a walk that reads nodes into the
+/// processor's cache) goes on to, or `None` if it ends at the root. `bits` has the first 64 bits of
+/// the prefix that it goes to. The bit after as many bits as the root's own prefix has selects the
+/// child: the left one if it is 0, the right one if it is 1. `usable_bits`, at most 64, is the
+/// number of bits that may be read. The descent ends if the root has no children, or if its own
+/// prefix has `usable_bits` bits or more.
 #[inline]
 fn child_towards<'a, K: PackedPrefix, R>(
     tree: &'a Tree<K, R>,
     bits: u64,
-    depth: u8,
+    usable_bits: u8,
 ) -> Option<&'a Tree<K, R>> {
     let (prefix, left, right) = match tree {
         Tree::Forked(_, prefix, fork) => (prefix, &fork.left, &fork.right),
         Tree::Rooted(_, prefix, node) => (prefix, &node.left, &node.right),
         _ => return None,
     };
-    if prefix.len() >= depth {
+    if prefix.len() >= usable_bits {
         return None;
     }
     let is_right = bits.wrapping_shl(u32::from(prefix.len())) >> (u64::BITS - 1) == 1;
@@ -111,21 +114,21 @@ fn child_towards<'a, K: PackedPrefix, R>(
 /// Eight walks down trees, each towards a prefix of its own, that advance together, so that the
 /// processor waits for their nodes at the same time.
 #[derive(Drop)]
-pub(crate) struct Descents<'a, R> {
-    pub(crate) first: Descent<'a, R>,
-    pub(crate) second: Descent<'a, R>,
-    pub(crate) third: Descent<'a, R>,
-    pub(crate) fourth: Descent<'a, R>,
-    pub(crate) fifth: Descent<'a, R>,
-    pub(crate) sixth: Descent<'a, R>,
-    pub(crate) seventh: Descent<'a, R>,
-    pub(crate) eighth: Descent<'a, R>,
+pub(crate) struct PrefetchDescents<'a, R> {
+    pub(crate) first: PrefetchDescent<'a, R>,
+    pub(crate) second: PrefetchDescent<'a, R>,
+    pub(crate) third: PrefetchDescent<'a, R>,
+    pub(crate) fourth: PrefetchDescent<'a, R>,
+    pub(crate) fifth: PrefetchDescent<'a, R>,
+    pub(crate) sixth: PrefetchDescent<'a, R>,
+    pub(crate) seventh: PrefetchDescent<'a, R>,
+    pub(crate) eighth: PrefetchDescent<'a, R>,
 }
 
-impl<'a, R> Descents<'a, R> {
-    /// Advances the eight descents by one node at a time until none can advance, or until
-    /// [`MOST_NODES`] nodes were passed. Returns the number of nodes that the longest passed; a
-    /// caller that uses it keeps the compiler from removing the reads.
+impl<'a, R> PrefetchDescents<'a, R> {
+    /// Advances the eight descents by one node each, again and again, until none can go on, but at
+    /// most [`MOST_NODES`] times. Returns the number of nodes that the longest descent passed. A
+    /// caller that uses this number keeps the compiler from removing the reads.
     pub(crate) fn run(&mut self) -> u64 {
         'nodes: for passed in 0..MOST_NODES {
             if !self.advance_all() {

@@ -5,7 +5,7 @@ ghost use Rattle.std.specs.Prelude.{◌≡◌, None, List, Bool};
 ghost use Rattle.ip_prefix.specs.Turns.{way};
 ghost use Rattle.rib_store.specs.Tree.{shape_of, IsLeaf, HasCorrectMarks, at, IsOnSide, IsRadixTree, IsRadixTreeBelowRoot, IsUpdatedAt};
 
-use crate::tree::{Slot, Tree};
+use crate::tree::{KeySlot, Tree};
 use ip_prefix::{Prefix, Turn};
 use prefix_store::PackedPrefix;
 use std::mem;
@@ -92,7 +92,7 @@ fn replace_by_only_child<K: PackedPrefix, R: Drop>(tree: &mut Tree<K, R>)
 {
     match tree {
         Tree::Rooted(_, _, node) => {
-            if let Slot::NoKey = node.slot {
+            if let KeySlot::NoKey = node.slot {
                 if let Tree::Empty = node.left {
                     let child = mem::replace(&mut node.right, Tree::Empty);
                     *tree = child;
@@ -127,10 +127,10 @@ fn unbox_leaf<K: PackedPrefix, R: Drop>(tree: &mut Tree<K, R>)
         let prefix = *prefix;
         if let Tree::Empty = node.left {
             if let Tree::Empty = node.right {
-                match mem::replace(&mut node.slot, Slot::NoKey) {
-                    Slot::NoKey => {}
-                    Slot::Vacant => *tree = Tree::Bare(prefix),
-                    Slot::Filled(route) => *tree = Tree::Leaf(prefix, route),
+                match mem::replace(&mut node.slot, KeySlot::NoKey) {
+                    KeySlot::NoKey => {}
+                    KeySlot::Vacant => *tree = Tree::Bare(prefix),
+                    KeySlot::Filled(route) => *tree = Tree::Leaf(prefix, route),
                 }
             }
         }

@@ -14,7 +14,7 @@ use prefix_store::PackedPrefix;
 
 impl<K: PackedPrefix, R> Tree<K, R> {
     /// Looks up the prefix `key` itself. Returns `None` if the tree doesn't keep it, `Some(None)`
-    /// if the tree keeps it without a route, or else `Some` of its route.
+    /// if the tree keeps it without a route, and `Some(Some(route))` if it has one.
     #[tactic(auto, using(crate::proofs::TreeLaws::at_left_under, crate::proofs::TreeLaws::at_right_under))]
     pub(crate) fn slot(&self, key: &Prefix) -> Option<Option<&R>>
         requires { IsRadixTree (shape_of K.network self.now) }
@@ -180,7 +180,7 @@ impl<K: PackedPrefix, R> Tree<K, R> {
     /// Appends all routes with their prefixes to `found`, in ascending order of prefixes, and stops
     /// when the capacity of `found` is used up. So it allocates no memory. Skips subtrees without a
     /// route.
-    pub(crate) fn append_routes<'a>(&'a self, found: &mut Vec<(Prefix, &'a R)>)
+    pub(crate) fn fill_with_routes<'a>(&'a self, found: &mut Vec<(Prefix, &'a R)>)
         requires { HasCorrectMarks self.now }
         ensures found { dereferenced found.new.items ≡
             filled (vec_capacity found.old) (dereferenced found.old.items)
@@ -198,8 +198,8 @@ impl<K: PackedPrefix, R> Tree<K, R> {
                     return;
                 }
                 node.slot.add_route_if_any(prefix.unpack(), found);
-                node.left.append_routes(found);
-                node.right.append_routes(found);
+                node.left.fill_with_routes(found);
+                node.right.fill_with_routes(found);
             }
             Tree::Forked(any, _, fork) => {
                 if !*any {
@@ -208,8 +208,8 @@ impl<K: PackedPrefix, R> Tree<K, R> {
                 if found.len() == found.capacity() {
                     return;
                 }
-                fork.left.append_routes(found);
-                fork.right.append_routes(found);
+                fork.left.fill_with_routes(found);
+                fork.right.fill_with_routes(found);
             }
         }
     }
@@ -217,7 +217,11 @@ impl<K: PackedPrefix, R> Tree<K, R> {
     /// Appends the routes at prefixes greater than `low`, with these prefixes, to `found`, in
     /// ascending order of prefixes, and stops when the capacity of `found` is used up. So it
     /// allocates no memory. `low` needn't be in the tree.
-    pub(crate) fn append_routes_after<'a>(&'a self, low: &Prefix, found: &mut Vec<(Prefix, &'a R)>)
+    pub(crate) fn fill_with_routes_after<'a>(
+        &'a self,
+        low: &Prefix,
+        found: &mut Vec<(Prefix, &'a R)>,
+    )
         requires { HasCorrectMarks self.now }
         ensures found { dereferenced found.new.items ≡
             filled (vec_capacity found.old) (dereferenced found.old.items)
@@ -231,30 +235,30 @@ impl<K: PackedPrefix, R> Tree<K, R> {
                 _ => {}
             },
             Tree::Rooted(_, prefix, node) => match prefix.turn(low) {
-                Turn::Outside if *low < prefix.unpack() => self.append_routes(found),
+                Turn::Outside if *low < prefix.unpack() => self.fill_with_routes(found),
                 Turn::Outside => {}
                 Turn::Here => {
-                    node.left.append_routes(found);
-                    node.right.append_routes(found);
+                    node.left.fill_with_routes(found);
+                    node.right.fill_with_routes(found);
                 }
                 Turn::Left => {
-                    node.left.append_routes_after(low, found);
-                    node.right.append_routes(found);
+                    node.left.fill_with_routes_after(low, found);
+                    node.right.fill_with_routes(found);
                 }
-                Turn::Right => node.right.append_routes_after(low, found),
+                Turn::Right => node.right.fill_with_routes_after(low, found),
             },
             Tree::Forked(_, prefix, fork) => match prefix.turn(low) {
-                Turn::Outside if *low < prefix.unpack() => self.append_routes(found),
+                Turn::Outside if *low < prefix.unpack() => self.fill_with_routes(found),
                 Turn::Outside => {}
                 Turn::Here => {
-                    fork.left.append_routes(found);
-                    fork.right.append_routes(found);
+                    fork.left.fill_with_routes(found);
+                    fork.right.fill_with_routes(found);
                 }
                 Turn::Left => {
-                    fork.left.append_routes_after(low, found);
-                    fork.right.append_routes(found);
+                    fork.left.fill_with_routes_after(low, found);
+                    fork.right.fill_with_routes(found);
                 }
-                Turn::Right => fork.right.append_routes_after(low, found),
+                Turn::Right => fork.right.fill_with_routes_after(low, found),
             },
         }
     }

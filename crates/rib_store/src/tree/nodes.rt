@@ -3,11 +3,11 @@
 
 ghost use Rattle.std.specs.Prelude.{◌≡◌, ◌⊎◌, ◌||◌, Some, None, false, is_some, IfOk, IfErr, OnOk, OnErr};
 ghost use Rattle.ip_prefix.specs.Turns.{way};
-ghost use Rattle.rib_store.specs.declared.tree.Slot.TheVariants.{NoKey};
+ghost use Rattle.rib_store.specs.declared.tree.KeySlot.TheVariants.{NoKey};
 ghost use Rattle.ip_prefix.specs.declared.turn.Turn.TheVariants.{Left, Right};
 ghost use Rattle.rib_store.specs.Tree.{Empty, shape_of, leaf_route, is_filled, has_routes, any_has_routes, IsLeaf, HasCorrectMarks, slot_of, IsRootedOver};
 
-use crate::tree::{Fork, Node, Slot, Tree};
+use crate::tree::{Fork, KeySlot, Node, Tree};
 use ip_prefix::Turn;
 use prefix_store::PackedPrefix;
 use std::alloc::{AllocError, Global};
@@ -39,15 +39,16 @@ pub(crate) fn leaf_to_route<K: PackedPrefix, R: Drop>(tree: Tree<K, R>) -> Optio
     }
 }
 
-/// Converts a tree that keeps one prefix to the slot (what a heap node holds of its prefix) for it:
-/// `Filled` with its route, or `Vacant` if it has none.
-pub(crate) fn leaf_to_slot<K: PackedPrefix, R: Drop>(tree: Tree<K, R>) -> Slot<R>
+/// Converts a tree that keeps one prefix to a slot, which is what a heap node holds of its prefix:
+/// `Filled` with the route of the tree, or `Vacant` if it has none. The slot doesn't hold the
+/// prefix, which is dropped. A tree of any other form gives `Vacant`.
+pub(crate) fn leaf_to_slot<K: PackedPrefix, R: Drop>(tree: Tree<K, R>) -> KeySlot<R>
     ensures slot { slot_of result ≡ Some (leaf_route tree) }
     ensures filled { is_filled result ≡ is_some (leaf_route tree) }
 {
     match tree {
-        Tree::Leaf(_, route) => Slot::Filled(route),
-        _ => Slot::Vacant,
+        Tree::Leaf(_, route) => KeySlot::Filled(route),
+        _ => KeySlot::Vacant,
     }
 }
 
@@ -62,7 +63,7 @@ pub(crate) fn new_node<K: PackedPrefix, R: Drop>(
     let node = Box::new(
         alloc,
         Node {
-            slot: Slot::NoKey,
+            slot: KeySlot::NoKey,
             left: Tree::Empty,
             right: Tree::Empty,
         },
@@ -70,28 +71,28 @@ pub(crate) fn new_node<K: PackedPrefix, R: Drop>(
     Ok(node)
 }
 
-/// Puts a new branch with the prefix `prefix` above the root. The old tree becomes its child on the
-/// side `side`, which is `Left` or `Right`, and `leaf`, a tree of one prefix, the child on the
-/// other side. On error, which means that memory allocation fails, the tree is unchanged, and
-/// `leaf` is returned with the error.
+/// Puts a new fork (a node whose prefix isn't a key, one that the tree keeps) with the prefix
+/// `prefix` above the root. The old tree becomes its child on the side `tree_side`, which is `Left`
+/// or `Right`, and `leaf`, a tree of one prefix, the child on the other side. On error, which means
+/// that memory allocation fails, the tree is unchanged, and `leaf` is returned with the error.
 pub(crate) fn insert_fork_above<K: PackedPrefix, R: Drop>(
     tree: &mut Tree<K, R>,
     prefix: K,
     alloc: Global,
     leaf: Tree<K, R>,
-    side: Turn,
+    tree_side: Turn,
 ) -> Result<(), (Tree<K, R>, AllocError)>
     requires leaf { HasCorrectMarks leaf }
     requires below { HasCorrectMarks tree.old }
     ensures marked { OnOk result (HasCorrectMarks tree.new) }
     ensures routed { OnOk result (has_routes tree.new ≡ any_has_routes NoKey leaf tree.old) }
-    ensures rooted { OnOk result (IsRootedOver (K.network prefix) None side
+    ensures rooted { OnOk result (IsRootedOver (K.network prefix) None tree_side
         (shape_of K.network leaf) (shape_of K.network tree.old) (shape_of K.network tree.new)) }
     ensures refused { OnErr result (tree.new ≡ tree.old) }
     ensures kept { IfErr result (λ refused. refused.0 ≡ leaf) }
 {
     let below = mem::replace(tree, Tree::Empty);
-    let (left, right) = match side {
+    let (left, right) = match tree_side {
         Turn::Left => (below, leaf),
         _ => (leaf, below),
     };
@@ -108,7 +109,7 @@ pub(crate) fn insert_fork_above<K: PackedPrefix, R: Drop>(
                 right: Tree::Empty,
             };
             let Fork { left, right } = mem::replace(&mut refused.value, none);
-            let (below, leaf) = match side {
+            let (below, leaf) = match tree_side {
                 Turn::Left => (left, right),
                 _ => (right, left),
             };
@@ -121,7 +122,7 @@ pub(crate) fn insert_fork_above<K: PackedPrefix, R: Drop>(
 /// Replaces the tree by `node` with the prefix `prefix`, and with `below` as its only child, on the
 /// side `side`: left if that is `Left`, and otherwise right. The old tree, and children that `node`
 /// had, are dropped; the slot of `node` is kept.
-pub(crate) fn replace_root<K: PackedPrefix, R: Drop>(
+pub(crate) fn set_root_with_child<K: PackedPrefix, R: Drop>(
     tree: &mut Tree<K, R>,
     prefix: K,
     node: Box<Node<K, R>>,

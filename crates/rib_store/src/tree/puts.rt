@@ -8,7 +8,7 @@ ghost use Rattle.rib_store.specs.Tree.{shape_of, has_routes, IsLeaf, IsFork, IsA
 ghost use Rattle.rib_store.specs.Slots.{route_of_slot};
 
 use crate::tree::nodes::{
-    insert_fork_above, leaf_to_route, leaf_to_slot, new_leaf, new_node, replace_root,
+    insert_fork_above, leaf_to_route, leaf_to_slot, new_leaf, new_node, set_root_with_child,
 };
 use crate::tree::routes::exchange_leaf;
 use crate::tree::{Node, Tree};
@@ -52,13 +52,13 @@ impl<K: PackedPrefix, R: Drop> Tree<K, R> {
                 let node = &mut **node;
                 match prefix.turn(key) {
                     Turn::Left => {
-                        if node.stays_marked(*routed, route.is_some(), Turn::Left) {
+                        if node.keeps_mark(*routed, route.is_some(), Turn::Left) {
                             return node.left.put(alloc, key, route);
                         }
                         put_and_update_mark(routed, &mut node.left, alloc, key, route)
                     }
                     Turn::Right => {
-                        if node.stays_marked(*routed, route.is_some(), Turn::Right) {
+                        if node.keeps_mark(*routed, route.is_some(), Turn::Right) {
                             return node.right.put(alloc, key, route);
                         }
                         put_and_update_mark(routed, &mut node.right, alloc, key, route)
@@ -70,13 +70,13 @@ impl<K: PackedPrefix, R: Drop> Tree<K, R> {
                 let fork = &mut **fork;
                 match prefix.turn(key) {
                     Turn::Left => {
-                        if fork.stays_marked(*routed, route.is_some(), Turn::Left) {
+                        if fork.keeps_mark(*routed, route.is_some(), Turn::Left) {
                             return fork.left.put(alloc, key, route);
                         }
                         put_and_update_mark(routed, &mut fork.left, alloc, key, route)
                     }
                     Turn::Right => {
-                        if fork.stays_marked(*routed, route.is_some(), Turn::Right) {
+                        if fork.keeps_mark(*routed, route.is_some(), Turn::Right) {
                             return fork.right.put(alloc, key, route);
                         }
                         put_and_update_mark(routed, &mut fork.right, alloc, key, route)
@@ -89,11 +89,12 @@ impl<K: PackedPrefix, R: Drop> Tree<K, R> {
     }
 }
 
-/// Swaps the route at the prefix `key` in the child `below` and `route`, as [`Tree::put`] does, and
-/// then sets the parent's mark `routed` (whether a key in that subtree has a route) to that of the
-/// child, so the parent is to have no routes elsewhere. Returns `true` if the tree didn't keep
-/// `key` before. Fails if memory allocation fails; `routed`, `below` and `route` are unchanged
-/// then.
+/// Puts a route into `below`, a child of some node, and sets `routed` to `true` if `below` then has
+/// a route, or else to `false`. `routed` is the mark of that node, which tells whether any key in
+/// the node's subtree has a route. So callers make sure that the node's keys outside `below` have
+/// no routes. The route at the prefix `key` and `route` are swapped, as [`Tree::put`] does. Returns
+/// `true` if the tree didn't keep `key` before. Fails if memory allocation fails; `routed`, `below`
+/// and `route` are unchanged then.
 #[cycle(put)]
 #[inline(never)]
 fn put_and_update_mark<K: PackedPrefix, R: Drop>(
@@ -126,10 +127,11 @@ fn put_and_update_mark<K: PackedPrefix, R: Drop>(
     Ok(made)
 }
 
-/// Swaps the route at the prefix `key` and `route`, as [`Tree::put`] does, at the root, where the
-/// way down to `key` ends: requires that `key` isn't below the root, unless the root has no
-/// children. Returns `true` if the tree didn't keep `key` before. Fails if memory allocation fails;
-/// the tree and `route` are unchanged then.
+/// Swaps the route at the prefix `key` and `route`, as [`Tree::put`] does, without going down to a
+/// child of the root. Requires that the root has no children, or that its prefix is `key` or
+/// doesn't cover `key`. Makes the nodes that a new key needs, if any. Returns `true` if the tree
+/// didn't keep `key` before. Fails if memory allocation fails; the tree and `route` are unchanged
+/// then.
 #[inline(never)]
 fn put_at_root<K: PackedPrefix, R: Drop>(
     tree: &mut Tree<K, R>,
@@ -186,7 +188,7 @@ fn put_at_root<K: PackedPrefix, R: Drop>(
             let prefix = *prefix;
             match prefix.turn(key) {
                 Turn::Outside => insert_outside(tree, &prefix.unpack(), alloc, key, route),
-                Turn::Here => put_at_fork(tree, prefix, alloc, route),
+                Turn::Here => make_fork_a_key(tree, prefix, alloc, route),
                 _ => unreachable!(),
             }
         }
@@ -194,7 +196,7 @@ fn put_at_root<K: PackedPrefix, R: Drop>(
 }
 
 /// Adds the prefix `key`, which the tree doesn't keep, with the route of `route` or without one: as
-/// a new root if `key` covers `prefix`, or else beside the old root under a new branch. `prefix` is
+/// a new root if `key` covers `prefix`, or else beside the old root under a new fork. `prefix` is
 /// that of the root; requires that it doesn't cover `key`. Leaves `None` in `route`, and returns
 /// `true`, which means that `key` is new, for callers that return it. Fails if memory allocation
 /// fails; the tree and `route` are unchanged then.
@@ -227,7 +229,7 @@ fn insert_outside<K: PackedPrefix, R: Drop>(
         let mut node = new_node(alloc)?;
         node.slot = leaf_to_slot(new_leaf(K::pack(key), route));
         let below = mem::replace(tree, Tree::Empty);
-        replace_root(tree, K::pack(&common), node, below, side);
+        set_root_with_child(tree, K::pack(&common), node, below, side);
         return Ok(true);
     }
     let leaf = new_leaf(K::pack(key), route);
@@ -240,11 +242,11 @@ fn insert_outside<K: PackedPrefix, R: Drop>(
     }
 }
 
-/// Makes the tree keep `prefix`, the prefix of the branch (a node whose prefix the tree doesn't
-/// keep) at its root, with the route of `route` or without one. Leaves `None` in `route`, and
-/// returns `true`, which means that the tree didn't keep `prefix` before. Fails if memory
-/// allocation fails; the tree and `route` are unchanged then.
-fn put_at_fork<K: PackedPrefix, R: Drop>(
+/// Makes the tree keep `prefix`, with the route of `route` or without one. `prefix` is that of the
+/// tree's root, a fork: a node whose prefix the tree doesn't keep. Leaves `None` in `route`, and
+/// returns `true`, as [`Tree::put`] does for a new prefix. Fails if memory allocation fails; the
+/// tree and `route` are unchanged then.
+fn make_fork_a_key<K: PackedPrefix, R: Drop>(
     tree: &mut Tree<K, R>,
     prefix: K,
     alloc: Global,
@@ -276,8 +278,9 @@ fn put_at_fork<K: PackedPrefix, R: Drop>(
 }
 
 /// Swaps the route at the prefix `key` and `route`, as [`Tree::put`] does, in a tree that keeps one
-/// prefix, `prefix`. Returns `true` if `key` is a new prefix there, and `false` if it is `prefix`.
-/// Fails if memory allocation fails; the tree and `route` are unchanged then.
+/// prefix, `prefix`. Returns `false` if `key` is that prefix. Otherwise the tree keeps both
+/// afterwards, and `true` is returned. Fails if memory allocation fails; the tree and `route` are
+/// unchanged then.
 fn put_at_leaf<K: PackedPrefix, R: Drop>(
     tree: &mut Tree<K, R>,
     prefix: K,
@@ -313,7 +316,7 @@ fn put_at_leaf<K: PackedPrefix, R: Drop>(
         Turn::Left | Turn::Right => {
             let mut node = new_node(alloc)?;
             node.slot = leaf_to_slot(mem::replace(tree, Tree::Empty));
-            replace_root(tree, prefix, node, new_leaf(K::pack(key), route), side);
+            set_root_with_child(tree, prefix, node, new_leaf(K::pack(key), route), side);
             Ok(true)
         }
     }

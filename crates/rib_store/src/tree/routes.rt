@@ -8,7 +8,7 @@ ghost use Rattle.rib_store.specs.Slots.{route_of_slot};
 ghost use Rattle.rib_store.specs.Walks.{all_routes};
 
 use crate::tree::nodes::new_leaf;
-use crate::tree::{Slot, Tree};
+use crate::tree::{KeySlot, Tree};
 use ip_prefix::{Prefix, Turn};
 use prefix_store::PackedPrefix;
 use std::mem;
@@ -51,13 +51,13 @@ impl<K: PackedPrefix, R: Drop> Tree<K, R> {
                         *routed = node.has_routes();
                     }
                     Turn::Left => {
-                        if node.stays_marked(*routed, route.is_some(), Turn::Left) {
+                        if node.keeps_mark(*routed, route.is_some(), Turn::Left) {
                             return node.left.exchange(key, route);
                         }
                         exchange_and_update_mark(routed, &mut node.left, key, route);
                     }
                     Turn::Right => {
-                        if node.stays_marked(*routed, route.is_some(), Turn::Right) {
+                        if node.keeps_mark(*routed, route.is_some(), Turn::Right) {
                             return node.right.exchange(key, route);
                         }
                         exchange_and_update_mark(routed, &mut node.right, key, route);
@@ -68,13 +68,13 @@ impl<K: PackedPrefix, R: Drop> Tree<K, R> {
                 let fork = &mut **fork;
                 match prefix.turn_covered(key) {
                     Turn::Left => {
-                        if fork.stays_marked(*routed, route.is_some(), Turn::Left) {
+                        if fork.keeps_mark(*routed, route.is_some(), Turn::Left) {
                             return fork.left.exchange(key, route);
                         }
                         exchange_and_update_mark(routed, &mut fork.left, key, route);
                     }
                     Turn::Right => {
-                        if fork.stays_marked(*routed, route.is_some(), Turn::Right) {
+                        if fork.keeps_mark(*routed, route.is_some(), Turn::Right) {
                             return fork.right.exchange(key, route);
                         }
                         exchange_and_update_mark(routed, &mut fork.right, key, route);
@@ -132,10 +132,10 @@ impl<K: PackedPrefix, R: Drop> Tree<K, R> {
     }
 }
 
-/// Swaps the route at the prefix `key` in the child `below` and `route`, as [`Tree::exchange`]
-/// does, and then sets the parent's mark `routed` (whether a key in that subtree has a route) to
-/// that of the child, so the parent is to have no routes elsewhere. Requires that `below` keeps
-/// `key`, with or without a route.
+/// Swaps a route in `below`, a child of a node whose other keys have no routes, and updates the
+/// node's mark `routed`. The mark tells whether a key in the node's subtree has a route, and so
+/// becomes that of the child. The route at the prefix `key` and `route` are swapped, as
+/// [`Tree::exchange`] does. Requires that `below` keeps `key`, with or without a route.
 #[cycle(exchange)]
 #[inline(never)]
 fn exchange_and_update_mark<K: PackedPrefix, R: Drop>(
@@ -179,7 +179,7 @@ pub(crate) fn exchange_leaf<K: PackedPrefix, R: Drop>(
     }
 }
 
-impl<R: Drop> Slot<R> {
+impl<R: Drop> KeySlot<R> {
     /// Swaps the route in the slot and `route`, either of which may be `None`: `route` holds the
     /// old route afterwards. Requires that the node's prefix is a key (one that the tree keeps).
     pub(crate) fn exchange(&mut self, route: &mut Option<R>)
@@ -188,10 +188,10 @@ impl<R: Drop> Slot<R> {
         ensures taken_out { slot_of self.old ≡ Some route.new }
     {
         let new = match route.take() {
-            Some(route) => Slot::Filled(route),
-            None => Slot::Vacant,
+            Some(route) => KeySlot::Filled(route),
+            None => KeySlot::Vacant,
         };
-        if let Slot::Filled(old) = mem::replace(self, new) {
+        if let KeySlot::Filled(old) = mem::replace(self, new) {
             *route = Some(old);
         }
     }
@@ -206,7 +206,7 @@ impl<R: Drop> Slot<R> {
     {
         let made = self.route_if_key().is_none();
         if made {
-            *self = Slot::Vacant;
+            *self = KeySlot::Vacant;
         }
         self.exchange(route);
         made
@@ -222,8 +222,8 @@ impl<R: Drop> Slot<R> {
         ensures room { vec_capacity taken.new ≡ vec_capacity taken.old }
         ensures slot { self.new ≡ vacated self.old }
     {
-        if let Slot::Filled(_) = self {
-            if let Slot::Filled(route) = mem::replace(self, Slot::Vacant) {
+        if let KeySlot::Filled(_) = self {
+            if let KeySlot::Filled(route) = mem::replace(self, KeySlot::Vacant) {
                 taken.push_reserved(route);
             }
         }
@@ -234,6 +234,6 @@ impl<R: Drop> Slot<R> {
     pub(crate) fn remove_key(&mut self)
         ensures { slot_of self.new ≡ None }
     {
-        *self = Slot::NoKey;
+        *self = KeySlot::NoKey;
     }
 }

@@ -1,7 +1,7 @@
 use Rattle.std.proofs.Common.{◌≡◌, ◌⊎◌, ◌∙◌, [], subst, sym}
 use Rattle.std.specs.Io.KnownBytes.{Consumes}
 use Rattle.mrt_wire.specs.Results.{TakesFront}
-use Rattle.bgpdump_tool.specs.Run.{dump_texts, EndedByInput, all_results}
+use Rattle.bgpdump_tool.specs.Run.{dump_texts, EndedByInputFault, all_results}
 use Rattle.bgpdump_tool.specs.declared.Outcome.TheVariants.{ReadFault, WriteFault, Memory}
 use Rattle.bgpdump.specs.Endings.{left_of}
 use Rattle.bgpdump.proofs.JoiningLaws.{leaves_ended, leaves_written, lost_outcomes, of_input, told_by_input, told_unless_lost}
@@ -28,13 +28,13 @@ returns-clause-taken g c = of_input _ c.close.result.input c.run_dump-outcome.ne
 pub returns-clause-too_long : goal.returns-clause-too_long
 returns-clause-too_long g c long = of_input _ c.close.result.input c.run_dump-outcome.new.input c.close.ensures.input (λ taken after took.
     c.run_dump-outcome.ensures.too_long
-    (sym (told_by_input c.run_dump-outcome.result c.close.result.outcome c.close.result.writers c.close.ensures.told c.close.ensures.lost (subst EndedByInput (sym long) tt)) ∙ long)
+    (sym (told_by_input c.run_dump-outcome.result c.close.result.outcome c.close.result.writers c.close.ensures.told c.close.ensures.lost (subst EndedByInputFault (sym long) tt)) ∙ long)
     taken after (subst (λ old. TakesFront old (left_of g.R.Read.remaining c.run_dump-outcome.new.input) taken after) (sym c.in-Ok.ensures.left) took))
 
 pub returns-clause-read_fault : goal.returns-clause-read_fault
 returns-clause-read_fault g c fault = of_input _ c.close.result.input c.run_dump-outcome.new.input c.close.ensures.input
     (c.run_dump-outcome.ensures.read_fault.0
-    (sym (told_by_input c.run_dump-outcome.result c.close.result.outcome c.close.result.writers c.close.ensures.told c.close.ensures.lost (subst EndedByInput (sym fault) tt)) ∙ fault))
+    (sym (told_by_input c.run_dump-outcome.result c.close.result.outcome c.close.result.writers c.close.ensures.told c.close.ensures.lost (subst EndedByInputFault (sym fault) tt)) ∙ fault))
 
 pub returns-clause-failed : goal.returns-clause-failed
 returns-clause-failed g c = of_input _ c.close.result.input c.run_dump-outcome.new.input c.close.ensures.input (λ failed.

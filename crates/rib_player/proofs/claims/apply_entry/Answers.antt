@@ -67,8 +67,8 @@ there g c = known c.in_ok-made.made (set.contains c.args.table.now.keys c.args.e
 same : (g : Over) (c : After-pair g) (q : Pair) → set.contains c.put.new.table.keys q ≡ set.contains c.args.table.now.keys q
 same g c q = there-same c.args.table.now.keys c.put.new.table.keys c.args.entry.now.pair q c.in_ok-made.ensures.keys (there g c)
 
-pub add-requires : goal.add-requires
-add-requires g c = subst (λ q. claims_beyond c.args.claims.now q < GREATEST_COUNT) (sym (c.pair.ensures ∙ c.in_ok-made.ensures.pair)) c.requires.few
+pub increment-requires : goal.increment-requires
+increment-requires g c = subst (λ q. claims_beyond c.args.claims.now q < GREATEST_COUNT) (sym (c.pair.ensures ∙ c.in_ok-made.ensures.pair)) c.requires.few
 
 pub exchange-requires : goal.exchange-requires
 exchange-requires g c =
@@ -78,7 +78,7 @@ exchange-requires g c =
 pub returns-in-Err-clause-held : goal.returns-in-Err-clause-held
 returns-in-Err-clause-held g c =
     let b = (goal.at.returns-in-Err-clause-held g c).After-pair in
-    same-held c.args.table.now.keys c.exchange.new.table.keys (claims_beyond c.args.claims.now) (claims_beyond c.add.new.self)
+    same-held c.args.table.now.keys c.exchange.new.table.keys (claims_beyond c.args.claims.now) (claims_beyond c.increment.new.self)
     (λ q. ap (λ k. set.contains k q) c.exchange.ensures.keys ∙ same g b q) c.in-Err.ensures.refused c.requires.held
 
 pub returns-in-Err-clause-refused : goal.returns-in-Err-clause-refused
@@ -98,7 +98,7 @@ returns-in-Err-clause-kept g c =
 pub returns-clause-held : goal.returns-clause-held
 returns-clause-held g c =
     let b = (goal.at.returns-clause-held g c).After-pair in
-    beyond-held c.args.table.now.keys c.put.new.table.keys (claims_beyond c.args.claims.now) (claims_beyond c.add.new.self) c.args.entry.now.pair (same g b) (there g b)
+    beyond-held c.args.table.now.keys c.put.new.table.keys (claims_beyond c.args.claims.now) (claims_beyond c.increment.new.self) c.args.entry.now.pair (same g b) (there g b)
     (λ q. c.in_default.ensures.counted q ∙ ap (λ p. claims_beyond c.args.claims.now q + one_if (tied q p)) (c.pair.ensures ∙ c.in_ok-made.ensures.pair)) c.requires.held
 
 pub returns-clause-claimed : goal.returns-clause-claimed

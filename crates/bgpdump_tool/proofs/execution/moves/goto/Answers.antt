@@ -21,43 +21,43 @@ steps-init g c = record {
   wrote = refl;
 }
 
-pub step-requires : goal.step-requires
-step-requires g c = record { room = c.steps.invariant.room LONGEST_SCRIPT c.requires.room }
+pub step_forward-requires : goal.step_forward-requires
+step_forward-requires g c = record { room = c.steps.invariant.room LONGEST_SCRIPT c.requires.room }
 
-pub returns-in_err-step-clause-carries_out : goal.returns-in_err-step-clause-carries_out
-returns-in_err-step-clause-carries_out g c = λ from left s stands.
+pub returns-in_err-step_forward-clause-carries_out : goal.returns-in_err-step_forward-clause-carries_out
+returns-in_err-step_forward-clause-carries_out g c = λ from left s stands.
     let above : c.args.session.now.player.cursor ≤ c.args.position = search rules in
     let below : c.steps.session.player.cursor < c.args.position = search rules in
     let p = err_from_is_err_and c.from_residual.result c.from_residual.ensures.1 in
-    rw (p.1, p.2) (Goto-stops c.args.position from left s _ _ _ _ _ c.in_err-step.field-0.0 (omega (arith, above, stands.cursor)) stands below (c.steps.invariant.reaches from left s stands) c.in_err-step.ensures.steps
-    (Keeps-trans _ _ _ c.steps.invariant.out c.in_err-step.ensures.out))
+    rw (p.1, p.2) (Goto-stops c.args.position from left s _ _ _ _ _ c.in_err-step_forward.field-0.0 (omega (arith, above, stands.cursor)) stands below (c.steps.invariant.reaches from left s stands) c.in_err-step_forward.ensures.steps
+    (Keeps-trans _ _ _ c.steps.invariant.out c.in_err-step_forward.ensures.out))
 
-pub returns-in_err-step-clause-room : goal.returns-in_err-step-clause-room
-returns-in_err-step-clause-room g c = λ lost room. c.step.ensures.room lost (c.steps.invariant.room lost room)
+pub returns-in_err-step_forward-clause-room : goal.returns-in_err-step_forward-clause-room
+returns-in_err-step_forward-clause-room g c = λ lost room. c.step_forward.ensures.room lost (c.steps.invariant.room lost room)
 
 pub returns-then-branch-clause-carries_out : goal.returns-then-branch-clause-carries_out
 returns-then-branch-clause-carries_out g c = λ from left s stands.
     let above : c.args.session.now.player.cursor ≤ c.args.position = search rules in
     let below : c.steps.session.player.cursor < c.args.position = search rules in
-    let led = Goto-end c.args.position from left s _ _ _ c.in_ok-step.field-0 (omega (arith, above, stands.cursor)) stands below (c.steps.invariant.reaches from left s stands) c.if-branch.true c.in_ok-step.ensures.steps in
-    rw c.replied-then-branch.ensures (Execution-moved (Goto c.args.position) from left s _ _ _ _ _ c.at-then-branch.result true c.write_position.result led c.at-then-branch.ensures.cursor (Keeps-trans _ _ _ c.steps.invariant.out c.in_ok-step.ensures.out) c.write_position.ensures.text)
+    let led = Goto-end c.args.position from left s _ _ _ c.in_ok-step_forward.field-0 (omega (arith, above, stands.cursor)) stands below (c.steps.invariant.reaches from left s stands) c.if-branch.true c.in_ok-step_forward.ensures.steps in
+    rw c.replied-then-branch.ensures (Execution-moved (Goto c.args.position) from left s _ _ _ _ _ c.at-then-branch.result true c.write_position.result led c.at-then-branch.ensures.cursor (Keeps-trans _ _ _ c.steps.invariant.out c.in_ok-step_forward.ensures.out) c.write_position.ensures.text)
 
 pub returns-then-branch-clause-room : goal.returns-then-branch-clause-room
-returns-then-branch-clause-room g c = λ lost room. c.step.ensures.room lost (c.steps.invariant.room lost room)
+returns-then-branch-clause-room g c = λ lost room. c.step_forward.ensures.room lost (c.steps.invariant.room lost room)
 
 pub steps-smaller : goal.steps-smaller
 steps-smaller g c =
     let room = c.steps.invariant.room LONGEST_SCRIPT c.requires.room in
-    let room' = c.step.ensures.room LONGEST_SCRIPT room in
-    omega (arith, c.in_ok-step.ensures.smaller c.if-branch.false, room.within, room.limit, room'.within, room'.limit)
+    let room' = c.step_forward.ensures.room LONGEST_SCRIPT room in
+    omega (arith, c.in_ok-step_forward.ensures.smaller c.if-branch.false, room.within, room.limit, room'.within, room'.limit)
 
 pub steps-preserved : goal.steps-preserved
 steps-preserved g c = record {
   reaches = λ from left s stands.
       let below : c.steps.session.player.cursor < c.args.position = search rules in
-      Reaches-step c.args.position from left s _ _ _ c.in_ok-step.field-0 stands below (c.steps.invariant.reaches from left s stands) c.if-branch.false c.in_ok-step.ensures.steps;
-  room = λ lost room. c.step.ensures.room lost (c.steps.invariant.room lost room);
-  out = Keeps-trans _ _ _ c.steps.invariant.out c.in_ok-step.ensures.out;
+      Reaches-step c.args.position from left s _ _ _ c.in_ok-step_forward.field-0 stands below (c.steps.invariant.reaches from left s stands) c.if-branch.false c.in_ok-step_forward.ensures.steps;
+  room = λ lost room. c.step_forward.ensures.room lost (c.steps.invariant.room lost room);
+  out = Keeps-trans _ _ _ c.steps.invariant.out c.in_ok-step_forward.ensures.out;
   read = search rules;
   wrote = search rules;
 }

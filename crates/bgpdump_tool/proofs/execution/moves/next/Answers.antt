@@ -16,8 +16,8 @@ steps-init g c = record {
   wrote = refl;
 }
 
-pub step-requires : goal.step-requires
-step-requires g c = record { room = c.steps.invariant.room LONGEST_SCRIPT c.requires.room }
+pub step_forward-requires : goal.step_forward-requires
+step_forward-requires g c = record { room = c.steps.invariant.room LONGEST_SCRIPT c.requires.room }
 
 pub returns-in_err-ended-clause-carries_out : goal.returns-in_err-ended-clause-carries_out
 returns-in_err-ended-clause-carries_out g c = λ from left s stands.
@@ -26,7 +26,7 @@ returns-in_err-ended-clause-carries_out g c = λ from left s stands.
     (Keeps-trans _ _ _ c.steps.invariant.out c.in_err-ended.ensures.out))
 
 pub returns-in_err-ended-clause-room : goal.returns-in_err-ended-clause-room
-returns-in_err-ended-clause-room g c = λ lost room. c.step.ensures.room lost (c.steps.invariant.room lost room)
+returns-in_err-ended-clause-room g c = λ lost room. c.step_forward.ensures.room lost (c.steps.invariant.room lost room)
 
 pub returns-then-ended-clause-carries_out : goal.returns-then-ended-clause-carries_out
 returns-then-ended-clause-carries_out g c = λ from left s stands.
@@ -34,13 +34,13 @@ returns-then-ended-clause-carries_out g c = λ from left s stands.
     rw c.replied.ensures (Execution-moved (Next c.args.count) from left s _ _ _ _ _ c.at.result c.in_ok-ended.ended c.write_position.result led c.at.ensures.cursor (Keeps-trans _ _ _ c.steps.invariant.out c.in_ok-ended.ensures.out) c.write_position.ensures.text)
 
 pub returns-then-ended-clause-room : goal.returns-then-ended-clause-room
-returns-then-ended-clause-room g c = λ lost room. c.step.ensures.room lost (c.steps.invariant.room lost room)
+returns-then-ended-clause-room g c = λ lost room. c.step_forward.ensures.room lost (c.steps.invariant.room lost room)
 
 pub steps-preserved : goal.steps-preserved
 steps-preserved g c = record {
   forth = λ from left s stands.
       Forth-step c.steps.counter from left s _ _ _ c.in_ok-ended.ended stands (c.steps.invariant.forth from left s stands) c.if-ended.false c.in_ok-ended.ensures.steps;
-  room = λ lost room. c.step.ensures.room lost (c.steps.invariant.room lost room);
+  room = λ lost room. c.step_forward.ensures.room lost (c.steps.invariant.room lost room);
   out = Keeps-trans _ _ _ c.steps.invariant.out c.in_ok-ended.ensures.out;
   read = search rules;
   wrote = search rules;

@@ -9,7 +9,7 @@ use Rattle.bgpdump_tool.proofs.execution.queries.peers.Goals as goal
 pub returns-in-Some-clause-text : goal.returns-in-Some-clause-text
 returns-in-Some-clause-text g c =
     let routes = c.args.table.now.routes in
-    let listed : c.in-Some.few.entries ≡ counted_peers routes =
-    subst (λ found. IfSome found (λ (peers : BTreeMap Peer ℕ). peers.entries ≡ counted_peers routes)) c.in-Some.is c.in_ok-few.ensures in
-    subst (λ text. PutsAllOrFront (g.O.Output.written c.args.out.now) (g.O.Output.written c.few_peers-in-Some.new.out) text c.few_peers-in-Some.result)
-    (ap peer_counts_text listed ∙ counts-told routes) c.few_peers-in-Some.ensures.text
+    let listed : c.in-Some.counts.entries ≡ counted_peers routes =
+    subst (λ found. IfSome found (λ (peers : BTreeMap Peer ℕ). peers.entries ≡ counted_peers routes)) c.in-Some.is c.in_ok-counts.ensures in
+    subst (λ text. PutsAllOrFront (g.O.Output.written c.args.out.now) (g.O.Output.written c.write_peer_counts.new.out) text c.write_peer_counts.result)
+    (ap peer_counts_text listed ∙ counts-told routes) c.write_peer_counts.ensures.text

@@ -9,7 +9,7 @@ use Rattle.prefix_store.specs.Lookups.{above}
 use Rattle.prefix_store.proofs.AboveLaws.{above-none, above-front, none-left, keys-in_order, seen_last, seen_none}
 use Rattle.rib_player.specs.Tables.{peer_routes}
 use Rattle.rib_player.specs.Lookups.{pointed_routes}
-use Rattle.bgpdump_lines.specs.Lines.{rib_line}
+use Rattle.bgpdump_lines.specs.Lines.{rib_reply_line}
 use Rattle.bgpdump_lines.proofs.WritingLaws.{AppendsPrefix-longer}
 use Rattle.bgpdump_tool.proofs.WalkLaws.{Walked-start, Walked-many, Walked-breaks, table_told, lines-dereferenced}
 use Rattle.bgpdump_tool.proofs.execution.queries.table.Given.{Over}
@@ -24,7 +24,7 @@ pub routes-init : goal.routes-init
 routes-init g c =
     let entries = finite.entries (peer_routes c.args.table.now.routes c.args.peer.now) in
     record {
-      walked = Walked-start (rib_line c.args.peer.now) entries _ (g.O.Output.written c.args.out.now) (above-none entries);
+      walked = Walked-start (rib_reply_line c.args.peer.now) entries _ (g.O.Output.written c.args.out.now) (above-none entries);
       count = refl;
       failed = refl;
       room = search rules;
@@ -47,7 +47,7 @@ next g c =
 pub returns-in_err-write_rib_lines-clause-text : goal.returns-in_err-write_rib_lines-clause-text
 returns-in_err-write_rib_lines-clause-text g c =
     let b = (goal.at.returns-in_err-write_rib_lines-clause-text g c).In-Some in
-    let line = rib_line c.args.peer.now in
+    let line = rib_reply_line c.args.peer.now in
     let entries = finite.entries (peer_routes c.args.table.now.routes c.args.peer.now) in
     let found = pointed_routes c.next_routes.new.found.items in
     let p = err_from_is_err_and c.from_residual-in_err-write_rib_lines.result c.from_residual-in_err-write_rib_lines.ensures.1 in
@@ -67,7 +67,7 @@ routes-smaller g c =
 pub routes-preserved : goal.routes-preserved
 routes-preserved g c =
     let b = (goal.at.routes-preserved g c).In-Some in
-    let line = rib_line c.args.peer.now in
+    let line = rib_reply_line c.args.peer.now in
     let entries = finite.entries (peer_routes c.args.table.now.routes c.args.peer.now) in
     let items = c.next_routes.new.found.items in
     let found = pointed_routes items in

@@ -17,7 +17,7 @@ pub invariant_of-result : goal.invariant_of-result
 invariant_of-result c =
     let len = c.in_ok-len.field-0-0.now in
     let within : len ≤ bit_count c.args.family = omega (arith, c.width.ensures) in
-    subst (λ number. IsMasked c.args.family number len) (sym (c.new.ensures ∙ c.keep_highest_bits-number.ensures)) (IsMasked-highest c.args.family c.number_from_leading_octets.result len c.number_from_leading_octets.ensures.fits within)
+    subst (λ number. IsMasked c.args.family number len) (sym (c.new.ensures ∙ c.keep_highest_bits-number.ensures)) (IsMasked-highest c.args.family c.number_with_high_octets.result len c.number_with_high_octets.ensures.fits within)
 
 pub returns-clause-some : goal.returns-clause-some
 returns-clause-some c =
@@ -34,8 +34,8 @@ returns-clause-some c =
     let body_size : length body ≡ size = length-take-le size rest c.if-rest-size.false in
     let octets : (i : ℕ) → get_or c.args.octets.now i 0 < 256 = λ i. omega (arith, c.type_inv.octets i) in
     let each = AllByRecursion-take IsOctet size rest (AllOctets-from (len ∷ rest) (λ i. subst (λ l. get_or l i 0 < 256) whole (octets i))).1 in
-    let number = c.number_from_leading_octets.result in
-    let held = ap (λ k. bits_of (8 * k) (number / 2 ^ (128 - 8 * k))) body_size ∙ c.number_from_leading_octets.ensures.bits in
+    let number = c.number_with_high_octets.result in
+    let held = ap (λ k. bits_of (8 * k) (number / 2 ^ (128 - 8 * k))) body_size ∙ c.number_with_high_octets.ensures.bits in
     let bits =
     ap (λ n. bits_of len (n / 2 ^ (128 - len))) (c.new.ensures ∙ c.keep_highest_bits-number.ensures)
     ∙ bits_read len number body (omega arith) (omega arith) held in

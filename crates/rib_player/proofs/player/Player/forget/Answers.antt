@@ -1,5 +1,5 @@
 use Rattle.std.proofs.Common.{◌≡◌, ap, ◌∙◌, arith}
-use Rattle.rib_player.specs.Timeline.{Timeline, without_first, forgettable}
+use Rattle.rib_player.specs.Timeline.{Timeline, without_first, forgotten_count}
 use Rattle.rib_player.proofs.FloorLaws.{without_first-more}
 use Rattle.rib_player.proofs.player.Player.forget.Given.{Over}
 use Rattle.rib_player.proofs.player.Player.forget.Goals as goal
@@ -7,7 +7,7 @@ use Rattle.std.proofs.lemmas.Grind.{common_steps}
 use Rattle.rib_player.proofs.player.Player.forget.Goals.{After-saturating_sub-count}
 
 -- so many are too many
-count : (g : Over) (c : After-saturating_sub-count g) → c.saturating_sub-count.result ≡ forgettable c.args.self.now c.args.keep
+count : (g : Over) (c : After-saturating_sub-count g) → c.saturating_sub-count.result ≡ forgotten_count c.args.self.now c.args.keep
 count g c = omega (arith, c.saturating_sub-count.ensures, ap (λ (t : Timeline). t.floor) c.self.view_is, ap (λ (t : Timeline). t.cursor) c.self.view_is)
 
 pub forget_oldest-requires : goal.forget_oldest-requires
@@ -21,7 +21,7 @@ steps-preserved g c = c.forget_oldest.ensures ∙ ap (without_first 1) c.steps.i
 pub returns-clause-after_forget : goal.returns-clause-after_forget
 returns-clause-after_forget g c =
     let b = (goal.at.returns-clause-after_forget g c).After-saturating_sub-count in
-    c.self-2.view_is ∙ c.steps.invariant ∙ ap (λ n. without_first n c.args.self.now) {x = c.steps.counter} {y = forgettable c.args.self.now c.args.keep} (omega (arith, c.steps-test.false, c.steps.auto.counter-end, count g b))
+    c.self-2.view_is ∙ c.steps.invariant ∙ ap (λ n. without_first n c.args.self.now) {x = c.steps.counter} {y = forgotten_count c.args.self.now c.args.keep} (omega (arith, c.steps-test.false, c.steps.auto.counter-end, count g b))
 
 pub returns-clause-forgotten : goal.returns-clause-forgotten
 returns-clause-forgotten g c = count g (goal.at.returns-clause-forgotten g c).After-saturating_sub-count

@@ -42,6 +42,6 @@ returns-clause-noted g c =
     let along = numbered-along s.numbered (sym s.each) in
     (numbered-added along (no-number s.numbered c.args.peer c.requires)
     (omega (arith, c.len-number.ensures, ap length c.reserve.ensures.items, s.each))
-    (c.add.ensures ∙ ap (λ l. l ++ false ∷ []) c.reserve-3.ensures.kept)
+    (c.raise_bound.ensures ∙ ap (λ l. l ++ false ∷ []) c.reserve-3.ensures.kept)
     (named g (goal.at.returns-clause-noted g c).After-push_reserved-2)
     (record { each = c.in_ok-insert.ensures.updates.0 })).1

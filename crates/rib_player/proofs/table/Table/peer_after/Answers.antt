@@ -8,7 +8,7 @@ use Rattle.std.proofs.lemmas.Map.Iter.{rest_all}
 use Rattle.mrt_events.specs.declared.peer.Peer.{Peer}
 use Rattle.mrt_events.specs.Event.{peer_cmp}
 use Rattle.prefix_store.specs.Stored.{saturated_count}
-use Rattle.rib_player.specs.Tables.{Stores, peer_routes, routed_peers}
+use Rattle.rib_player.specs.Tables.{PeerStores, peer_routes, routed_peers}
 use Rattle.rib_player.specs.StoresByPeer.{stores_in, stores_of}
 use Rattle.rib_player.specs.Lookups.{peers_above}
 use Rattle.rib_player.specs.Representation.{routed_stores, peer_count}
@@ -19,7 +19,7 @@ use Rattle.rib_player.proofs.table.Table.peer_after.Goals as goal
 use Rattle.rib_player.proofs.table.Table.peer_after.Goals.{in-Some, in-None, In-Some-at}
 
 -- the first of these stores that has a route, and how many it has
-abbrev first : (g : Over) → Stores g.row.S.Denot → Option (Peer × ℕ)
+abbrev first : (g : Over) → PeerStores g.row.S.Denot → Option (Peer × ℕ)
 first g stores = option_map (peer_count g.S.PrefixStore.routes) (slice_get (routed_stores g.S.PrefixStore.routes stores) 0)
 
 pub numbers-init : goal.numbers-init

@@ -13,7 +13,7 @@ returns g c =
       nodes = (
         all_nodes f,
         λ n. are_nodes f planted n ∙ ap (λ s. is_node s.keys n) c.self.view_is,
-        omega (arith, len-all_nodes f planted, c.node_count.ensures, c.node_count-2.ensures, c.saturating_add.ensures),
+        omega (arith, len-all_nodes f planted, c.count_nodes.ensures, c.count_nodes-2.ensures, c.saturating_add.ensures),
       );
-      twice = omega (arith, twice_both f planted, ap (λ s. set.len s.keys) c.self.view_is, c.node_count.ensures, c.node_count-2.ensures, c.saturating_add.ensures);
+      twice = omega (arith, twice_both f planted, ap (λ s. set.len s.keys) c.self.view_is, c.count_nodes.ensures, c.count_nodes-2.ensures, c.saturating_add.ensures);
     }

@@ -55,7 +55,7 @@ invariant_of-self g c =
       v4_marks = marks.0;
       v6_marks = marks.1;
       keys = elim c.if-self.branch [
-        | then-self w ↦ w.self-is ∙ omega (arith, w.key_count.ensures, w.key_count-then-self.ensures, w.saturating_add-self-inside.ensures, len-keys_in-trees (trees_of s.v4 s.v6) put.planted)
+        | then-self w ↦ w.self-is ∙ omega (arith, w.count_keys.ensures, w.count_keys-then-self.ensures, w.saturating_add-self-inside.ensures, len-keys_in-trees (trees_of s.v4 s.v6) put.planted)
         | else-self w ↦ w.self-is ∙ omega (arith, less g b, w.if-self.false)
       ];
       routes = omega (arith, count, c.self.invariant.routes, ap finite.len (routes_in-less old _ key put.slots free));

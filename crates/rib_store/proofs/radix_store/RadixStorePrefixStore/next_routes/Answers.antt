@@ -9,7 +9,7 @@ use Rattle.rib_store.proofs.radix_store.RadixStorePrefixStore.next_routes.Goals.
 pub returns-in-V6-clause-found : goal.returns-in-V6-clause-found
 returns-in-V6-clause-found g c =
     let room = vec_capacity c.args.found.now in
-    filled_anew room c.clear.new.self c.append_routes_after-in-V6.new.found _ c.clear.ensures.capacity c.clear.ensures.items c.append_routes_after-in-V6.ensures.found
+    filled_anew room c.clear.new.self c.fill_with_routes_after-in-V6.new.found _ c.clear.ensures.capacity c.clear.ensures.items c.fill_with_routes_after-in-V6.ensures.found
     ∙ ap (take room) (above-v6 (trees_of c.self.inside.v4 c.self.inside.v6) c.self.invariant.planted c.in-Some.low.now (sym c.family.ensures ∙ c.in-V6.is))
     ∙ ap₂ (λ low s. take room (above (option_copied low) (finite.entries s.routes))) (sym c.in-Some.is) c.self.view_is
 
@@ -19,13 +19,13 @@ returns-clause-found g c =
     let f = trees_of c.self.inside.v4 c.self.inside.v6 in
     elim c.match-prefix.branch [
       | in-None w ↦
-          filled_twice room c.clear.new.self c.match-prefix.found c.append_routes-2.new.found _ _ c.clear.ensures.capacity c.clear.ensures.items
-          (ap vec_capacity w.found-is ∙ w.append_routes.ensures.room) (ap (λ v. dereferenced v.items) w.found-is ∙ w.append_routes.ensures.found) c.append_routes-2.ensures.found
+          filled_twice room c.clear.new.self c.match-prefix.found c.fill_with_routes-2.new.found _ _ c.clear.ensures.capacity c.clear.ensures.items
+          (ap vec_capacity w.found-is ∙ w.fill_with_routes.ensures.room) (ap (λ v. dereferenced v.items) w.found-is ∙ w.fill_with_routes.ensures.found) c.fill_with_routes-2.ensures.found
           ∙ ap (take room) (all-trees f c.self.invariant.planted)
           ∙ ap₂ (λ low s. take room (above (option_copied low) (finite.entries s.routes))) (sym w.in-None.is) c.self.view_is
       | in-Some+in-V4 w ↦
-          filled_twice room c.clear.new.self c.match-prefix.found c.append_routes-2.new.found _ _ c.clear.ensures.capacity c.clear.ensures.items
-          (ap vec_capacity w.found-is ∙ w.append_routes_after.ensures.room) (ap (λ v. dereferenced v.items) w.found-is ∙ w.append_routes_after.ensures.found) c.append_routes-2.ensures.found
+          filled_twice room c.clear.new.self c.match-prefix.found c.fill_with_routes-2.new.found _ _ c.clear.ensures.capacity c.clear.ensures.items
+          (ap vec_capacity w.found-is ∙ w.fill_with_routes_after.ensures.room) (ap (λ v. dereferenced v.items) w.found-is ∙ w.fill_with_routes_after.ensures.found) c.fill_with_routes-2.ensures.found
           ∙ ap (take room) (above-v4 f c.self.invariant.planted w.in-Some.low.now (sym w.family.ensures ∙ w.in-V4.is))
           ∙ ap₂ (λ low s. take room (above (option_copied low) (finite.entries s.routes))) (sym w.in-Some.is) c.self.view_is
     ]

@@ -1,7 +1,7 @@
 use Rattle.std.proofs.Common.{◌≡◌, None, cond, refl, sym, ap, ◌∙◌}
 use Rattle.ip_prefix.specs.declared.turn.Turn.TheVariants.{Outside, Here, Left, Right}
 use Rattle.ip_prefix.specs.Turns.{way, turn_of}
-use Rattle.rib_store.specs.declared.tree.Slot.TheVariants.{NoKey}
+use Rattle.rib_store.specs.declared.tree.KeySlot.TheVariants.{NoKey}
 use Rattle.rib_store.specs.Tree.{Rooted, shape_of, at, same_way, slot_of, IsRooted}
 use Rattle.rib_store.proofs.TreeLaws.{at_rooted}
 use Rattle.rib_store.proofs.ShapeLaws.{fork_other}

@@ -1,6 +1,6 @@
 use Rattle.std.proofs.Common.{sym, subst, ◌∙◌}
 use Rattle.ip_prefix.specs.Turns.{way}
-use Rattle.rib_store.specs.declared.tree.Slot.TheVariants.{NoKey}
+use Rattle.rib_store.specs.declared.tree.KeySlot.TheVariants.{NoKey}
 use Rattle.rib_store.specs.Tree.{Rooted, shape_of, IsRadixTree}
 use Rattle.rib_store.proofs.TreeLaws.{at_left_under}
 use Rattle.rib_store.proofs.tree.Tree.+slot.Goals as goal

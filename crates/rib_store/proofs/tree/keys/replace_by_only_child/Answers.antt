@@ -1,6 +1,6 @@
 use Rattle.std.proofs.Common.{◌≡◌, true, false, None, refl, sym, ap, subst, ◌∙◌}
 use Rattle.ip_prefix.specs.Turns.{way}
-use Rattle.rib_store.specs.declared.tree.Slot.TheVariants.{NoKey}
+use Rattle.rib_store.specs.declared.tree.KeySlot.TheVariants.{NoKey}
 use Rattle.rib_store.specs.declared.tree.Tree.TheVariants as tree
 use Rattle.rib_store.specs.Tree.{Rooted, shape_of, HasCorrectMarks, at, slot_of, IsOnSide, IsRadixTree, IsRadixTreeBelowRoot, IsKeyOrFork}
 use Rattle.rib_store.proofs.TreeLaws.{on_below}

@@ -22,13 +22,13 @@ returns-in-Here-clause-placed g c =
     let there : turn_of (way top) (way key) ≡ Here = cc in
     let turn : side ≡ turn_of (way top) (way old) = c.turn_covered-side.ensures ∙ (λ i. turn_of (way (sym above i)) (way old)) in
     placed_over key top (way old) c.args.route.now slot Empty side c.requires.outside c.requires.root c.requires.shaped shares turn
-    (subst (λ t. IsRooted top slot (select_by_turn side Empty Empty (shape_of net t) Empty) (select_by_turn side (shape_of net t) (shape_of net t) Empty (shape_of net t)) (shape_of net c.replace_root.new.tree))
-    c.replace-below.ensures.value c.replace_root.ensures.rooted)
+    (subst (λ t. IsRooted top slot (select_by_turn side Empty Empty (shape_of net t) Empty) (select_by_turn side (shape_of net t) (shape_of net t) Empty (shape_of net t)) (shape_of net c.set_root_with_child.new.tree))
+    c.replace-below.ensures.value c.set_root_with_child.ensures.rooted)
     (is_key there (c.leaf_to_slot.ensures.slot ∙ ap Some c.new_leaf.ensures.slot) refl)
 
 pub returns-in-Here-clause-routed : goal.returns-in-Here-clause-routed
 returns-in-Here-clause-routed g c =
-    c.replace_root.ensures.routed
+    c.set_root_with_child.ensures.routed
     ∙ ap₂ (λ filled t. filled || has_routes t) (c.leaf_to_slot.ensures.filled ∙ ap is_some c.new_leaf.ensures.slot) c.replace-below.ensures.value
 
 pub returns-in-Ok-clause-placed : goal.returns-in-Ok-clause-placed

@@ -21,14 +21,14 @@ pub returns-in_ok-node-in-Left-clause-placed : goal.returns-in_ok-node-in-Left-c
 returns-in_ok-node-in-Left-clause-placed g c =
     let net = g.K.PackedPrefix.network in
     let leaf = c.new_leaf.result in
-    hung net c.args.tree.now (shape_of net c.replace_root.new.tree) c.args.prefix c.args.key.now c.args.route.now _ (shape_of net leaf) c.turn-side.result c.requires.leaf (search rules) (sym c.turn-side.ensures)
+    hung net c.args.tree.now (shape_of net c.set_root_with_child.new.tree) c.args.prefix c.args.key.now c.args.route.now _ (shape_of net leaf) c.turn-side.result c.requires.leaf (search rules) (sym c.turn-side.ensures)
     (c.leaf_to_slot.ensures.slot ∙ ap (λ t. Some (leaf_route t)) c.replace.ensures.value)
     (subst (λ r. IsRooted c.args.key.now (Some r) Empty Empty (shape_of net leaf)) c.new_leaf.ensures.slot
     (subst (λ n. IsRooted n (Some (leaf_route leaf)) Empty Empty (shape_of net leaf)) c.pack.ensures (rooted_leaf net leaf c.pack.result c.new_leaf.ensures.leaf)))
-    c.replace_root.ensures.rooted
+    c.set_root_with_child.ensures.rooted
 
 pub returns-in_ok-node-in-Left-clause-quiet : goal.returns-in_ok-node-in-Left-clause-quiet
 returns-in_ok-node-in-Left-clause-quiet g c = λ none turn.
-    c.replace_root.ensures.routed
+    c.set_root_with_child.ensures.routed
     ∙ ap₂ (λ filled r. filled || r) (c.leaf_to_slot.ensures.filled ∙ ap (λ t. is_some (leaf_route t)) c.replace.ensures.value) (c.new_leaf.ensures.routed ∙ ap is_some none)
     ∙ routed_leaf c.args.tree.now c.args.prefix c.requires.leaf

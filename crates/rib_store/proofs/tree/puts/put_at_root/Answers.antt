@@ -22,4 +22,4 @@ returns-in-Here-clause-placed g c =
 
 pub returns-in-Here-turn-clause-brought : goal.returns-in-Here-turn-clause-brought
 returns-in-Here-turn-clause-brought g c =
-    on_ok_weaker c.put_at_fork.result (λ routed some. routed ∙ ap (λ brought. brought || c.in-Forked.field-0) some) c.put_at_fork.ensures.routed
+    on_ok_weaker c.make_fork_a_key.result (λ routed some. routed ∙ ap (λ brought. brought || c.in-Forked.field-0) some) c.make_fork_a_key.ensures.routed

@@ -1,6 +1,0 @@
-use Rattle.std.proofs.Common.{◌≡◌, vec_len}
-use Rattle.known_routes.proofs.slots.InternTable.put_run.Given as goal
-
--- the places stay as many
-abbrev pub invariant-routes : goal.invariant-routes
-invariant-routes l = vec_len l.self.slots ≡ vec_len l.fn.self.slots

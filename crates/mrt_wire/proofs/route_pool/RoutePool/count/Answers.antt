@@ -1,7 +1,0 @@
--- What the prover finds, named so that it refuses a wrong body sooner.
-use Rattle.std.proofs.Common.{arith}
-use Rattle.std.proofs.lemmas.Grind.{common_steps}
-use Rattle.mrt_wire.proofs.route_pool.RoutePool.count.Goals as goal
-
-pub invariant_of-self : goal.invariant_of-self
-invariant_of-self c = grind (arith, common_steps)
