@@ -48,7 +48,7 @@ CLAIMS = {
         Ground(PLAYER, 'redo', ('after_redo',), 'likewise'),
         Ground(PLAYER, 'forget', ('after_forget',), 'likewise'),
         Ground(PLAYER, 'drop_unused_routes', ('',), 'no change; no other public call has `&mut self`'),
-        Ground(PLAYER_LAWS, 'law_tables_by_position', ('routes',),
+        Ground(PLAYER_LAWS, 'law_player_follows_history', ('routes',),
                'where a player agrees with a history, its table has at each pair the `route` of the events before '
                'the cursor'),
         Ground(HISTORY, 'route', (), 'the last event that does not keep the pair decides'),
@@ -57,6 +57,7 @@ CLAIMS = {
         Ground(HISTORY, 'is_loss', (), 'the session leaves Established'),
         Ground(PLAYER, 'table', ('routes',), 'callers get the table at the cursor'),
         Ground('rib_player/src/table.rt', 'get', ('',), 'its route at a pair'),
+        Ground(PLAYER_LAWS, 'law_last_event_decides_route', ('table',), 'which is that `route` at each pair'),
         Ground(MEANING, 'routes_at', (), 'what a script asks: the table of the events before the cursor'),
         Ground(MEANING, 'meaning', (), 'what each command replies, and what it makes of the history'),
     ),
@@ -68,7 +69,7 @@ CLAIMS = {
         Ground(PLAYER_LAWS, 'law_one_step_back', ('undo', 'redo'), 'one step back and on again'),
         Ground(PLAYER_LAWS, 'law_steps_back_and_forth', ('back', 'forth'),
                'any list of events, played and undone, and redone'),
-        Ground(PLAYER_LAWS, 'law_forgotten_steps', ('tables',), 'positions that are left keep their tables'),
+        Ground(PLAYER_LAWS, 'law_forgetting_keeps_tables', ('tables',), 'positions that are left keep their tables'),
     ),
     'Malformed records and refused steps change nothing': (
         Ground(RESULTS, 'ReadsAs', (), 'a record makes an event or has a fault'),
@@ -81,7 +82,7 @@ CLAIMS = {
     ),
     'What is written is the stated function of the bytes read': (
         Ground(DUMP, 'run_dump', ('octets', 'text', 'whole_records', 'taken'), 'lines and reports: *octets* is the plain clause, '
-               'the others hold of inputs that show nothing beyond what was taken'),
+               '*text* states besides that nothing written depends on octets that were not taken'),
         Ground(PLAY, 'run_play', ('octets', 'text', 'began', 'whole_records', 'wanted', 'taken'), 'replies and reports'),
         Ground(PROGRAM, 'dump', ('text', 'whole_records'), 'with the program\'s buffers between'),
         Ground(PROGRAM, 'play', ('text', 'whole_records'), 'likewise'),
@@ -92,23 +93,27 @@ CLAIMS = {
         Ground('bgpdump_tool/specs/Course.antt', 'play_texts', (), 'those of a script'),
         Ground(RESULTS, 'results', (), 'the results of frames and a rest'),
         Ground(RESULTS, 'Splits', (), 'octets split into frames and a rest'),
-        Ground('mrt_wire/src/laws.rt', 'law_one_split', ('',), 'they do so in one way, so the texts are a function of them'),
-        Ground('mrt_wire/src/laws.rt', 'law_no_octets_without_a_split', ('',),
+        Ground('mrt_wire/src/laws.rt', 'law_input_splits_in_one_way', ('',), 'they do so in one way, so the texts are a function of them'),
+        Ground('mrt_wire/src/laws.rt', 'law_input_splits_into_records', ('',),
                'and no octets are without one. That it is a double negation suffices: what is said of texts can be '
                'decided'),
         Ground('bgpdump_tool/src/laws.rt', 'law_one_script', ('one', 'some'), 'likewise a script and its lines'),
     ),
     'No line waits: before a read that may wait, both outputs are flushed': (
         Ground(DUMP, 'run_dump', ('flushed',),
-               'where a read failed, the outputs hold nothing back, and nothing is flushed after a failed read. Any '
-               'read that asks the device may fail, so this holds before each of them'),
+               'where a read failed, the outputs hold nothing back. Nothing was flushed after it: a flush may fail, '
+               'and by *read_fault* and *write_fault* the run would then have to end in two ways. Any read that '
+               'asks the device may fail, so this holds before each of them'),
         Ground(PLAY, 'run_play', ('flushed',), 'likewise'),
+        Ground(DUMP, 'run_dump', ('whole_records',), 'and all lines of the records taken were put by then'),
+        Ground(PLAY, 'run_play', ('whole_records',), 'likewise'),
         Ground('bgpdump_lines/specs/Flushing.antt', 'LeavesFlushed', (), 'by how the run ended'),
         Ground('mrt_wire/src/source.rt', 'next', ('buffered',),
-               'a record that is buffered as a whole is read without asking the device'),
+               'a record that is buffered as a whole is read without a fault of the input, so without asking a '
+               'device that may fail'),
         Ground(INPUT, 'take', ('buffered',), 'what an input owes: from its buffer it reads without a fault'),
         Ground(INPUT, 'has_buffered_record', ('',), 'exactly where the buffer holds a whole record'),
-        Ground(OUTPUT, 'flush', ('flushed',), 'what an output owes: nothing is pending after it'),
+        Ground(OUTPUT, 'flush', ('flushed',), 'what an output owes: after an Ok nothing is pending, where it tells what is'),
     ),
     'For every input and every script of up to 1 MiB, even when memory allocation fails': (
         Ground(DUMP, 'run_dump', ('input_sound', 'out_sound', 'err_sound'),

@@ -177,10 +177,10 @@ CASES = (
     Case('attributes of places', lambda: emptied(entries_of_peers(256, lambda number: plain_of(40, number) +
                                                                   communities(*range(80)))),
          lambda: emptied(entries_of_peers(256, lambda _: b'')), 256 * KIB),
-    # MOST_SPARE of bgp_paths/src/path_reader.rt: 4 segments of 32 octets. So many grow to room for 16.
+    # MOST_SPARE of bgp_paths/src/segments.rt: 4 segments of 40 octets. So many grow to room for 16.
     Case('spare segments', lambda: announced_behind(EACH, segments_of(14)), lambda: announced_behind(EACH, b''),
-         EACH * 5 * 32, ALL_STEPS),
-    # MOST_SPARE of bgp_paths/src/segment.rt: 8 numbers.
+         EACH * 5 * 40, ALL_STEPS),
+    # MOST_SPARE of bgp_paths/src/as_numbers.rt: 8 numbers.
     Case('spare numbers', lambda: announced_behind(EACH, plain_of(35, 1)), lambda: announced_behind(EACH, b''),
          EACH * 48, ALL_STEPS),
     # MOST_SPARE of bgp_wire/src/attrs.rt: 32 communities.

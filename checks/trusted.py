@@ -33,8 +33,8 @@ PLAYER = 'rib_player/src/player.rt'
 # None for all public calls of a type or a trait, which then has the list's name.
 CALLS = {
     'laws of histories': {'rib_player/src/laws.rt': (
-        'law_history_after_one_call', 'law_history_after_all_calls', 'law_tables_by_position', 'law_one_step_back',
-        'law_steps_back_and_forth', 'law_forgotten_steps')},
+        'law_history_after_one_call', 'law_history_after_all_calls', 'law_player_follows_history', 'law_one_step_back',
+        'law_steps_back_and_forth', 'law_forgetting_keeps_tables')},
     'Player::table': {PLAYER: ('table',)},
     'Player::play': {PLAYER: ('play',)},
     'Player::undo': {PLAYER: ('undo',)},
@@ -48,14 +48,14 @@ CALLS = {
     'Input': {'mrt_frames/src/input.rt': None},
     'Output': {'bgpdump_lines/src/output.rt': None},
     'laws of splits and scripts': {
-        'mrt_wire/src/laws.rt': ('law_one_split', 'law_no_octets_without_a_split', 'law_one_content'),
+        'mrt_wire/src/laws.rt': ('law_input_splits_in_one_way', 'law_input_splits_into_records', 'law_octets_have_one_record_content'),
         'bgpdump_tool/src/laws.rt': ('law_one_script', 'law_one_command', 'law_best_match')},
     'Player': {PLAYER: None},
     'Table': {'rib_player/src/table.rt': None},
     'PrefixStore': {'prefix_store/src/store.rt': None},
     'settings': {'bgpdump_command_line/src/command_line.rt': ('settings',)},
     'all laws': {str(path.relative_to(CRATES)): tuple(re.findall(r'(?m)^pub fn (\w+)', path.read_text()))
-                 for path in sorted(CRATES.glob('*/src/laws.rt'))},
+                 for path in sorted(CRATES.glob('*/src/*laws.rt'))},
 }
 
 # The heading of the page's section on the words of the standard library.

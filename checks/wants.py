@@ -28,7 +28,7 @@ KNOWN = {
     # Of std's refusal, of a source's fault or one that is spent, which no run asks again, and of that of writing.
     ('bgpdump_lines/src/fault.rt', 'from'): 3,
     # Of the only fault that an event which is played may have.
-    ('bgpdump_tool/src/session.rt', 'step'): 1,
+    ('bgpdump_tool/src/session.rt', 'step_forward'): 1,
     ('bgpdump_tool/src/execution/moves.rt', 'play_session_loss'): 1,
     # Of an error of `clap` that says so.
     ('bgpdump_command_line/src/command_line.rt', 'fault_of_parse_error'): 1,
