@@ -6,8 +6,9 @@ use Rattle.bgp_paths.specs.declared.segment.SegmentKind.TheVariants.{AsSet, AsSe
 use Rattle.bgp_paths.specs.declared.segment.Segment.{Segment}
 use Rattle.bgp_paths.specs.declared.path.AsPath.{AsPath}
 
--- a unit of a path, which the merge keeps or drops as a whole: an AS number of a sequence, as a sequence of
--- this number alone, or a whole segment of another kind. `place` is the index of its segment in the path
+-- a unit of an AS path, which the merge of AS_PATH with AS4_PATH keeps or drops as a whole: an AS number of a
+-- sequence, as a sequence of this number alone, or a whole segment of another kind. `place` is the index of
+-- its segment in the path
 pub record PathUnit : Type 0 where
   pub place : ℕ
   pub part : Segment
@@ -18,7 +19,8 @@ abbrev pub units_by_kind : SegmentKind → ℕ → List ℕ → List PathUnit
 units_by_kind AsSequence place ns = map (λ n. record { place = place; part = record { numbers = n ∷ []; kind = AsSequence } }) ns
 units_by_kind kind place ns = record { place = place; part = record { numbers = ns; kind = kind } } ∷ []
 
--- the units of segments, in order; the first segment has the index `place`
+-- the units of `segments`, in order; `place` is the index of the first segment in its path, and the indexes
+-- of the others follow
 abbrev pub units_from : ℕ → List Segment → List PathUnit
 units_from place [] = []
 units_from place (segment ∷ segments) = units_by_kind segment.kind place segment.numbers ++ units_from (suc place) segments
@@ -36,28 +38,28 @@ kind_weight kind = 0
 abbrev pub unit_weight : PathUnit → ℕ
 unit_weight hop = kind_weight hop.part.kind
 
--- how many ASes units count in the length of a path, together
+-- how many ASes these units count together in the length of a path: the sum of their `unit_weight`
 abbrev pub units_weight : List PathUnit → ℕ
 units_weight hops = sum_by unit_weight hops
 
--- how many ASes a segment of this kind with `size` AS numbers counts in the length of a path: all of a
--- sequence, one for a set, none for a segment of a confederation
+-- how many ASes a segment of this kind with `size` AS numbers counts in the length of a path: `size` for a
+-- sequence, 1 for a set, 0 for a segment of a confederation
 abbrev pub weight_by : SegmentKind → ℕ → ℕ
 weight_by AsSequence size = size
 weight_by kind size = kind_weight kind
 
--- how many ASes a segment counts in the length of a path: all of a sequence, one for a set, none for a
--- segment of a confederation
+-- how many ASes a segment counts in the length of a path: as many as its AS numbers for a sequence, 1 for a
+-- set, 0 for a segment of a confederation
 abbrev pub segment_weight : Segment → ℕ
 segment_weight segment = weight_by segment.kind (length segment.numbers)
 
--- the length of a path, as a number of ASes: each segment counts all of a sequence, one for a set, none for a
--- segment of a confederation
+-- the length of a path, as a number of ASes, the sum over its segments: as many as its AS numbers for a
+-- sequence, 1 for a set, 0 for a segment of a confederation
 abbrev pub path_weight : AsPath → ℕ
 path_weight path = sum_by segment_weight path.segments
 
--- the unit and then the others; if the first of these is of the same segment, both become one unit with the
--- AS numbers of both
+-- the unit `hop` before the others; if the first of these is of the same segment (of equal `place`), the two
+-- become one unit, which has the AS numbers of both
 abbrev pub joined_units : PathUnit → List PathUnit → List PathUnit
 joined_units hop [] = hop ∷ []
 joined_units hop (next ∷ hops) =
@@ -71,7 +73,8 @@ abbrev pub gathered_units : List PathUnit → List PathUnit
 gathered_units [] = []
 gathered_units (hop ∷ hops) = joined_units hop (gathered_units hops)
 
--- the segments that units make: those of one sequence become one segment again
+-- the segments that units make, in order: neighbours of the same segment (of equal `place`) become one
+-- segment again, and the others one each
 abbrev pub segments_of : List PathUnit → List Segment
 segments_of hops = map (λ hop. hop.part) (gathered_units hops)
 

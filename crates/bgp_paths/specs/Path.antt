@@ -18,7 +18,7 @@ pub record SpellsNumber (bits : Width) (limit : ℕ) (n : ℕ) (octets : List �
   pub fits : n < limit
   pub whole : octets ≡ to_be_bytes bits n
 
--- the octets are a big-endian number of 32 bits
+-- the octets are `n` as a big-endian number of four octets; `n` is below 2^32
 abbrev pub SpellsU32 : ℕ → List ℕ → Type 0
 SpellsU32 n octets = SpellsNumber w32 (2 ^ 32) n octets
 
@@ -38,13 +38,13 @@ asn_size Four = 4
 abbrev pub asn_limit : AsWidth → ℕ
 asn_limit width = 2 ^ (8 * asn_size width)
 
--- the octets are a big-endian AS number of this width
+-- the octets are AS number `n`, big-endian, in as many octets as the width says, two or four, which it fits
 abbrev pub SpellsAsn : AsWidth → ℕ → List ℕ → Type 0
 SpellsAsn width n octets = SpellsNumber (asn_bits width) (asn_limit width) n octets
 
 -- ---- octets that spell no value
 
--- the octets (of any type `B`) spell no value
+-- `octets` spell no value by `Spells`; `B` is their type, such as lists of numbers
 abbrev pub IsNoSpelling : {A B : Type 0} → (A → B → Type 0) → B → Type 0
 IsNoSpelling {A} Spells octets = (value : A) → Spells value octets → ⊥
 
@@ -66,6 +66,7 @@ pub record SpellsSegment (width : AsWidth) (segment : Segment) (octets : List �
   pub spelled : SpellsAll (SpellsAsn width) segment.numbers body
   pub whole : octets ≡ kind_code segment.kind ∷ length segment.numbers ∷ body
 
--- the octets are the segments of a path, in order
+-- the octets are the segments of the path, in order, with AS numbers of this width; of a path without
+-- segments, no octets
 abbrev pub SpellsPath : AsWidth → AsPath → List ℕ → Type 0
 SpellsPath width path octets = SpellsAll (SpellsSegment width) path.segments octets

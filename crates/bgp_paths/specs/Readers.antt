@@ -32,8 +32,8 @@ abbrev pub ParsesOrFails : {A B : Type 0} → (A → B → Type 0) → B → Res
 ParsesOrFails Spells octets (Ok value) = Spells value octets
 ParsesOrFails Spells octets (Err fault) = Refuses Spells octets fault
 
--- an error that a parser of a value at the start of the octets may return: `Malformed` only if they begin
--- with a spelling of none, `Memory` always
+-- an error that a parser of a value at the start of the octets may return: `Malformed` only if they don't
+-- begin with a spelling of any value, `Memory` always
 abbrev pub RefusesFront : {A : Type 0} → (A → List ℕ → Type 0) → List ℕ → WireFault → Type 0
 RefusesFront Spells octets Malformed = BeginsWithNone Spells octets
 RefusesFront Spells octets Memory = Unit {0}
@@ -44,7 +44,8 @@ RefusesFront Spells octets Memory = Unit {0}
 abbrev pub empty_path : AsPath
 empty_path = record { segments = [] }
 
--- the list of one segment of this kind and these AS numbers, but no segment for a sequence of none
+-- the segment of this kind with these AS numbers, as a list of one; the empty list for a sequence without AS
+-- numbers
 abbrev pub segment_unless_empty : SegmentKind → List ℕ → List Segment
 segment_unless_empty AsSequence [] = []
 segment_unless_empty kind ns = record { numbers = ns; kind = kind } ∷ []
@@ -59,16 +60,17 @@ pub record IsSplitSegment (width : AsWidth) (kind : SegmentKind) (count : ℕ) (
 
 -- ---- texts
 
--- the octets of the marks in the order in which they are printed
+-- the three octets of `marks` in the order in which they are printed: opening, separator, closing
 abbrev pub brackets_as_printed : Brackets → List ℕ
 brackets_as_printed marks = marks.open ∷ marks.separator ∷ marks.close ∷ []
 
--- the new text begins with the old one
+-- the text `new` begins with the text `old`
 abbrev pub StillBegins : List ℕ → List ℕ → Type 0
 StillBegins old new = (more : List ℕ) × (new ≡ old ++ more)
 
--- `new` is `old` without the separator after its last word: wherever `old` is a text of `before` octets and
--- then words with a separator after each, `new` is this text and the words joined by the separator
+-- `new` is `old` without the separator after its last word: if `old` is a text of `before` octets and then
+-- words with a separator after each, `new` is this text and then the words joined by the separator; without
+-- words, this text
 abbrev pub JoinsWords : ℕ → List ℕ → List ℕ → Type 0
 JoinsWords before old new =
     (text : List ℕ) (separator : ℕ) (words : List (List ℕ)) → length text ≡ before

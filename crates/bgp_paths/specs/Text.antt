@@ -38,7 +38,9 @@ path_text path = join_with_byte SPACE (flat_map segment_words path.segments)
 abbrev pub halves_text : ℕ → List ℕ
 halves_text n = decimal (n / 2 ^ 16) ++ COLON ∷ decimal (n % 2 ^ 16)
 
--- the printed text of a community (RFC 1997): the name of one of the three well-known ones, or its two halves
+-- the printed text of a community (RFC 1997): `no-export`, `no-advertise` or `local-AS` for NO_EXPORT,
+-- NO_ADVERTISE and NO_EXPORT_SUBCONFED, and for others the high and the low 16 bits in decimal, joined by a
+-- colon
 unfoldable pub community_text : ℕ → List ℕ
 community_text community =
     if community == NO_EXPORT then codes "no-export"

@@ -35,9 +35,9 @@ enum HeldNumbers {
 }
 
 /// The AS numbers of a segment of an AS path, in the order in which they are sent. Up to seven are
-/// mostly held in the value itself; more are in a vector. If seven or fewer replace the numbers of
-/// a vector of about the capacity that is needed, they stay in that vector. In contracts, the value
-/// is the list of the AS numbers; where they are held doesn't show.
+/// mostly held in the value itself, without a vector; more are in a vector. Seven or fewer are in a
+/// vector too if they replaced the numbers of one of about that size. In contracts, the value is
+/// the list of the AS numbers; where they are held doesn't show.
 #[derive(Debug, Drop)]
 pub struct AsNumbers {
     /// The AS numbers, in place or in a vector.
@@ -72,7 +72,7 @@ impl AsNumbers {
     }
 
     /// Returns a list of the AS numbers in `numbers`, held in the value itself, without allocating
-    /// memory. Requires that there are at most [`MOST_IN_PLACE`] of them.
+    /// memory. Requires that there are at most seven ([`MOST_IN_PLACE`]) of them.
     #[inline]
     fn of_few(numbers: &[u32]) -> AsNumbers
         requires { length numbers.now ≤ MOST_IN_PLACE }
@@ -163,8 +163,8 @@ impl AsNumbers {
     }
 
     /// Converts this list into a copy of `numbers`. Its own numbers are dropped. Its vector, if it
-    /// has one, is reused if its capacity is enough, and at most [`MOST_SPARE`] above what is
-    /// needed. Otherwise, memory is allocated only for more than seven numbers. Returns
+    /// has one, is reused if its capacity is enough, and at most eight ([`MOST_SPARE`]) above what
+    /// is needed. Otherwise, memory is allocated if there are more than seven numbers. Returns
     /// `AllocError` if memory allocation fails.
     #[inline]
     pub(crate) fn replaced_by(self, numbers: &AsNumbers) -> Result<AsNumbers, AllocError>
@@ -180,10 +180,10 @@ impl AsNumbers {
         numbers.clone()
     }
 
-    /// Replaces the numbers of the list with those in `octets`: AS numbers of `width`, big-endian.
-    /// Does so only if the numbers are held in the list itself before and after, and returns `true`
-    /// then. Returns `false`, with the list unchanged, if the list has a vector, if `octets` has
-    /// more than seven numbers, or if `octets` ends inside a number.
+    /// Replaces the numbers of the list with those in `octets`, AS numbers of `width`, big-endian,
+    /// if the list has no vector and needs none for them, and returns `true` then. Returns `false`,
+    /// with the list unchanged, if the list has a vector, if `octets` has more than seven numbers,
+    /// or if `octets` ends inside a number.
     #[inline(always)]
     fn fill_in_place(&mut self, width: AsWidth, octets: &[u8]) -> bool
         ensures { result ≡ true → SpellsAll (SpellsAsn width) self.new octets.now }
@@ -205,10 +205,10 @@ impl AsNumbers {
     }
 
     /// Replaces the numbers of the list with those in `octets`: AS numbers of `width`, big-endian.
-    /// Reuses the vector of the list, if it has one, if its capacity is enough, and at most
-    /// [`MOST_SPARE`] above what is needed. [`AsNumbers::fill`] calls it for what
-    /// [`AsNumbers::fill_in_place`] doesn't parse. Fails with `Malformed` if `octets` ends inside a
-    /// number, or with `Memory` if memory allocation fails; the list is then unspecified.
+    /// Reuses the vector of the list, if it has one, if its capacity is enough, and at most eight
+    /// ([`MOST_SPARE`]) above what is needed. Otherwise, allocates memory if there are more than
+    /// seven numbers. Fails with `Malformed` if `octets` ends inside a number, or with `Memory` if
+    /// memory allocation fails; the list is then unspecified.
     #[inline(never)]
     fn refill(&mut self, alloc: Global, width: AsWidth, octets: &[u8]) -> Result<(), WireFault>
         ensures filled { OnOk result (SpellsAll (SpellsAsn width) self.new octets.now) }
@@ -229,10 +229,10 @@ impl AsNumbers {
     }
 
     /// Replaces the numbers of the list with those in `octets`: AS numbers of `width`, big-endian.
-    /// The list is empty afterwards if `octets` is. If the list has a vector of about the capacity
-    /// that is needed, that is reused. Otherwise memory is allocated only for more than seven
-    /// numbers. Fails with `Malformed` if `octets` ends inside a number, or with `Memory` if memory
-    /// allocation fails; the list is then unspecified.
+    /// The list is empty afterwards if `octets` is. Reuses the vector of the list, if it has one,
+    /// if its capacity is enough, and at most eight above what is needed. Otherwise, allocates
+    /// memory if there are more than seven numbers. Fails with `Malformed` if `octets` ends inside
+    /// a number, or with `Memory` if memory allocation fails; the list is then unspecified.
     #[inline(always)]
     pub fn fill(&mut self, alloc: Global, width: AsWidth, octets: &[u8]) -> Result<(), WireFault>
         ensures filled { OnOk result (SpellsAll (SpellsAsn width) self.new octets.now) }
@@ -268,8 +268,8 @@ impl Clone for AsNumbers {
 }
 
 /// Parses `octets` as AS numbers of `width`, big-endian, and writes them to the first elements of
-/// `places`. The other elements stay as they are. Requires that `octets` consists of whole numbers,
-/// and that there are at most as many as elements.
+/// `places`. The other elements are unchanged. Requires that `octets` doesn't end inside a number,
+/// and has at most seven ([`MOST_IN_PLACE`]) of them.
 #[inline(always)]
 fn write_numbers(width: AsWidth, octets: &[u8], places: &mut [u32; MOST_IN_PLACE])
     requires whole { length octets.now % asn_size width ≡ 0 }

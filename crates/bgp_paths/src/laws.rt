@@ -36,10 +36,10 @@ pub fn law_paths_have_one_merge()
         IsMerge first second path → IsMerge first second other → path ≡ other }
 {}
 
-/// States which characters AS paths and communities are joined and bracketed with as text: words
-/// are joined by spaces, and the halves of a community by a colon. The opening bracket, separator
-/// and closing bracket are `{`, `,` and `}` for sets, `(`, a space and `)` for confederation
-/// sequences, and `[`, `,` and `]` for confederation sets.
+/// States the characters that AS paths and communities have as text besides numbers and names:
+/// words are joined by spaces, and the halves of a community by a colon. The opening bracket,
+/// separator and closing bracket are `{`, `,` and `}` for sets, `(`, a space and `)` for
+/// confederation sequences, and `[`, `,` and `]` for confederation sets.
 pub fn law_text_punctuation()
     ensures between { SPACE ∷ COLON ∷ [] ≡ codes " :" }
     ensures sets { brackets_as_printed AS_SET_BRACKETS ≡ codes "{,}" }

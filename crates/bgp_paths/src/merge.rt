@@ -13,12 +13,12 @@ use crate::segment::{Segment, SegmentKind};
 use crate::segments::{Segments, shrink_if_spare};
 use std::alloc::{AllocError, Global};
 
-/// Merges the AS_PATH `first` with the AS4_PATH `second` (RFC 6793, section 4.2.3). The result
-/// begins with as many leading ASes of `first` as `first` counts more than `second`, and goes on
-/// with `second` without its confederation segments. A set counts as one AS. Confederation segments
-/// don't count, so that those of `first` up to its next AS that counts are in the result too. If
-/// `first` counts fewer ASes than `second`, the result is a copy of `first`. Returns `AllocError`
-/// if memory allocation fails.
+/// Merges the AS_PATH `first` with the AS4_PATH `second` (RFC 6793, section 4.2.3). If `first`
+/// counts n ASes more than `second` (n may be 0), the result is the first n ASes of `first`, and
+/// then `second` without its confederation segments. Each AS number of a sequence counts, a set
+/// counts as one AS, and confederation segments don't count: those of `first` up to its next AS
+/// that counts are in the result too. If `first` counts fewer ASes than `second`, the result is a
+/// copy of `first`. Returns `AllocError` if memory allocation fails.
 pub fn merge_paths(alloc: Global, first: &AsPath, second: &AsPath) -> Result<AsPath, AllocError>
     ensures { IfOk result (IsMerge first.now second.now) }
 {
@@ -68,9 +68,9 @@ fn count_ases_of_segment(segment: &Segment) -> usize
     }
 }
 
-/// Appends to `path` the longest part of the start of `segments` that counts `weight` ASes. Each AS
-/// number of a sequence counts, a set counts as one AS, and confederation segments don't count, so
-/// that those up to the next AS that counts are appended too. The last sequence may be cut.
+/// Appends the first `weight` ASes of `segments` to `path`, in their segments. Each AS number of a
+/// sequence counts, a set counts as one AS, and confederation segments don't count: those up to the
+/// next AS that counts are appended too. The last sequence is cut if it has more ASes than needed.
 /// Requires that `segments` counts at least `weight` ASes. Fails if memory allocation fails; `path`
 /// is then unspecified.
 fn push_leading_segments(

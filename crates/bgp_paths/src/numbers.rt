@@ -48,8 +48,8 @@ impl AsWidth {
     }
 }
 
-/// Replaces `numbers` with an empty vector of capacity `count`, in numbers. Fails if memory
-/// allocation fails; `numbers` is then unspecified.
+/// Replaces the vector `numbers` with an empty one that has capacity for exactly `count` numbers.
+/// Fails if memory allocation fails; `numbers` is then unspecified.
 #[inline(never)]
 fn replace_with_capacity(numbers: &mut Vec<u32>, count: usize) -> Result<(), AllocError>
     ensures none { OnOk result (numbers.new.items ≡ []) }
@@ -60,9 +60,9 @@ fn replace_with_capacity(numbers: &mut Vec<u32>, count: usize) -> Result<(), All
     Ok(())
 }
 
-/// Removes all `numbers`, and reallocates the vector if its capacity is less than `count` or more
-/// than `count + max_spare`, in numbers. So it takes about the memory that `count` numbers need.
-/// Fails if memory allocation fails; `numbers` is then unspecified.
+/// Removes all `numbers`, and reallocates the vector if it has capacity for fewer than `count`
+/// numbers or for more than `count + max_spare`. Requires that `count` is below 2^62. Fails if
+/// memory allocation fails; `numbers` is then unspecified.
 #[inline(always)]
 pub(crate) fn clear_and_reserve(
     numbers: &mut Vec<u32>,
@@ -104,10 +104,10 @@ fn push_numbers(width: AsWidth, octets: &[u8], numbers: &mut Vec<u32>)
     }
 }
 
-/// Parses `octets` as numbers of `width`, in big-endian order, and replaces `numbers` with them.
-/// The memory of `numbers` is reused if its capacity is enough, and at most `max_spare` numbers
-/// above what is needed. Fails with `Malformed` if `octets` ends inside a number, and with `Memory`
-/// if memory allocation fails; `numbers` is then unspecified. Empty `octets` are no numbers.
+/// Parses `octets` as numbers of `width`, in big-endian order, and replaces `numbers` with them, or
+/// with none if `octets` is empty. The memory of `numbers` is reused if its capacity is enough, and
+/// at most `max_spare` numbers above what is needed. Fails with `Malformed` if `octets` ends inside
+/// a number, and with `Memory` if memory allocation fails; `numbers` is then unspecified.
 #[inline(always)]
 pub fn fill_numbers(
     numbers: &mut Vec<u32>,

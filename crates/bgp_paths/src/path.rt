@@ -21,8 +21,8 @@ pub struct AsPath {
 }
 
 impl AsPath {
-    /// Returns an AS path without segments, without allocating memory. A path can be parsed into
-    /// it.
+    /// Returns an AS path without segments, without allocating memory. [`AsPath::fill`] parses a
+    /// path into it.
     #[inline]
     pub fn empty(alloc: Global) -> AsPath
         ensures { result ≡ empty_path }
@@ -32,8 +32,9 @@ impl AsPath {
         }
     }
 
-    /// Removes all segments, and keeps the memory of the list of segments for the next path, unless
-    /// it has capacity for more than four.
+    /// Removes all segments, without allocating memory. Keeps the memory of the list of segments
+    /// for later ones, or frees it if it has capacity for more than four. `alloc` is the allocator
+    /// for later segments.
     #[inline]
     pub fn clear(&mut self, alloc: Global)
         ensures { self.new ≡ empty_path }

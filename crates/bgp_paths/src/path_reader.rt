@@ -37,8 +37,8 @@ struct SegmentAndRest<'a> {
 }
 
 /// Splits a segment with AS numbers of `width` off the start of `octets`. Its AS numbers aren't
-/// parsed. Returns `None` if its type isn't one of the four known ones, if its count of AS numbers
-/// is 0, or if `octets` ends inside it.
+/// parsed. Returns `None` if its type isn't 1, 2, 3 or 4 (RFC 4271, section 4.3; RFC 5065, section
+/// 3), if its count of AS numbers is 0, or if `octets` ends inside it or is empty.
 #[inline(always)]
 fn split_segment(width: AsWidth, octets: &[u8]) -> Option<SegmentAndRest<'_>>
     ensures some { IfSome result (λ f. (count : ℕ)
@@ -146,8 +146,10 @@ fn fill_list(
 }
 
 /// Parses `octets` as segments with AS numbers of `width`, and replaces `segments` with them,
-/// reusing their memory. A single segment is held in place, unless `segments` has a list with
-/// memory. Fails like [`fill_segments`], which calls it where it can't parse in place.
+/// reusing their memory. A single segment is held in the value itself if `segments` was empty,
+/// without memory; otherwise the segments are in a vector. Fails with `Malformed` if `octets` isn't
+/// a list of segments, each of a known type and with at least one AS number, and with `Memory` if
+/// memory allocation fails. On error, `segments` is unspecified.
 #[inline(never)]
 fn refill_segments(
     alloc: Global,

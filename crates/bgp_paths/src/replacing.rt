@@ -35,9 +35,9 @@ fn copy_segment(old: Segment, segment: &Segment) -> Result<Segment, AllocError>
     })
 }
 
-/// Returns a copy of `segments` in the memory of `old`, whose own segments are dropped. Memory is
-/// allocated only where that of `old` is too small or much too large. Returns `AllocError` if
-/// memory allocation fails.
+/// Returns a copy of `segments` that reuses the memory of `old`, whose own segments are dropped.
+/// Memory is allocated where `old` has too little for the copy, or much more than it needs. Returns
+/// `AllocError` if memory allocation fails.
 #[inline(never)]
 fn copy_list(
     alloc: Global,
@@ -64,9 +64,9 @@ fn copy_list(
     Ok(list)
 }
 
-/// Returns a copy of `segments` in the memory of the segment `old`, whose own AS numbers are
-/// dropped. A list is allocated only for several segments. Returns `AllocError` if memory
-/// allocation fails.
+/// Returns a copy of `segments` that reuses the memory of the segment `old`, whose own AS numbers
+/// are dropped. A vector of segments is allocated only if there are several. Returns `AllocError`
+/// if memory allocation fails.
 fn copy_over_one(alloc: Global, old: Segment, segments: &[Segment]) -> Result<Segments, AllocError>
     ensures { IfOk result (λ copy. copy ≡ segments.now) }
 {
@@ -82,9 +82,9 @@ fn copy_over_one(alloc: Global, old: Segment, segments: &[Segment]) -> Result<Se
     }
 }
 
-/// Returns a copy of `segments` in the memory of the list `old`, whose own segments are dropped. A
-/// single segment is held in place if `old` is empty. Returns `AllocError` if memory allocation
-/// fails.
+/// Returns a copy of `segments` that reuses the memory of the vector `old`, whose own segments are
+/// dropped. A single segment is held in the value itself, without a vector, if `old` has no
+/// segments. Returns `AllocError` if memory allocation fails.
 fn copy_over_list(
     alloc: Global,
     old: Vec<Segment>,
@@ -99,9 +99,9 @@ fn copy_over_list(
     Ok(Segments::of_list(list))
 }
 
-/// Returns a copy of `path` in the memory of `old`, whose own segments are dropped. Memory is
-/// allocated only where that of `old` is too small or much too large. Returns `AllocError` if
-/// memory allocation fails.
+/// Returns a copy of `path` that reuses the memory of `old`, whose own segments are dropped. Memory
+/// is allocated where `old` has too little for the copy, or much more than it needs. Returns
+/// `AllocError` if memory allocation fails.
 pub fn copy_path(alloc: Global, old: AsPath, path: &AsPath) -> Result<AsPath, AllocError>
     ensures { IfOk result (λ copy. copy ≡ path.now) }
 {

@@ -23,8 +23,8 @@ pub(crate) enum Held {
 }
 
 /// The segments of an AS path, in the order in which they are sent. A single segment is mostly held
-/// in the value itself, so that the list takes no memory besides that of its AS numbers. In
-/// contracts, the value is the list of the segments; where they are held doesn't show.
+/// in the value itself, so that the list needs no vector. In contracts, the value is the list of
+/// the segments; where they are held doesn't show.
 #[derive(Debug)]
 pub struct Segments {
     /// The segments, in place or in a vector.
@@ -43,7 +43,7 @@ impl Model for Segments {
 }
 
 impl Segments {
-    /// Returns an empty list, without allocating memory.
+    /// Returns an empty list, without allocating memory. `alloc` is the allocator of its vector.
     #[inline]
     pub fn empty(alloc: Global) -> Segments
         ensures { result ≡ [] }
@@ -158,8 +158,9 @@ impl Segments {
         }
     }
 
-    /// Removes all segments. Keeps the memory of the list's vector for further segments, unless it
-    /// has capacity for more than [`MOST_SPARE`]; it is freed then.
+    /// Removes all segments, without allocating memory. Keeps the memory of the list's vector for
+    /// later segments, or frees it if it has capacity for more than four ([`MOST_SPARE`]). `alloc`
+    /// is the allocator for later segments.
     #[inline(never)]
     pub(crate) fn clear(&mut self, alloc: Global)
         ensures { self.new ≡ [] }
@@ -208,9 +209,9 @@ fn shrink(segments: &mut Vec<Segment>)
     segments.shrink_to_fit();
 }
 
-/// Shrinks the capacity of `segments` to the number of its elements if it is greater than that
-/// number by more than [`MOST_SPARE`]. If memory allocation fails, leaves it as it is; that isn't
-/// an error.
+/// Shrinks the capacity of `segments` to the number of its elements if it has spare capacity for
+/// more than four ([`MOST_SPARE`]). If memory allocation fails, leaves it as it is; that isn't an
+/// error.
 #[inline(always)]
 pub(crate) fn shrink_if_spare(segments: &mut Vec<Segment>)
     ensures { segments.new.items ≡ segments.old.items }

@@ -22,8 +22,8 @@ const NO_ADVERTISE: u32 = 0xFFFF_FF02;
 /// AS, nor to other members of its confederation (RFC 1997).
 const NO_EXPORT_SUBCONFED: u32 = 0xFFFF_FF03;
 
-/// The ASCII characters around the AS numbers of a segment that isn't a plain sequence, and between
-/// them.
+/// The ASCII characters around and between the AS numbers of a segment whose text is in brackets: a
+/// set, or a segment of a confederation.
 #[derive(Clone, Copy)]
 struct Brackets {
     /// The character before the first AS number.
@@ -57,9 +57,9 @@ const CONFED_SET_BRACKETS: Brackets = Brackets {
 
 impl AsPath {
     /// Appends the path as text, as in `65001 65002 {1,2}`: the AS numbers of sequences, and each
-    /// other segment in brackets (`{1,2}` for a set, `(1 2)` and `[1,2]` for confederations),
-    /// joined by spaces. For a path without segments, appends nothing. Returns `AllocError` if
-    /// memory allocation fails; `text` is unchanged then.
+    /// other segment in brackets, joined by spaces. A set is `{1,2}`, a confederation sequence
+    /// `(1 2)`, and a confederation set `[1,2]`. For a path without segments, appends nothing.
+    /// Returns `AllocError` if memory allocation fails; `text` is unchanged then.
     #[tactic(auto, unfolding(crate::specs::Text::path_text))]
     pub fn append_to(&self, text: &mut Text) -> Result<(), AllocError>
         ensures appended { OnOk result (text.new ≡ text.old ++ path_text self.now) }
@@ -75,8 +75,8 @@ impl AsPath {
         result
     }
 
-    /// Appends the path as text, as in `65001 65002 {1,2}`, to a vector of octets. The text is that
-    /// of [`AsPath::append_to`], which appends to a [`Text`] instead. Returns `AllocError` if
+    /// Appends the path as text, as in `65001 65002 {1,2}`, to a vector of octets.
+    /// [`AsPath::append_to`] appends the same text to a [`Text`] instead. Returns `AllocError` if
     /// memory allocation fails; `text` is unchanged then.
     pub fn put_text(&self, text: &mut Vec<u8>) -> Result<(), AllocError>
         ensures appended { OnOk result (text.new.items ≡ text.old.items ++ path_text self.now) }
@@ -90,9 +90,9 @@ impl AsPath {
 }
 
 /// Appends communities (RFC 1997) as text, joined by spaces, as in `65000:1 no-export`. Each is its
-/// two 16-bit halves in decimal, joined by a colon, but three have names: `no-export`,
-/// `no-advertise` and `local-AS`. Appends nothing if there are none. Returns `AllocError` if memory
-/// allocation fails; `text` is unchanged then.
+/// two 16-bit halves in decimal, joined by a colon, but NO_EXPORT, NO_ADVERTISE and
+/// NO_EXPORT_SUBCONFED are `no-export`, `no-advertise` and `local-AS`. Appends nothing if there are
+/// none. Returns `AllocError` if memory allocation fails; `text` is unchanged then.
 pub fn append_communities(communities: &[u32], text: &mut Text) -> Result<(), AllocError>
     ensures appended { OnOk result (text.new ≡ text.old ++ communities_text communities.now) }
     ensures unchanged { OnErr result (text.new ≡ text.old) }
@@ -118,10 +118,9 @@ pub fn put_communities(communities: &[u32], text: &mut Vec<u8>) -> Result<(), Al
     result
 }
 
-/// Removes the last octet of `text` if it has more than `before` octets, or else leaves it
-/// unchanged. `before` is the length that `text` had before words were appended to it, each with a
-/// separator after it. So the separator after the last word is removed, and nothing if there were
-/// no words.
+/// Removes the last octet of `text`, the separator after the last of the words that were appended
+/// to it, each with a separator. Leaves `text` unchanged if it has no more than `before` octets,
+/// its length before the words were appended: there were none then.
 fn drop_separator(before: usize, text: &mut Text)
     ensures { JoinsWords before text.old text.new }
 {
@@ -129,9 +128,9 @@ fn drop_separator(before: usize, text: &mut Text)
     text.truncate(end);
 }
 
-/// Appends the words of the segments, with a space after each, the last too: `65001 {1,2} `. The AS
-/// numbers of a plain sequence are a word each; any other segment is one word, in brackets. Fails
-/// if memory allocation fails; some of the words may have been appended then.
+/// Appends `segments` as text, as words with a space after each, the last too: `65001 {1,2} `. Each
+/// AS number of a plain sequence is a word; any other segment is one word, in brackets. Fails if
+/// memory allocation fails; some of the words may have been appended then.
 fn put_segments(segments: &[Segment], text: &mut Text) -> Result<(), AllocError>
     ensures appended { OnOk result (text.new ≡
         text.old ++ ended_words SPACE (flat_map segment_words segments.now)) }

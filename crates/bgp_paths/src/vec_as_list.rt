@@ -31,7 +31,7 @@ impl<T: Drop> VecAsList<T> {
         VecAsList { items }
     }
 
-    /// Returns an empty list, without allocating memory.
+    /// Returns an empty list, without allocating memory. `alloc` is the allocator of its vector.
     #[inline]
     pub fn empty(alloc: Global) -> Self
         ensures { result ≡ [] }

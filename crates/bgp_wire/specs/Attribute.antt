@@ -21,7 +21,8 @@ pub record Attribute : Type 0 where
   pub kind : ℕ
   pub value : List ℕ
 
--- whether the extended length flag is set, so that the length takes two octets
+-- whether `flags` have the Extended Length bit set, 0x10, so that the length of the attribute takes two
+-- octets (RFC 4271, section 4.3)
 abbrev pub is_extended : ℕ → Bool
 is_extended flags = not (bit_and flags EXTENDED_LENGTH == 0)
 
@@ -68,20 +69,21 @@ abbrev pub octets_or_empty : Option (List ℕ) → List ℕ
 octets_or_empty None = []
 octets_or_empty (Some octets) = octets
 
--- an attribute without content is present, with no octets, exactly if the flag is true
+-- the flag is true and the value is present and empty, or the flag is false and the value is absent (`None`):
+-- an attribute without content, such as ATOMIC_AGGREGATE, is a flag
 abbrev pub SpellsPresence : Bool → Option (List ℕ) → Type 0
 SpellsPresence false None = Unit {0}
 SpellsPresence true (Some octets) = octets ≡ []
 SpellsPresence false (Some octets) = ⊥
 SpellsPresence true None = ⊥
 
--- the number that stands for an origin: 0, 1 or 2
+-- the number that stands for an origin: 0 for IGP, 1 for EGP, 2 for INCOMPLETE (RFC 4271, section 4.3)
 abbrev pub origin_code : Origin → ℕ
 origin_code Igp = ORIGIN_IGP
 origin_code Egp = ORIGIN_EGP
 origin_code Incomplete = ORIGIN_INCOMPLETE
 
--- the octets are one octet, the number of an origin
+-- the octets are one octet, the number of the origin `value` (`origin_code`)
 abbrev pub SpellsOrigin : Origin → List ℕ → Type 0
 SpellsOrigin value octets = octets ≡ origin_code value ∷ []
 
@@ -103,6 +105,6 @@ pub record SpellsAggregatorAt (width : AsWidth) (value : Aggregator) (octets : L
   pub addressed : SpellsIPv4 value.addr address
   pub whole : octets ≡ number ++ address
 
--- the octets are an AS number of two or of four octets and then an IPv4 address
+-- the octets are the AS number of `value`, in two or in four octets, and then its IPv4 address
 abbrev pub SpellsAggregator : Aggregator → List ℕ → Type 0
 SpellsAggregator value octets = (width : AsWidth) × SpellsAggregatorAt width value octets

@@ -41,8 +41,9 @@ merged_aggregator (Some own) (Some as4) = Some (if own.asn == AS_TRANS then as4 
 merged_aggregator (Some own) None = Some own
 merged_aggregator None as4 = None
 
--- `path` is AS_PATH (`own`) merged with AS4_PATH, whose value is the third argument; it is `own` if AS4_PATH
--- is ignored (the first argument), absent or malformed
+-- `path` is `own`, the path of AS_PATH, merged (`IsMerge`) with that of AS4_PATH, whose value is the third
+-- argument; it is `own` itself if the first argument is true (AS4_PATH is ignored), or if AS4_PATH is absent
+-- or malformed
 abbrev pub IsPathMerged : Bool → AsPath → Option (List ℕ) → AsPath → Type 0
 IsPathMerged true own value path = path ≡ own
 IsPathMerged false own None path = path ≡ own
@@ -70,7 +71,8 @@ pub record AreAsSent (path : AsPath) (aggregator : Option Aggregator) (list : Li
   pub own_spelled : SpellsOptional SpellsAggregator aggregator (first_value AGGREGATOR list)
 
 -- `path` and `aggregator` are those of the attributes `list`, whose AS_PATH has AS numbers of this width:
--- AS_PATH and AGGREGATOR, which are merged with AS4_PATH and AS4_AGGREGATOR if the width is two octets
+-- AS_PATH and AGGREGATOR, which for two octets are merged with AS4_PATH and AS4_AGGREGATOR (RFC 6793, section
+-- 4.2.3); for four octets these two are ignored
 abbrev pub ArePathAndAggregatorOf : AsWidth → AsPath → Option Aggregator → List Attribute → Type 0
 ArePathAndAggregatorOf Two path aggregator list = AreMergedWithAs4 path aggregator list
 ArePathAndAggregatorOf Four path aggregator list = AreAsSent path aggregator list
@@ -78,16 +80,18 @@ ArePathAndAggregatorOf Four path aggregator list = AreAsSent path aggregator lis
 -- ---- the content of a list of path attributes (RFC 4271, section 5; RFC 1997; RFC 4760; RFC 6396, section
 -- 4.3.4; RFC 6793)
 
--- for each type of attribute the value of the first attribute of this type, or `None`
+-- the values that count in a list of attributes: for the number of each type the value of the first attribute
+-- of this type, or `None` if there is none
 abbrev pub FirstValues : Type 0
 FirstValues = ℕ → Option (List ℕ)
 
--- for each type the value of the first attribute of this type in the list
+-- for the number of each type (`kind`) the value of the first attribute of this type in `list`, or `None` if
+-- there is none
 abbrev pub first_values : List Attribute → FirstValues
 first_values list kind = first_value kind list
 
--- ORIGIN, MULTI_EXIT_DISC, LOCAL_PREF and ATOMIC_AGGREGATE of `attrs` are what these first values spell, and
--- absent where they are
+-- ORIGIN, MULTI_EXIT_DISC, LOCAL_PREF and ATOMIC_AGGREGATE of `attrs` are what their values in `first` spell;
+-- where `first` has none, they are `None`, and false for ATOMIC_AGGREGATE
 abbrev pub AreScalarAttrsOf : Attrs → FirstValues → Type 0
 AreScalarAttrsOf attrs first =
     SpellsOptional SpellsOrigin attrs.origin (first ORIGIN)

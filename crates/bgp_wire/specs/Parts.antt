@@ -21,7 +21,8 @@ use Rattle.bgp_wire.specs.declared.parts.MessageKind.TheVariants as kinds
 
 -- ---- absent attributes
 
--- attributes that are all absent
+-- the attributes of a route that has none: an empty path, no communities, false for ATOMIC_AGGREGATE, and
+-- `None` for each other
 abbrev pub absent_attrs : Attrs
 absent_attrs = record {
   next_hop = None;
@@ -34,13 +35,13 @@ absent_attrs = record {
   atomic = false;
 }
 
--- the attributes with an empty path and no communities
+-- `attrs` with an empty path and no communities, and otherwise unchanged
 abbrev pub without_path_and_communities : Attrs → Attrs
 without_path_and_communities attrs = record attrs { path = empty_path; communities = [] }
 
 -- ---- an UPDATE in parts
 
--- the parts of an UPDATE without prefixes and attributes
+-- the parts (`UpdateBuffer`) of an UPDATE without prefixes and attributes
 abbrev pub empty_parts : UpdateBuffer
 empty_parts = record {
   withdrawn = [];
@@ -51,7 +52,8 @@ empty_parts = record {
   mp_announced = [];
 }
 
--- the UPDATE of these parts: the attributes of the prefixes of MP_REACH_NLRI are the others with its next hop
+-- the UPDATE of these parts: `mp_attrs`, for the prefixes of MP_REACH_NLRI, are `attrs` with the next hop
+-- `mp_hop`, or `None` if there are no such prefixes; the other fields are those of the parts
 abbrev pub update_of_parts : UpdateBuffer → Update
 update_of_parts parts = record {
   withdrawn = parts.withdrawn;
@@ -62,7 +64,7 @@ update_of_parts parts = record {
   mp_announced = parts.mp_announced;
 }
 
--- the message of this kind: the UPDATE of the parts, or a message of another type, which has none
+-- the message of this kind: the UPDATE of these parts, or a message of another type, which has just the type
 abbrev pub message_of_parts : MessageKind → UpdateBuffer → Message
 message_of_parts kinds.Update parts = messages.Update (update_of_parts parts)
 message_of_parts (kinds.Other kind) parts = messages.Other kind

@@ -14,7 +14,8 @@ use Rattle.bgp_paths.specs.Path.{SpellsU32, SpellsPath}
 
 -- ---- the types of attributes that were seen
 
--- for each type below `KINDS`, whether an attribute of it was seen, and whether more than one was
+-- at the index of each type of attribute below `KINDS`, 19: whether one of it was seen in a list (`seen`),
+-- and whether more than one was (`again`)
 pub record SeenFlags : Type 0 where
   pub seen : List Bool
   pub again : List Bool
@@ -27,7 +28,7 @@ pub record AreTypesOf (types : SeenFlags) (list : List Attribute) : Type 0 where
 
 -- ---- attributes before AS4_PATH and AS4_AGGREGATOR are merged into them
 
--- the octets of a borrowed slice, if there is one
+-- the octets of a borrowed slice, or `None` if there is no slice
 abbrev pub lent_octets : Option (Bor (List ℕ)) → Option (List ℕ)
 lent_octets None = None
 lent_octets (Some octets) = Some octets.now
@@ -68,7 +69,7 @@ pub record ReadsList (width : AsWidth) (attrs : Attrs) (later : DeferredValues) 
 
 -- ---- while a list is parsed
 
--- the octets spell the content if they are present; otherwise it may be any
+-- `octets` spell `content` if they are present; if they are absent (`None`), it may be any
 abbrev pub SpellsIfPresent : {A : Type 0} → (A → List ℕ → Type 0) → A → Option (List ℕ) → Type 0
 SpellsIfPresent {A} Spells content None = Unit {0}
 SpellsIfPresent {A} Spells content (Some octets) = Spells content octets
@@ -83,28 +84,30 @@ pub record ReadSoFar (width : AsWidth) (attrs : Attrs) (later : DeferredValues) 
   pub communities : SpellsIfPresent (SpellsAll SpellsU32) attrs.communities (first COMMUNITIES)
   pub kept : AreDeferredValuesOf later first
 
--- the first of two values that is present
+-- the first of two values if it is present, or else the second
 abbrev pub value_or : Option (List ℕ) → Option (List ℕ) → Option (List ℕ)
 value_or old None = old
 value_or None (Some octets) = Some octets
 value_or (Some first) (Some octets) = Some first
 
--- for a value `octets` of type `kind`, what it is for the type `wanted`: itself, or `None` if the types
--- differ
+-- for an attribute of type `kind` with value `octets`: its value if `wanted` is its type, or else `None`
 abbrev pub value_at : ℕ → List ℕ → ℕ → Option (List ℕ)
 value_at kind octets wanted = if kind == wanted then Some octets else None
 
--- the first values of a list with one attribute more at its end, of this type and value
+-- for each type the value of its first attribute in a list that ends with one of type `kind` and value
+-- `octets`, where `first` has those of the list without it: only that of `kind` may change, if it was `None`
 abbrev pub with_value : ℕ → List ℕ → FirstValues → FirstValues
 with_value kind octets first wanted = value_or (first wanted) (value_at kind octets wanted)
 
--- wherever `Old` holds of first values, which have none of this type if it is below `KINDS`, `New` holds of
--- them with this value
+-- `New` holds of a list with one attribute more at its end, of type `kind` and value `octets`, if `Old` holds
+-- of the list without it, which has none of `kind` if that is below `KINDS`. Both are of `first_values`, by
+-- type the value of the first attribute
 abbrev pub HoldsWithValue : ℕ → List ℕ → (FirstValues → Type 0) → (FirstValues → Type 0) → Type 0
 HoldsWithValue kind octets Old New = (first : FirstValues) → (kind < KINDS → first kind ≡ None) → Old first → New (with_value kind octets first)
 
--- clearing what a list doesn't have: if `old` has what was parsed of a list of these types, where an absent
--- path and absent communities may be any, `new` is its content without the merge
+-- `new` is the content, before AS4_PATH and AS4_AGGREGATOR are merged, of any list with these types of which
+-- `old` is the content but for a path or communities left over where the list has no AS_PATH or COMMUNITIES;
+-- `new` has none there
 abbrev pub AreCleared : SeenFlags → Attrs → Attrs → Type 0
 AreCleared types old new =
     (width : AsWidth) (later : DeferredValues) (list : List Attribute) → AreTypesOf types list

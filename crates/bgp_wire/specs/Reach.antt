@@ -44,25 +44,25 @@ pub record SpellsHopAfterFamily (hop : Address) (octets : List ℕ) : Type 0 whe
   pub spelled : SpellsSizedHop hop rest
   pub whole : octets ≡ 0 ∷ family_end ∷ subsequent ∷ rest
 
--- the octets are the value of MP_REACH_NLRI in a RIB entry: the next hop alone, or in full with an AFI and a
--- SAFI
+-- the octets are the value of MP_REACH_NLRI in a RIB entry with the next hop `hop` (RFC 6396, section 4.3.4):
+-- the length of the next hop, the next hop and any octets, after an AFI and a SAFI or without these
 abbrev pub SpellsRibHop : Address → List ℕ → Type 0
 SpellsRibHop hop octets = SpellsSizedHop hop octets ⊎ SpellsHopAfterFamily hop octets
 
 -- the next hop of a RIB entry for a prefix of this family, by those of NEXT_HOP (`own`) and MP_REACH_NLRI
--- (`reached`): for IPv4 the first if it is present, for IPv6 the second, and else the other
+-- (`reached`): for IPv4 `own`, or `reached` if that is absent; for IPv6 `reached`, or `own` if that is absent
 abbrev pub rib_hop : Family → Option Address → Option Address → Option Address
 rib_hop V4 own reached = option_or own reached
 rib_hop V6 own reached = option_or reached own
 
 -- ---- the content of MP_REACH_NLRI and MP_UNREACH_NLRI in an UPDATE (RFC 4760, sections 3 and 4)
 
--- the AFI of a family, which is below 256
+-- the AFI of a family: 1 for IPv4, 2 for IPv6
 abbrev pub family_code : Family → ℕ
 family_code V4 = AFI_IPV4
 family_code V6 = AFI_IPV6
 
--- the octets of the AFI of a family and the SAFI of unicast
+-- the three octets of a family's AFI, in two octets, and SAFI 1, unicast (RFC 4760, sections 3 and 6)
 abbrev pub unicast_octets : Family → List ℕ
 unicast_octets family = 0 ∷ family_code family ∷ SAFI_UNICAST ∷ []
 
@@ -102,16 +102,16 @@ pub record SpellsAfterUnicast {A : Type 0} (Spells : Family → A → List ℕ �
   pub whole : octets ≡ unicast_octets family ++ rest
   pub spelled : Spells family value rest
 
--- the value of MP_REACH_NLRI has this content; `None` if it is absent or of another AFI or SAFI than IPv4 or
--- IPv6 unicast
+-- the value of MP_REACH_NLRI, if it is of IPv4 or IPv6 unicast, has the content `reach`; if the attribute is
+-- absent, or of another AFI or SAFI, the content is `None`
 abbrev pub SpellsMpReach : Option Reach → Option (List ℕ) → Type 0
 SpellsMpReach None None = Unit {0}
 SpellsMpReach None (Some octets) = HasOtherAfiSafi octets
 SpellsMpReach (Some reach) (Some octets) = SpellsAfterUnicast SpellsReach reach octets
 SpellsMpReach (Some reach) None = ⊥
 
--- the value of MP_UNREACH_NLRI withdraws these prefixes; none if it is absent or of another AFI or SAFI than
--- IPv4 or IPv6 unicast
+-- the value of MP_UNREACH_NLRI, if it is of IPv4 or IPv6 unicast, withdraws these prefixes; if the attribute
+-- is absent, or of another AFI or SAFI, there are none
 abbrev pub SpellsMpUnreach : List Network → Option (List ℕ) → Type 0
 SpellsMpUnreach prefixes None = prefixes ≡ []
 SpellsMpUnreach prefixes (Some octets) = (HasOtherAfiSafi octets × (prefixes ≡ [])) ⊎ SpellsAfterUnicast (λ family. SpellsAll (SpellsNetwork family)) prefixes octets
@@ -126,7 +126,7 @@ abbrev pub reach_hop : Option Reach → Option Address
 reach_hop None = None
 reach_hop (Some reach) = Some reach.hop
 
--- the attributes with this next hop, or `None` if there are no prefixes
+-- `attrs` with `hop` in place of the next hop, or `None` if the list of prefixes is empty
 abbrev pub attrs_with_next_hop : Attrs → Option Address → List Network → Option Attrs
 attrs_with_next_hop attrs hop [] = None
 attrs_with_next_hop attrs hop (prefix ∷ prefixes) = Some record attrs { next_hop = hop }

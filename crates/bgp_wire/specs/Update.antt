@@ -67,8 +67,8 @@ pub record SpellsUpdate (width : AsWidth) (update : Update) (body : List ℕ) : 
   pub spelled : SpellsAll SpellsAttribute list attributes
   pub said : IsUpdateOf width update list
 
--- the octets are this message, with AS numbers of this width in AS_PATH; the body of one that isn't an UPDATE
--- may be any octets
+-- the octets are this message, a header (RFC 4271, section 4.1) and a body: that of an UPDATE has AS numbers
+-- of this width in AS_PATH, and that of another type may be any octets
 abbrev pub SpellsMessage : AsWidth → Message → List ℕ → Type 0
 SpellsMessage width (messages.Update update) octets = (body : List ℕ) × IsMessage UPDATE body octets × SpellsUpdate width update body
 SpellsMessage width (messages.Other kind) octets = (kind ≡ UPDATE → ⊥) × (body : List ℕ) × IsMessage kind body octets

@@ -20,11 +20,11 @@ use std::alloc::Global;
 /// (RFC 6793, section 9).
 const AS_TRANS: u32 = 23456;
 
-/// Merges AS4_PATH and AS4_AGGREGATOR into the AS path and the aggregator of `attrs` (RFC 6793,
-/// section 4.2.3). `later` has the octets of the two attributes, as far as they were sent. `width`
-/// is the size of the AS numbers in AS_PATH: with four octets, nothing is merged. Fails with
-/// `Memory` if memory allocation fails, and never otherwise; `attrs` is then unspecified except for
-/// its next hop, which never changes.
+/// Merges AS4_PATH and AS4_AGGREGATOR into the AS path and the aggregator of `attrs` if `width`,
+/// the size of the AS numbers in AS_PATH, is two octets (RFC 6793, section 4.2.3). If it is four,
+/// `attrs` is unchanged. `later` has the values of the two attributes, each `None` if absent; a
+/// malformed one counts as absent. Fails only if memory allocation fails, with `Memory`; `attrs` is
+/// then unspecified except for its next hop, which never changes.
 #[inline(always)]
 pub(crate) fn merge_as4(
     alloc: Global,
@@ -47,11 +47,11 @@ pub(crate) fn merge_as4(
 }
 
 /// Merges AS4_PATH and AS4_AGGREGATOR into the AS path and the aggregator of `attrs`, whose AS
-/// numbers were sent in two octets (RFC 6793, section 4.2.3). `later` has the octets of the two
-/// attributes, as far as they were sent. A malformed one counts as absent, and so does
-/// AS4_AGGREGATOR without AGGREGATOR. If both aggregators are present and the AS number of
-/// AGGREGATOR isn't AS_TRANS, AS4_PATH and AS4_AGGREGATOR are ignored. Fails only with `Memory`;
-/// `attrs` is then unspecified except for its next hop, which never changes.
+/// numbers were sent in two octets (RFC 6793, section 4.2.3). `later` has the values of the two
+/// attributes, each `None` if absent. A malformed one counts as absent, and so does AS4_AGGREGATOR
+/// without AGGREGATOR. If both aggregators are present and the AS number of AGGREGATOR isn't
+/// AS_TRANS, AS4_PATH and AS4_AGGREGATOR are ignored. Fails only if memory allocation fails, with
+/// `Memory`; `attrs` is then unspecified except for its next hop, which never changes.
 #[inline(never)]
 fn merge_present_as4(
     alloc: Global,

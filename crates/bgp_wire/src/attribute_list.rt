@@ -30,9 +30,9 @@ pub(crate) struct AttributeListOctets<'a> {
 }
 
 /// The values of MP_REACH_NLRI, MP_UNREACH_NLRI, AS4_PATH and AS4_AGGREGATOR in a list of path
-/// attributes, as octets. They are parsed after the list, because that depends on other attributes
-/// or on whether the list is of an UPDATE or a RIB entry. Each is of the first attribute of its
-/// type, or `None` if the list has none.
+/// attributes, as octets. They are parsed after the list, since their parsing depends on other
+/// attributes or on whether the list is of an UPDATE or a RIB entry. Each is the value of the first
+/// attribute of its type, or `None` if the list has none.
 #[derive(Clone, Copy, Default)]
 pub(crate) struct DeferredValues<'a> {
     /// The value of MP_REACH_NLRI, or `None` if it is absent.
@@ -45,11 +45,11 @@ pub(crate) struct DeferredValues<'a> {
     pub(crate) as4_aggregator: Option<&'a [u8]>,
 }
 
-/// Parses the value of the attribute `framed` into `attrs`, or stores its octets in `later` if it
-/// is to be parsed after the list. `width` is the size of the AS numbers in AS_PATH. Attributes of
-/// unknown types are ignored. The caller passes the first attribute of each type only. Fails with
-/// `Malformed` if the value doesn't have the format of its type, and with `Memory` if memory
-/// allocation fails; `attrs` is then unspecified.
+/// Parses the value of the attribute `framed` into `attrs`, or stores its octets in `later` if
+/// [`DeferredValues`] has a field for its type. `width` is the size of the AS numbers in AS_PATH.
+/// Attributes of unknown types are ignored. The caller passes only the first attribute of each type
+/// in a list. Fails with `Malformed` if the value doesn't have the format of its type, and with
+/// `Memory` if memory allocation fails; `attrs` is then unspecified, and `later` unchanged.
 #[inline(always)]
 fn read_attribute<'a>(
     alloc: Global,
@@ -89,11 +89,10 @@ fn read_attribute<'a>(
     Ok(())
 }
 
-/// Clears the AS path and the communities that `attrs` still has from the attributes parsed before,
-/// if the new list of attributes doesn't have them. `types` has the types of the new list: the path
-/// is cleared unless AS_PATH is among them, and the communities unless COMMUNITIES is. The memory
-/// of cleared communities is freed if it has capacity for more than [`MOST_SPARE`] of them, or else
-/// kept.
+/// Clears the AS path of `attrs` if AS_PATH isn't among `types`, and its communities if COMMUNITIES
+/// isn't. `types` are the types of the list of attributes just parsed; a path or communities that
+/// it doesn't have are left over in `attrs` from an earlier list. The memory of cleared communities
+/// is freed if it has capacity for more than [`MOST_SPARE`] of them, or else kept.
 #[inline(always)]
 fn clear_absent_lists(alloc: Global, attrs: &mut Attrs, types: &SeenTypes)
     ensures { AreCleared types.now attrs.old attrs.new }
@@ -118,12 +117,13 @@ fn free_communities(communities: &mut Communities)
     communities.items = Vec::new(*communities.items.allocator());
 }
 
-/// Parses the list of path attributes `sent` into `attrs`, whose memory is reused. Attributes that
-/// the list doesn't have become `None`, false or empty. Puts the octets of values that are to be
-/// parsed later into `later`, and the types of all attributes into `types`. Requires that `later`
-/// and `types` are empty. Fails with `Malformed` if `sent` isn't a list of attributes or if a value
-/// doesn't have the format of its type, and with `Memory` if memory allocation fails; all three are
-/// then unspecified.
+/// Parses the list of path attributes `sent` into `attrs`, whose memory is reused. Of several
+/// attributes of one type, the first is parsed. Attributes that the list doesn't have become
+/// `None`, false or empty. Stores the values that [`DeferredValues`] names in `later`, unparsed,
+/// and the types of all attributes in `types`. Requires that `later` and `types` are empty. Fails
+/// with `Malformed` if `sent` isn't a list of attributes or if a value doesn't have the format of
+/// its type, and with `Memory` if memory allocation fails; `attrs`, `later` and `types` are then
+/// unspecified.
 #[inline(always)]
 pub(crate) fn read_attribute_list<'a>(
     alloc: Global,

@@ -13,7 +13,7 @@ use crate::update::fill_update;
 use bgp_paths::{AsWidth, WireFault};
 use std::alloc::Global;
 
-/// A parsed BGP message (RFC 4271, section 4): an UPDATE, or the type of another.
+/// A parsed BGP message (RFC 4271, section 4): an UPDATE, or only the type of any other message.
 #[derive(Debug, Drop)]
 pub enum Message {
     /// An UPDATE message: prefixes that are withdrawn or announced, and path attributes.
@@ -33,8 +33,8 @@ const HEADER_SIZE: usize = 19;
 /// The size of the marker with which a message begins, in octets (RFC 4271, section 4.1).
 const MARKER_SIZE: usize = 16;
 
-/// A message split into the number of its type (`kind`) and its body, the octets after the header,
-/// which aren't parsed.
+/// A BGP message split into the number of its type (`kind`) and its body, the octets after the
+/// header, which aren't parsed (RFC 4271, section 4.1).
 #[derive(Clone, Copy)]
 struct RawMessage<'a> {
     /// The type of the message, by its number.
@@ -63,10 +63,10 @@ fn split_message(octets: &[u8]) -> Option<RawMessage<'_>>
     Some(RawMessage { kind, body })
 }
 
-/// Parses `octets` as one BGP message. `width` is the size of the AS numbers in its AS_PATH. Fails
-/// with `Malformed` if the length in the header isn't the number of `octets`, or if it is an UPDATE
-/// whose body is malformed, and with `Memory` if memory allocation fails. The marker isn't checked.
-/// [`read_message_into`] reuses memory instead.
+/// Parses `octets` as one BGP message: an UPDATE, or only the type of any other. `width` is the
+/// size of the AS numbers in AS_PATH. Fails with `Malformed` if the length in the header isn't the
+/// number of `octets` or if the body of an UPDATE is malformed, and with `Memory` if memory
+/// allocation fails. The marker isn't checked. [`read_message_into`] reuses memory instead.
 pub fn read_message(alloc: Global, width: AsWidth, octets: &[u8]) -> Result<Message, WireFault>
     ensures { ParsesOrFails (SpellsMessage width) octets.now result }
 {
@@ -77,11 +77,11 @@ pub fn read_message(alloc: Global, width: AsWidth, octets: &[u8]) -> Result<Mess
     }
 }
 
-/// Parses `octets` as one BGP message, and returns whether it is an UPDATE. `width` is the size of
-/// the AS numbers in AS_PATH. An UPDATE replaces `parts`, reusing their memory; a message of
-/// another type leaves them unchanged. Fails with `Malformed` if the length in the header isn't the
-/// number of `octets` or if the UPDATE is malformed, and with `Memory` if memory allocation fails;
-/// `parts` is then unspecified.
+/// Parses `octets` as one BGP message, into `parts` if it is an UPDATE, and returns its type.
+/// `width` is the size of the AS numbers in AS_PATH. The memory of `parts` is reused; a message of
+/// another type leaves `parts` unchanged. Fails with `Malformed` if the length in the header isn't
+/// the number of `octets` or if the UPDATE is malformed, and with `Memory` if memory allocation
+/// fails; `parts` is then unspecified.
 #[inline]
 fn fill_message(
     alloc: Global,
@@ -104,11 +104,11 @@ fn fill_message(
     Ok(MessageKind::Update)
 }
 
-/// Parses `octets` as one BGP message, and returns whether it is an UPDATE. `width` is the size of
-/// the AS numbers in AS_PATH. An UPDATE replaces `parts`, reusing their memory; a message of
-/// another type leaves them unchanged. Fails with `Malformed` if the length in the header isn't the
-/// number of `octets` or if the UPDATE is malformed, and with `Memory` if memory allocation fails;
-/// `parts` is then empty, without memory.
+/// Parses `octets` as one BGP message, into `parts` if it is an UPDATE, and returns its type.
+/// `width` is the size of the AS numbers in AS_PATH. The memory of `parts` is reused; a message of
+/// another type leaves `parts` unchanged. Fails with `Malformed` if the length in the header isn't
+/// the number of `octets` or if the UPDATE is malformed, and with `Memory` if memory allocation
+/// fails; `parts` is then empty, without memory.
 pub fn read_message_into(
     alloc: Global,
     parts: &mut UpdateBuffer,

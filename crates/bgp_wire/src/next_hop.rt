@@ -73,11 +73,11 @@ fn read_rib_next_hop(octets: &[u8]) -> Option<Addr>
     read_length_prefixed_next_hop(rest)
 }
 
-/// Chooses the next hop of a RIB entry for a prefix of `family` (RFC 6396, section 4.3.4). `hop` is
-/// that of NEXT_HOP before, and `mp_reach` is the value of MP_REACH_NLRI, or `None` if that is
-/// absent. If the family is IPv6 or `hop` is `None`, `hop` becomes the next hop in `mp_reach`;
-/// otherwise, or if `mp_reach` is `None`, it is unchanged. Fails if `mp_reach` is malformed, be its
-/// next hop needed or not; `hop` is then unchanged.
+/// Chooses the next hop of a RIB entry for a prefix of `family` (RFC 6396, section 4.3.4). On
+/// entry, `hop` is the value of NEXT_HOP, and `mp_reach` is the value of MP_REACH_NLRI, each `None`
+/// if absent. If the family is IPv6 or `hop` is `None`, `hop` becomes the next hop in `mp_reach`;
+/// otherwise, or if `mp_reach` is `None`, it is unchanged. Fails if `mp_reach` is malformed, even
+/// if its next hop isn't needed; `hop` is then unchanged.
 #[inline(always)]
 pub(crate) fn choose_rib_next_hop(
     family: Family,

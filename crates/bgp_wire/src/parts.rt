@@ -59,8 +59,8 @@ pub struct UpdateBuffer {
     pub mp_announced: Prefixes,
 }
 
-/// Whether a message is an UPDATE or of another type (OPEN, KEEPALIVE, NOTIFICATION and so on).
-/// [`read_message_into`](crate::read_message_into) returns it, since it parses UPDATEs alone, into
+/// The type of a BGP message: an UPDATE, or another (OPEN, KEEPALIVE, NOTIFICATION and so on).
+/// [`read_message_into`](crate::read_message_into) returns it, and parses only UPDATEs, into an
 /// [`UpdateBuffer`].
 #[derive(Clone, Copy, Debug)]
 pub enum MessageKind {
@@ -72,8 +72,8 @@ pub enum MessageKind {
 }
 
 impl UpdateBuffer {
-    /// Returns an UPDATE without prefixes and path attributes, without allocating memory. Messages
-    /// can be parsed into it.
+    /// Returns a buffer without prefixes and path attributes, into which messages can be parsed.
+    /// Allocates no memory.
     pub fn empty(alloc: Global) -> UpdateBuffer
         ensures { result ≡ empty_parts }
     {

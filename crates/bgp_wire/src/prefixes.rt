@@ -14,10 +14,10 @@ use ip_prefix::{Family, Prefix};
 pub type Prefixes = VecAsList<Prefix>;
 
 /// Parses `octets` as prefixes of `family`, one after the other, each a length in bits and as few
-/// octets as hold them (RFC 4271, section 4.3), and replaces `prefixes` with them. Empty `octets`
-/// are no prefixes. Fails with `Malformed` if `octets` ends inside a prefix or if a length is more
-/// than 32 (IPv4) or 128 (IPv6) bits, and with `Memory` if memory allocation fails; `prefixes` is
-/// then unspecified.
+/// octets as hold them (RFC 4271, section 4.3), and replaces `prefixes` with them. If `octets` is
+/// empty, `prefixes` becomes empty. Fails with `Malformed` if `octets` ends inside a prefix or if a
+/// length is more than 32 (IPv4) or 128 (IPv6) bits, and with `Memory` if memory allocation fails;
+/// `prefixes` is then unspecified.
 #[inline(always)]
 pub(crate) fn fill_prefixes(
     prefixes: &mut Prefixes,

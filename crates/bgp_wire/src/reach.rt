@@ -20,8 +20,9 @@ const AFI_IPV6: u8 = 2;
 /// The SAFI of prefixes for unicast forwarding (RFC 4760, section 6).
 const SAFI_UNICAST: u8 = 1;
 
-/// Whether the AFI and the SAFI at the start of the value of MP_REACH_NLRI or MP_UNREACH_NLRI are
-/// those of IPv4 or IPv6 unicast, the only ones that are parsed (RFC 4760, sections 3 and 4).
+/// The AFI and the SAFI at the start of the value of MP_REACH_NLRI or MP_UNREACH_NLRI (RFC 4760,
+/// sections 3 and 4): IPv4 or IPv6 unicast, with the octets after the SAFI, or any others, whose
+/// prefixes aren't parsed.
 #[derive(Clone, Copy)]
 enum AfiSafi<'a> {
     /// Unicast of IPv4 or IPv6, and the octets of the value after the SAFI.
@@ -76,10 +77,11 @@ fn split_next_hop(octets: &[u8]) -> Option<NextHopAndRest<'_>>
     Some(NextHopAndRest { hop, rest })
 }
 
-/// Parses `value`, the value of MP_REACH_NLRI in an UPDATE (RFC 4760, section 3), into `next_hop`
-/// and `prefixes`. If it is `None`, since the attribute is absent, or isn't of IPv4 or IPv6
-/// unicast, they become `None` and empty. Fails with `Malformed` if the value has another format,
-/// and with `Memory` if memory allocation fails; both are then unspecified.
+/// Parses `value`, the value of MP_REACH_NLRI in an UPDATE (RFC 4760, section 3), and replaces
+/// `next_hop` and `prefixes` with its own. If the attribute is absent (`value` is `None`), or isn't
+/// of IPv4 or IPv6 unicast, `next_hop` becomes `None` and `prefixes` empty. Fails with `Malformed`
+/// if the value is malformed, and with `Memory` if memory allocation fails; `next_hop` and
+/// `prefixes` are then unspecified.
 pub(crate) fn fill_mp_reach(
     next_hop: &mut Option<Addr>,
     prefixes: &mut Prefixes,
@@ -107,10 +109,10 @@ pub(crate) fn fill_mp_reach(
     }
 }
 
-/// Parses `value`, the value of MP_UNREACH_NLRI in an UPDATE (RFC 4760, section 4), into
-/// `prefixes`. If it is `None`, since the attribute is absent, or isn't of IPv4 or IPv6 unicast,
-/// they become empty. Fails with `Malformed` if the value has another format, and with `Memory` if
-/// memory allocation fails; `prefixes` is then unspecified.
+/// Parses `value`, the value of MP_UNREACH_NLRI in an UPDATE (RFC 4760, section 4), and replaces
+/// `prefixes` with its own. If the attribute is absent (`value` is `None`), or isn't of IPv4 or
+/// IPv6 unicast, `prefixes` becomes empty. Fails with `Malformed` if the value is malformed, and
+/// with `Memory` if memory allocation fails; `prefixes` is then unspecified.
 pub(crate) fn fill_mp_unreach(
     prefixes: &mut Prefixes,
     value: Option<&[u8]>,

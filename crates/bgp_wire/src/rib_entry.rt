@@ -18,8 +18,8 @@ use std::alloc::Global;
 
 /// Parses `octets` as the path attributes of a RIB entry for a prefix of `family` into `attrs`,
 /// whose memory is reused (RFC 6396, section 4.3.4). `width` is the size of the AS numbers in
-/// AS_PATH. Fails with `Malformed` or `Memory` for the reasons that [`read_rib_attrs`] names;
-/// `attrs` is then unspecified.
+/// AS_PATH. Fails with `Malformed` if `octets` is malformed, by the rules of [`read_rib_attrs`],
+/// and with `Memory` if memory allocation fails; `attrs` is then unspecified.
 #[inline]
 fn fill_rib_attrs(
     alloc: Global,
@@ -45,9 +45,9 @@ fn fill_rib_attrs(
 
 /// Parses `octets` as the path attributes of a RIB entry for a prefix of `family` (RFC 6396,
 /// section 4.3.4). `width` is the size of the AS numbers in AS_PATH. Fails with `Malformed` if
-/// `octets` isn't a list of attributes, if the first value of a type doesn't have the format of the
-/// type (but AS4_PATH and AS4_AGGREGATOR are then ignored), or if MP_REACH_NLRI is there twice.
-/// Fails with `Memory` if memory allocation fails.
+/// `octets` isn't a list of attributes, if the first attribute of a type is malformed (except that
+/// a malformed AS4_PATH or AS4_AGGREGATOR is ignored), or if MP_REACH_NLRI is there twice. Fails
+/// with `Memory` if memory allocation fails.
 pub fn read_rib_attrs(
     alloc: Global,
     family: Family,
@@ -63,8 +63,8 @@ pub fn read_rib_attrs(
 
 /// Parses `octets` as the path attributes of a RIB entry for a prefix of `family` into `attrs`,
 /// whose memory is reused (RFC 6396, section 4.3.4). `width` is the size of the AS numbers in
-/// AS_PATH. Fails with `Malformed` or `Memory` for the reasons that [`read_rib_attrs`] names; all
-/// attributes of `attrs` are then absent.
+/// AS_PATH. Fails with `Malformed` if `octets` is malformed, by the rules of [`read_rib_attrs`],
+/// and with `Memory` if memory allocation fails; all attributes of `attrs` are then absent.
 pub fn read_rib_attrs_into(
     alloc: Global,
     attrs: &mut Attrs,

@@ -9,8 +9,8 @@ ghost use Rattle.bgp_wire.specs.PlainValues.{AreTypesOf};
 use crate::framing::KINDS;
 use std::marker::Model;
 
-/// Which types of path attributes a list has, and which of them it has more than once. Types of
-/// [`KINDS`] and above are ignored: they are never in the set.
+/// Which types of path attributes a list has, and which of them it has more than once. Types
+/// numbered [`KINDS`] or above, which aren't parsed, are never in the set.
 #[derive(Drop)]
 pub(crate) struct SeenTypes {
     /// For each type, by its number, `true` if an attribute of the type was seen.
@@ -44,8 +44,8 @@ impl SeenTypes {
     }
 
     /// Adds `kind`, the type of the next attribute of the list. Returns `true` if an attribute of
-    /// this type was seen before, which is then noted as repeated; returns `false` if it is the
-    /// first, or if `kind` isn't below [`KINDS`], so that it isn't added.
+    /// this type was added before, and notes that there are several. Returns `false` if it is the
+    /// first, or if `kind` isn't below [`KINDS`]; such a type isn't added.
     #[inline]
     pub(crate) fn test_and_set(&mut self, kind: u8) -> bool
         ensures noted { (list : List Attribute) (a : Attribute) → a.kind ≡ kind →

@@ -35,8 +35,8 @@ fn split_length_prefixed(octets: &[u8]) -> Option<(&[u8], &[u8])>
 }
 
 /// Parses `octets`, the path attributes of an UPDATE, into `parts`: the attributes, and the
-/// prefixes of MP_REACH_NLRI and MP_UNREACH_NLRI. Those of the fields Withdrawn Routes and NLRI are
-/// unchanged. `width` is the size of the AS numbers in AS_PATH. On an error, `parts` is
+/// prefixes of MP_REACH_NLRI and MP_UNREACH_NLRI. The prefixes of the fields Withdrawn Routes and
+/// NLRI are unchanged. `width` is the size of the AS numbers in AS_PATH. On an error, `parts` is
 /// unspecified. Fails with `Memory` if memory allocation fails, and with `Malformed`:
 /// - if `octets` isn't a list of attributes;
 /// - if the first attribute of a type doesn't have the format of the type, except that such an
@@ -66,10 +66,9 @@ fn fill_from_attributes(
 }
 
 /// Parses `body`, the body of an UPDATE, into `parts`, whose memory is reused (RFC 4271, section
-/// 4.3). `width` is the size of the AS numbers in AS_PATH. Fails with `Malformed` if `body` isn't
-/// two fields with lengths (withdrawn routes and path attributes) and prefixes, or if these or the
-/// attributes are malformed, and with `Memory` if memory allocation fails; `parts` is then
-/// unspecified.
+/// 4.3). `width` is the size of the AS numbers in AS_PATH. Fails with `Malformed` if `body` ends
+/// before or inside the withdrawn routes or the path attributes, or if these or the prefixes after
+/// them are malformed, and with `Memory` if memory allocation fails; `parts` is then unspecified.
 #[inline]
 pub(crate) fn fill_update(
     alloc: Global,

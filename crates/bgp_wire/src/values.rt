@@ -104,7 +104,7 @@ pub(crate) fn set_if_found<T: Copy>(
     Ok(())
 }
 
-/// Sets `atomic` to true if `value`, the value of ATOMIC_AGGREGATE, is empty, as it is to be (RFC
+/// Sets `atomic` to true if `value`, the value of ATOMIC_AGGREGATE, is empty, as it must be (RFC
 /// 4271, section 4.3). Fails with [`IllFormed`] if it isn't; `atomic` is then unchanged.
 #[inline]
 pub(crate) fn set_atomic_if_empty(atomic: &mut bool, value: &[u8]) -> Result<(), IllFormed>
@@ -143,8 +143,8 @@ fn aggregator(width: AsWidth, octets: &[u8]) -> Aggregator
     Aggregator { addr, asn }
 }
 
-/// Returns the IPv4 address of `octets`, the most significant first. Requires that `octets` has
-/// exactly four octets.
+/// Returns the IPv4 address whose octets are `octets`, the most significant octet first. Requires
+/// that there are exactly four.
 #[inline]
 pub(crate) fn ipv4_addr(octets: &[u8]) -> Addr
     requires { length octets.now ≡ IPV4_SIZE }

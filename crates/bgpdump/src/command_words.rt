@@ -12,13 +12,13 @@ const FILE: &str = "FILE";
 /// needs no quotes.
 const PLAIN_MARKS: &[u8] = b"%+,-./:@_";
 
-/// The name of a file, displayed as a word of a shell command that stands for this name: `table.mrt`,
-/// `'my table.mrt'`, `./-x`.
+/// The name of a file, displayed as a word of a shell command, with quotes where the shell needs
+/// them: `table.mrt`, `'my table.mrt'`, `./-x`.
 #[derive(Clone, Copy)]
 pub struct ShellQuoted<'a>(pub &'a str);
 
-/// The command line with these settings, but with standard input (`-`) as its input, displayed as a shell
-/// command such as `bgpdump -m -t change -`. A hint puts another program's output in front of it.
+/// A shell command that runs this program with these settings, but with standard input (`-`) as its
+/// input. Displayed such as `bgpdump -m -t change -`, for a hint that pipes unpacked input into it.
 #[derive(Clone, Copy)]
 pub struct PipedCommand<'a>(pub &'a Settings);
 

@@ -19,8 +19,8 @@ pub enum OpenFailure {
     IsAlsoRead,
 }
 
-/// A text with instructions for the program: the arguments of its command line, or the script that it
-/// executes. [`Ending::NotRead`] names by it which of the two can't be read.
+/// Which text the program couldn't read: the arguments of its command line, or the script that it
+/// executes. Part of [`Ending::NotRead`].
 #[derive(Clone, Copy, PartialEq, Eq)]
 pub enum UnreadableText {
     /// The arguments of the command line.
@@ -103,10 +103,10 @@ impl Ending<'_> {
         }
     }
 
-    /// Returns the message with which the program ends, without the program's name ahead of it, such as
-    /// `read fault`. Returns `None` if there is no message, or if its text isn't fixed: for help and
-    /// other texts of `clap`, and for files that aren't opened, which [`print`](Ending::print) handles by
-    /// itself.
+    /// Returns the message with which the program ends, without the program's name ahead of it, if
+    /// its text is fixed, such as `read fault`. Returns `None` if there is no message, or if its
+    /// text varies: for help and errors of the parser of the command line (`clap`), and for files
+    /// that aren't opened. [`print`](Ending::print) prints those.
     pub(crate) fn message(&self) -> Option<&'static str>
         ensures { option_map (λ text. text.now) result ≡ ending_message self.now }
     {

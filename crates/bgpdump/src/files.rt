@@ -30,8 +30,8 @@ struct FileIdentity {
     inode: u64,
 }
 
-/// Returns the outcome of the program if `error` keeps its work from starting: `Memory` for
-/// `ErrorKind::OutOfMemory`, or else `ReadFault`.
+/// Converts an error of reading the command line or the script, or of allocating a buffer, into the
+/// outcome of the program: `Memory` for `ErrorKind::OutOfMemory`, or else `ReadFault`.
 pub fn outcome_of_read_error(error: &io::Error) -> Outcome
     ensures memory { (result ≡ Outcome.Memory) ↔ (error_kind error.now ≡ ErrorKind.OutOfMemory) }
     ensures other { IsOutcomeOfReadError result }
@@ -71,10 +71,10 @@ pub fn ending_of_read_error<'a>(text: UnreadableText, error: &io::Error) -> Endi
     }
 }
 
-/// Opens the root directory on the file descriptor of each standard stream that is closed. Otherwise the
-/// next file opened would get that descriptor, and what is written to the stream would end up in the
-/// file. Reading from such a stream, or writing to it, then fails. Does nothing for a stream that is
-/// open.
+/// Opens the root directory on the file descriptor of each standard stream (0 to 2) that is closed,
+/// so that no file opened later gets that descriptor, and with it what is written to the stream.
+/// Reading from such a stream, or writing to it, fails from then on. Open streams stay as they are.
+/// If the directory can't be opened, the closed streams stay closed.
 pub fn reserve_standard_descriptors(rt: &HostRuntime) {
     for _ in 0..STANDARD_STREAMS {
         match File::open(rt, "/") {
@@ -92,9 +92,9 @@ pub fn open<'a>(rt: &HostRuntime, name: &'a str) -> Result<File, Ending<'a>> {
     File::open(rt, name).map_err(|error| ending_of_open_error(name, &error))
 }
 
-/// Creates the file `name` for writing, or empties it if it exists. Fails with the [`Ending`] of the
-/// program if the file is also the input or the script of `settings`, which is then left unchanged. Fails
-/// too if the system refuses to open it, or to tell whether it is one of these.
+/// Creates the file `name` for writing, or empties it if it exists. Fails with the [`Ending`] of
+/// the program if `name` is also the input or the script of `settings`, which is left unchanged
+/// then, if the system can't tell whether it is, or if it can't be created.
 pub fn create<'a>(
     rt: &HostRuntime,
     settings: &Settings,
@@ -180,10 +180,10 @@ fn is_same_identity(one: FileIdentity, other: FileIdentity) -> bool
     one == other
 }
 
-/// Reads the script from `reader` to its end, or its first [`LONGEST_SCRIPT`] + 1 octets if it has more.
-/// A script of so many octets isn't refused here, but when it is to be executed, as too long. Fails with
-/// the [`Ending`] of the program: [`Ending::NotRead`] if `reader` fails, or the outcome `Memory` if
-/// memory allocation fails.
+/// Reads the script from `reader` to its end, or only its first [`LONGEST_SCRIPT`] + 1 octets if it
+/// has more, by which a later check sees that it is too long. Fails with the [`Ending`] of the
+/// program: [`Ending::NotRead`] if `reader` fails, or the outcome `Memory` if memory allocation
+/// fails.
 pub fn read_script<'a, R: Read + Drop>(alloc: Global, reader: R) -> Result<Vec<u8>, Ending<'a>>
     ensures octets { IfOk result (λ script. (octets : List ℕ) → R.remaining reader ≡ Some octets →
         script.items ≡ take (LONGEST_SCRIPT + 1) octets) }

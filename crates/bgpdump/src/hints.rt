@@ -50,8 +50,8 @@ impl FirstOctets {
         front
     }
 
-    /// Adds `octets`, the next ones of the input, to the octets noted so far, until these are 12
-    /// ([`HEADER_SIZE`]). Ignores the others.
+    /// Appends `octets`, the next ones of the input, to those added before, until there are 12
+    /// ([`HEADER_SIZE`]) in all. Ignores the octets after these.
     fn add_octets(&mut self, octets: &[u8]) {
         for octet in octets {
             if self.len >= HEADER_SIZE {
@@ -85,14 +85,14 @@ impl FirstOctets {
         }
     }
 
-    /// Returns `true` if one of the octets noted is 0, as in the header of each MRT record and in no
-    /// text, and `false` if none is.
+    /// Returns `true` if one of the first octets is 0, and `false` if none is. The header of each
+    /// MRT record has zeros; a text has none.
     pub fn has_zero(&self) -> bool {
         self.octets[..self.len.min(HEADER_SIZE)].contains(&0)
     }
 
-    /// Returns the length in octets of the first record's body, as the record's header states it (RFC
-    /// 6396, section 2), or `None` if there are fewer octets than in a header.
+    /// Returns the length in octets of the first MRT record's body, which the record's header
+    /// states (RFC 6396, section 2), or `None` if there are fewer octets than a header has (12).
     pub fn find_first_body_size(&self) -> Option<u32> {
         if self.len < HEADER_SIZE {
             return None;
@@ -107,9 +107,9 @@ impl FirstOctets {
     }
 }
 
-/// What a [`NotedReader`] notes while the input is read: its first octets, and the last error of the
-/// reader. After the program's work, hints to the user are drawn from them, such as that the input looks
-/// compressed.
+/// What a [`NotedReader`] notes while the input is read: its first octets, and the last error of
+/// the reader. Hints to the user are made from these notes after the program's work, such as that
+/// the input looks compressed.
 #[derive(Clone, Copy, Default)]
 pub struct InputNotes {
     /// The first octets of the input.
@@ -118,8 +118,8 @@ pub struct InputNotes {
     pub error: Option<io::Error>,
 }
 
-/// A reader that reads from another one, and notes the input's first octets and the reader's last error
-/// in a cell shared with others.
+/// A reader over another one, of type `R`, that notes the first octets read and the last error in
+/// [`InputNotes`] which it shares with its creator.
 #[derive(Drop)]
 pub struct NotedReader<R> {
     /// The cell with the notes, shared with whoever made this reader.
@@ -129,22 +129,23 @@ pub struct NotedReader<R> {
 }
 
 impl<R> NotedReader<R> {
-    /// Returns a reader that reads what `reader` reads, and updates the [`InputNotes`] in `notes`.
+    /// Returns a reader that reads from `reader`, and updates the [`InputNotes`] in `notes` at each
+    /// read.
     pub fn new(notes: Rc<Cell<InputNotes>>, reader: R) -> Self
         ensures { result.reader ≡ reader }
     {
         NotedReader { notes, reader }
     }
 
-    /// Notes `error` as the last error of the reader.
+    /// Stores `error` in the shared [`InputNotes`] as the last error of the wrapped reader.
     fn note_error(&self, error: io::Error) {
         let mut notes = self.notes.get();
         notes.error = Some(error);
         self.notes.set(notes);
     }
 
-    /// Adds `octets`, which were just read, to the first octets of the input in the [`InputNotes`], until
-    /// these are 12 ([`HEADER_SIZE`]). Ignores the others.
+    /// Appends `octets`, which were just read, to the first octets of the input in the shared
+    /// [`InputNotes`], until there are 12 ([`HEADER_SIZE`]) in all. Ignores the octets after these.
     fn note_octets(&self, octets: &[u8]) {
         let mut notes = self.notes.get();
         notes.front.add_octets(octets);
@@ -169,8 +170,9 @@ impl<R: Read> Read for NotedReader<R> {
     }
 }
 
-/// The reader and the writers that the program works with, and the notes of its input. The reader is a
-/// [`NotedReader`], which updates these notes as it reads; of the writers nothing is noted.
+/// The reader and the writers that the program works with, and notes of what was read: its first
+/// octets and the last error. The reader is a [`NotedReader`], which updates these notes as it
+/// reads.
 #[derive(Drop)]
 pub struct DevicesAndInputNotes<R, O, E> {
     /// The notes of the input so far: its first octets, and the last error of its reader.

@@ -14,11 +14,11 @@ use std::alloc::{AllocError, Global};
 use std::collections::VecDeque;
 use std::io::{Read, Write};
 
-/// Prints the MRT file that consists of `octets` as `bgpdump -m` does, but to writers in memory, and
-/// returns how the program would end; what was written is dropped. `stamp` selects which time the routes
-/// of tables get: that of the dump, or that of their last change. Fails if memory allocation for the
-/// reader, the notes of the input or the writers fails; any later failure is in the outcome. Used for
-/// proofs only.
+/// Prints the MRT file that consists of `octets` as `bgpdump -m` does, but to writers in memory,
+/// and returns how the program would end; what was written is dropped. `stamp` selects the time of
+/// routes from table dumps: when the table was dumped, or when the route last changed. Fails if
+/// memory allocation for the reader, the notes of the input or the writers fails; any later failure
+/// is in the outcome. Used for proofs only.
 pub fn dump_octets(alloc: Global, stamp: Stamp, octets: &[u8]) -> Result<Outcome, AllocError> {
     let mut held = Vec::new(alloc);
     held.extend_from_slice(octets)?;
@@ -29,11 +29,11 @@ pub fn dump_octets(alloc: Global, stamp: Stamp, octets: &[u8]) -> Result<Outcome
     Ok(ended.outcome)
 }
 
-/// Executes the commands of `script` over the MRT file that consists of `octets` as `bgpdump --play`
-/// does, but with writers in memory, and returns how the program would end; what was written is dropped.
-/// `stamp` selects which time the routes of tables get: that of the dump, or that of their last change.
-/// Fails if memory allocation for the reader, the notes of the input or the writers fails; any later
-/// failure is in the outcome. Used for proofs only.
+/// Executes the commands of `script` over the MRT file that consists of `octets` as
+/// `bgpdump --play` does, but with writers in memory, and returns how the program would end; what
+/// was written is dropped. `stamp` selects the time of routes from table dumps: when the table was
+/// dumped, or when the route last changed. Fails if memory allocation for the reader, the notes of
+/// the input or the writers fails; any later failure is in the outcome. Used for proofs only.
 pub fn play_octets(
     alloc: Global,
     stamp: Stamp,
@@ -49,11 +49,12 @@ pub fn play_octets(
     Ok(ended.outcome)
 }
 
-/// Prints the MRT file in `devices.reader` as `bgpdump -m` does, to the writers in `devices`, and returns
-/// the outcome with the reader and the writers. `stamp` selects which time the routes of tables get: that
-/// of the dump, or that of their last change. `octets` is read by the contract alone: requires that the
-/// reader yields exactly these, and that the writers are empty. Fails if memory allocation for the notes
-/// of the input fails; any later failure is in the outcome.
+/// Prints the MRT file in `devices.reader` as `bgpdump -m` does, to the writers in `devices`, and
+/// returns the outcome with the reader and the writers. `stamp` selects the time of routes from
+/// table dumps: when the table was dumped, or when the route last changed. Requires that the reader
+/// yields exactly `octets`, a parameter for the contract that isn't used otherwise, and that the
+/// writers are empty. Fails if memory allocation for the notes of the input (its first octets and
+/// last error) fails; any later failure is in the outcome. Used for proofs only.
 fn dump_in_memory<R: Read + Drop, O: Write + Drop, E: Write + Drop>(
     alloc: Global,
     stamp: Stamp,
@@ -69,12 +70,13 @@ fn dump_in_memory<R: Read + Drop, O: Write + Drop, E: Write + Drop>(
     Ok(dump(alloc, stamp, noted.devices))
 }
 
-/// Executes the commands of `script` over the MRT file in `devices.reader` as `bgpdump --play` does,
-/// writes to the writers in `devices`, and returns the outcome with the reader and the writers. `stamp`
-/// selects which time the routes of tables get: that of the dump, or that of their last change. `octets`
-/// is read by the contract alone: requires that the reader yields exactly these, and that the writers are
-/// empty. Fails if memory allocation for the notes of the input fails; any later failure is in the
-/// outcome.
+/// Executes the commands of `script` over the MRT file in `devices.reader` as `bgpdump --play`
+/// does, writes to the writers in `devices`, and returns the outcome with the reader and the
+/// writers. `stamp` selects the time of routes from table dumps: when the table was dumped, or when
+/// the route last changed. Requires that the reader yields exactly `octets`, a parameter for the
+/// contract that isn't used otherwise, and that the writers are empty. Fails if memory allocation
+/// for the notes of the input (its first octets and last error) fails; any later failure is in the
+/// outcome. Used for proofs only.
 fn play_in_memory<R: Read + Drop, O: Write + Drop, E: Write + Drop>(
     alloc: Global,
     stamp: Stamp,

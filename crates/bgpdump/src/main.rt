@@ -23,8 +23,8 @@ use std::io::{Read, Write};
 use std::process::ExitCode;
 use std::{env, io};
 
-/// The outcome of the program's work over its input, with the notes of the input, from which hints to the
-/// user are drawn.
+/// How the program's work over its input ended, with notes of the input, from which hints to the
+/// user are made: its first octets, and the last error of its reader.
 #[derive(Drop)]
 struct OutcomeAndInputNotes {
     /// How it ended.
@@ -42,8 +42,9 @@ fn main(rt: HostRuntime) -> ExitCode {
     }
 }
 
-/// Parses the command line. Fails with the [`Ending`] of the program if that selects no settings: help is
-/// requested, the usage is wrong, an argument isn't UTF-8 text, or memory allocation fails.
+/// Parses the arguments of the command line into the program's settings. Fails with the [`Ending`]
+/// of the program if help is requested, the usage is wrong, an argument isn't UTF-8 text, or memory
+/// allocation fails.
 fn read_settings<'a>(rt: &HostRuntime) -> Result<Settings, Ending<'a>> {
     let words = read_words(rt).map_err(|error| ending_of_read_error(
         UnreadableText::Words,
@@ -58,10 +59,10 @@ fn read_words(rt: &HostRuntime) -> io::Result<Vec<String>> {
     Ok(env::args(rt)?.collect(rt.alloc())?)
 }
 
-/// Opens the files that `settings` name, does the program's work over them, and returns the exit status.
-/// If the program ends with a failure, prints a message that says which to standard error. If the status
-/// isn't 0 and standard error is a terminal, hints follow there: on the failure, and on what seems to be
-/// wrong with the input (such as that it is compressed).
+/// Opens the files that `settings` name, does the program's work over them, and returns the exit
+/// status. If the program fails, prints a message on the failure to standard error. If the status
+/// isn't 0 and standard error is a terminal, hints follow there: on the failure, and on what seems
+/// to be wrong with the input (such as that it is compressed).
 fn run_and_report(rt: &HostRuntime, settings: &Settings) -> ExitCode {
     match open_files_and_run(rt, settings) {
         Ok(ran) => {
@@ -76,10 +77,11 @@ fn run_and_report(rt: &HostRuntime, settings: &Settings) -> ExitCode {
     }
 }
 
-/// Opens the files that `settings` name (first the script, which is read at once, then the input and the
-/// output), and does the program's work over them. Returns the [`Outcome`] of the work, which may be a
-/// failure, with the notes of the input. Fails with the [`Ending`] of the program if the work doesn't
-/// begin: a file can't be opened, the script can't be read, or memory allocation fails.
+/// Opens the files that `settings` name (first the script, which is read at once, then the input
+/// and the output), and does the program's work over them. Returns the [`Outcome`] of the work,
+/// which may be a failure, with the notes of the input (its first octets and last error). Fails
+/// with the [`Ending`] of the program if the work doesn't begin: a file can't be opened, the script
+/// can't be read, or memory allocation fails.
 fn open_files_and_run<'a>(
     rt: &HostRuntime,
     settings: &'a Settings,
@@ -94,9 +96,9 @@ fn open_files_and_run<'a>(
     open_output_and_run(rt, settings, script.as_deref(), input)
 }
 
-/// Reads the script that `mode` names, or standard input for the name `-`. Returns `None` for
-/// `Mode::Lines`, which has no script. Fails with the [`Ending`] of the program: the script can't be
-/// opened or read, or memory allocation fails.
+/// Reads the script from the file that `mode` names, or from standard input for the name `-`.
+/// Returns its octets, or `None` for `Mode::Lines`, which has no script. Fails with the [`Ending`]
+/// of the program if the script can't be opened or read, or if memory allocation fails.
 fn read_script_for_mode<'a>(
     rt: &HostRuntime,
     mode: &'a Mode,
@@ -110,11 +112,12 @@ fn read_script_for_mode<'a>(
     }
 }
 
-/// Opens the output that `settings` name (standard output if they name none), and does the program's work
-/// from `input` to it: executes the commands of `script`, or prints lines if that is `None`. Returns the
-/// [`Outcome`] of the work, which may be a failure, with the notes of the input. Fails with the
-/// [`Ending`] of the program if the work doesn't begin: the output can't be opened, or memory allocation
-/// fails.
+/// Opens the output that `settings` name (standard output if they name none), and does the
+/// program's work over `input`: executes the commands of `script`, or prints lines if `script` is
+/// `None`. Reports go to standard error. Returns the [`Outcome`] of the work, which may be a
+/// failure, with the notes of the input (its first octets and last error). Fails with the
+/// [`Ending`] of the program if the work doesn't begin: the output can't be opened, or memory
+/// allocation fails.
 fn open_output_and_run<'a>(
     rt: &HostRuntime,
     settings: &'a Settings,
@@ -149,10 +152,10 @@ fn write_bad_line_hints(rt: &HostRuntime, script: &[u8]) {
     }
 }
 
-/// Prints the message with which the program ends, if there is one, and returns the exit status. Help
-/// goes to standard output, any other message to standard error; a hint may follow there if that is a
-/// terminal. If help can't be printed, prints the message of a write fault instead and returns the status
-/// of that; any other message that can't be printed is lost.
+/// Prints the message with which the program ends, if there is one, and returns the exit status.
+/// Help goes to standard output, any other message to standard error; a hint may follow there if it
+/// is a terminal. If help can't be printed, prints the message of a write fault instead and returns
+/// the status of a write fault; any other message that can't be printed is lost.
 fn end(rt: &HostRuntime, ending: &Ending<'_>) -> ExitCode {
     let is_printed = ending.print(rt).is_ok();
     if is_printed || ending.status() > 0 {

@@ -24,8 +24,8 @@ const BUFFER_SIZE: usize = 65_536;
 // the player drops a store only when it has no keys, and so no memory.
 type Routes = LeakingStore<RadixStore<Rc<Route>>>;
 
-/// The reader and the two writers that the program works with: `R` is the reader's type, `O` that of the
-/// writer of results, `E` that of the writer of reports.
+/// The reader and the two writers that the program works with. `R` is the type of the reader, `O`
+/// of the writer of results, and `E` of the writer of reports.
 #[derive(Drop)]
 pub struct Devices<R, O, E> {
     /// The reader of the MRT file.
@@ -36,8 +36,9 @@ pub struct Devices<R, O, E> {
     pub err: E,
 }
 
-/// What is left after the program's work, an execution of [`dump`] or [`play`]: how it ended, the input,
-/// and the writers. `R`, `O` and `E` are the types of the devices, as in [`Devices`].
+/// What is left after the program's work ([`dump`] or [`play`]): how it ended, the input, and the
+/// writers. `R` is the type of the reader, `O` of the writer of results, and `E` of the writer of
+/// reports.
 #[derive(Drop)]
 pub struct FinishedRun<R, O, E> {
     /// How it ended.
@@ -50,7 +51,7 @@ pub struct FinishedRun<R, O, E> {
     pub writers: Option<(O, E)>,
 }
 
-/// The reader and the two writers of the program, each with a buffer.
+/// The reader of the input, the writer of results and the writer of reports, each with a buffer.
 #[derive(Drop)]
 struct BufferedStreams<R, O: Write + Drop, E: Write + Drop> {
     input: BufferedInput<R>,
@@ -58,10 +59,11 @@ struct BufferedStreams<R, O: Write + Drop, E: Write + Drop> {
     err: BufferedOutput<E>,
 }
 
-/// Prints the MRT file in `devices.reader`: the lines of its routes, withdrawals and state changes to
-/// `devices.out`, and reports of its faulty records to `devices.err`. `stamp` selects which time the
-/// routes of tables get: that of the dump, or that of their last change. If the buffers can't be
-/// allocated, nothing is read, and the outcome is `Memory`.
+/// Prints the MRT file in `devices.reader`: the lines of its routes, withdrawals and state changes
+/// to `devices.out`, and reports of its faulty records to `devices.err`. `stamp` selects the time
+/// of routes from table dumps: when the table was dumped, or when the route last changed. Returns
+/// how that ended, with the input and the writers. If the buffers can't be allocated, nothing is
+/// read, and the outcome is `Memory`.
 pub fn dump<R: Read + Drop, O: Write + Drop, E: Write + Drop>(
     alloc: Global,
     stamp: Stamp,
@@ -105,9 +107,10 @@ pub fn dump<R: Read + Drop, O: Write + Drop, E: Write + Drop>(
 }
 
 /// Executes the commands of `script` over the MRT file in `devices.reader`: writes their replies to
-/// `devices.out`, and reports of faulty records and bad lines to `devices.err`. `stamp` selects which
-/// time the routes of tables get: that of the dump, or that of their last change. If the buffers can't be
-/// allocated, nothing is read, and the outcome is `Memory`.
+/// `devices.out`, and reports of faulty records and bad lines to `devices.err`. `stamp` selects the
+/// time of routes from table dumps: when the table was dumped, or when the route last changed.
+/// Returns how that ended, with the input and the writers. If the buffers can't be allocated,
+/// nothing is read, and the outcome is `Memory`.
 pub fn play<R: Read + Drop, O: Write + Drop, E: Write + Drop>(
     alloc: Global,
     stamp: Stamp,
@@ -194,8 +197,8 @@ fn buffer_devices<R: Read + Drop, O: Write + Drop, E: Write + Drop>(
     })
 }
 
-/// Returns the result of an execution that ended with the outcome `refusal` before it began: without
-/// input and writers.
+/// Returns the result of work that couldn't begin: the outcome `refusal`, and neither input nor
+/// writers.
 fn failed_before_run<R, O, E>(refusal: Outcome) -> FinishedRun<R, O, E>
     ensures outcome { result.outcome ≡ refusal }
     ensures input { result.input ≡ None }
@@ -208,9 +211,9 @@ fn failed_before_run<R, O, E>(refusal: Outcome) -> FinishedRun<R, O, E>
     }
 }
 
-/// Flushes the buffers of an execution that ended with `outcome`, and takes the writers out of them. If a
-/// flush fails, the writers are lost, and the outcome is the one of [`outcome_without_writers`]: a write
-/// fault, unless memory was lacking.
+/// Flushes the buffers of both writers after the program's work ended with `outcome`, and returns
+/// that outcome with the input and the writers. If a flush fails, the result has no writers, and
+/// its outcome is a write fault, or `Memory` if `outcome` is `Memory`.
 fn close<R: Read + Drop, O: Write + Drop, E: Write + Drop>(
     streams: BufferedStreams<R, O, E>,
     outcome: Outcome,
@@ -238,8 +241,8 @@ fn close<R: Read + Drop, O: Write + Drop, E: Write + Drop>(
     }
 }
 
-/// Returns the outcome of an execution that ended with `outcome`, and whose writers then failed: a write
-/// fault, unless `outcome` is `Memory`, which stays.
+/// Returns the outcome of the program if its work ended with `outcome`, and flushing a writer then
+/// failed: a write fault, or `Memory` if `outcome` is `Memory`.
 fn outcome_without_writers(outcome: Outcome) -> Outcome
     ensures { result ≡ outcome_without_writers outcome }
 {
@@ -249,7 +252,7 @@ fn outcome_without_writers(outcome: Outcome) -> Outcome
     }
 }
 
-/// Flushes `buffer` and returns the writer below it, or `None` if the writer fails.
+/// Flushes `buffer` and returns the writer that it wraps, or `None` if the writer fails.
 fn flush_into_writer<W: Write + Drop>(mut buffer: BufWriter<W>) -> Option<W>
     ensures { IfSome result (λ writer.
         Keeps (writer_contents W.contents buffer) (W.contents writer)) }

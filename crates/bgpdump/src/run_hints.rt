@@ -27,8 +27,9 @@ const AFTER_OPTION: &str = "' found";
 /// looks like an option.
 const VALUE_ADVICE: &str = "use '-- ";
 
-/// Writes a hint to standard error on how the program ends, if there is more to say than the last message
-/// does, such as `bgpdump: only one of SCRIPT and INPUT may be -`. What can't be written is lost.
+/// Writes a hint to standard error on why the program ends as `ending` states, if there is more to
+/// say than its last message does, such as `bgpdump: only one of SCRIPT and INPUT may be -`. What
+/// can't be written is lost.
 pub fn write_ending_hint(rt: &HostRuntime, ending: &Ending<'_>) {
     let _ = match ending {
         Ending::Usage(UsageFault::Words(text)) => write_option_hint(rt, text.as_str()),
@@ -50,9 +51,9 @@ pub fn write_ending_hint(rt: &HostRuntime, ending: &Ending<'_>) {
     };
 }
 
-/// Writes hints to standard error on what seems to be wrong with the input of `settings`: the error of
-/// its reader, if it failed, and that it is compressed or no MRT file, if the first octets in `notes`
-/// suggest that. What can't be written is lost.
+/// Writes hints to standard error on what seems to be wrong with the input that `settings` name:
+/// the last error of its reader, if there was one, and that it looks compressed, or like no MRT
+/// file, by its first octets. Both are in `notes`. What can't be written is lost.
 pub fn write_input_hints(rt: &HostRuntime, settings: &Settings, notes: &InputNotes) {
     if let Some(error) = &notes.error {
         let _ = write_read_error(rt, "the input", error);
@@ -93,10 +94,11 @@ fn write_compression_hint(
     eprintln!(rt; "bgpdump: {name} looks like {format}; try {printer} {name} | {command}")
 }
 
-/// Writes a hint to standard error on the unknown argument that `text`, the text of an error of `clap`,
-/// names: an option of the C program `bgpdump`, another one that isn't known, or a second INPUT. Writes
-/// nothing if `text` names no argument, or if there is nothing more to say of it. Fails if standard error
-/// can't be written; some of the hint may have been written then.
+/// Writes a hint to standard error on an argument of the command line that isn't known: an option
+/// of the C program `bgpdump`, any other option, or a second INPUT. `text` is the error message of
+/// the parser (`clap`), which names the argument. Writes nothing if it names none, or if there is
+/// nothing more to say. Fails if standard error can't be written; some of the hint may have been
+/// written then.
 fn write_option_hint(rt: &HostRuntime, text: &str) -> io::Result<()> {
     let Some(option) = find_unknown_argument(text) else {
         return Ok(());
@@ -118,8 +120,8 @@ fn write_option_hint(rt: &HostRuntime, text: &str) -> io::Result<()> {
     }
 }
 
-/// Returns the unknown argument that `text`, the text of an error of `clap`, names, or `None` if it names
-/// none.
+/// Returns the unknown argument, such as `-H`, that `text` names, an error message of the parser of
+/// the command line (`clap`). Returns `None` if it names none.
 fn find_unknown_argument(text: &str) -> Option<&str> {
     let (_, behind) = text.split_once(BEFORE_OPTION)?;
     let (option, _) = behind.split_once(AFTER_OPTION)?;

@@ -12,8 +12,8 @@ const MOST_HINTS: usize = 5;
 /// The number of octets of a line or a word, from the first one on, that a hint shows: 60.
 const SHOWN: usize = 60;
 
-/// What a word in a script's line is to be, by its place after the name of a command: a number, an
-/// address or a prefix. A hint on a bad line names it.
+/// The kind of an argument of a script's command: a number, an address or a prefix. A hint on a bad
+/// line names the kind that is wanted.
 #[derive(Clone, Copy, PartialEq, Eq)]
 enum CommandArgumentKind {
     /// A number of steps to move, at least 1: the argument of `next` and `back`. (A step is one played
@@ -116,15 +116,16 @@ fn write_line_hints(rt: &HostRuntime, script: &[u8]) {
     }
 }
 
-/// Returns `true` if the execution of the script reports this line as a bad command: it is neither empty
-/// nor a command. Returns `false` if not.
+/// Returns `true` if `line`, a line of a script, is neither empty nor a command, so that executing
+/// the script reports it as bad. Returns `false` if it is empty or a command.
 fn is_bad(line: &[u8]) -> bool {
     !line.is_empty() && read_command(line).is_none()
 }
 
-/// Returns what is wrong with `line`, which isn't a command: a carriage return at its end, a tab, or else
-/// the first of its words that is wrong, missing or too many. Returns `None` if none of these is found.
-/// (Of `next` and `back` alone, which are commands, it would say that a number is missing.)
+/// Returns what is wrong with `line`, a line of a script that isn't a command: a carriage return at
+/// its end, a tab, or else the first word that is wrong, missing or too many. Returns `None` if
+/// none of these is found. For `next` or `back` alone, which is a command, returns that a number is
+/// missing.
 fn find_flaw(line: &[u8]) -> Option<LineFlaw<'_>> {
     if line.ends_with(b"\r") {
         return Some(LineFlaw::CarriageReturn);
@@ -191,8 +192,8 @@ fn parse_digits(word: &[u8]) -> Option<u32> {
     str::from_utf8(word).ok()?.parse().ok()
 }
 
-/// Returns the digits after `AS`, in letters of either case, so `65000` for `as65000`. Returns `None` if
-/// `word` isn't of this form. A hint says that `AS` is to be left out.
+/// Returns the digits after `AS` (in either case) in a `word` of this form, such as `65000` for
+/// `as65000`, or `None` if it isn't of this form. A hint asks to leave `AS` out.
 fn find_digits_after_as(word: &[u8]) -> Option<&[u8]> {
     let (front, digits) = word.split_at_checked(2)?;
     if front.eq_ignore_ascii_case(b"AS") && is_digits(digits) {
@@ -216,7 +217,7 @@ impl CommandArgumentKind {
         }
     }
 
-    /// Returns the name of the kind with its article, such as `an address`, for a hint.
+    /// Returns the name of the kind with an article, such as `an address`, to be shown in a hint.
     fn kind_with_article(self) -> &'static str {
         match self {
             CommandArgumentKind::Times | CommandArgumentKind::Number => "a number",
@@ -250,8 +251,9 @@ impl fmt::Display for LineFlaw<'_> {
     }
 }
 
-/// Writes to `f` why `word` isn't an argument of the kind `argument`, such as `192.0.2.0/24 is a prefix;
-/// an address is wanted`. The caller has found that it isn't one. Fails if `f` fails.
+/// Writes to `f` why `word` isn't an argument of the kind `argument`, such as
+/// `192.0.2.0/24 is a prefix; an address is wanted`. Call it only if `word` isn't one. Fails if `f`
+/// fails.
 fn write_wrong_word<W: fmt::Write>(
     f: &mut fmt::Formatter<W>,
     word: &[u8],
@@ -279,8 +281,8 @@ fn write_wrong_word<W: fmt::Write>(
     }
 }
 
-/// Writes to `f` why `word` isn't a number of the kind `argument`, such as `write 65000 for AS65000`. The
-/// caller has found that it isn't one. Fails if `f` fails.
+/// Writes to `f` why `word` isn't a number of the kind `argument`, such as
+/// `write 65000 for AS65000`. Call it only if `word` isn't one. Fails if `f` fails.
 fn write_wrong_number<W: fmt::Write>(
     f: &mut fmt::Formatter<W>,
     word: &[u8],

@@ -13,15 +13,17 @@ use Rattle.bgpdump_command_line.specs.declared.usage.UsageFault.{UsageFault}
 use Rattle.bgpdump_command_line.specs.declared.usage.UsageFault.TheVariants as usage
 use Rattle.bgpdump_command_line.specs.CommandLine.{times_rule, command_line, TakesTimeChoices, has_one_mode, IsMode}
 
--- The rule of the argument `-t`, with a parser that takes the values `dump` and `change`.
+-- The rule, what `clap` knows of an argument, is that of `-t`, with a parser that takes just the values `dump` and
+-- `change`.
 abbrev pub IsTimesRule : Rule → Type 0
 IsTimesRule rule = (times : ValueParser) × TakesTimeChoices times × (rule ≡ times_rule times)
 
--- The command of the program, with a parser of the value of `-t` that takes `dump` and `change`.
+-- The command is that of the program (`command_line`), where the parser of the value of `-t` takes just `dump` and
+-- `change`.
 abbrev pub IsCommandLine : App → Type 0
 IsCommandLine app = (times : ValueParser) × TakesTimeChoices times × (app ≡ command_line times)
 
--- The argument excludes no other one, and isn't an argument of subcommands.
+-- The argument doesn't exclude or override another one, is in no group, and isn't one of subcommands too (`global`).
 abbrev pub ExcludesNone : Arg → Type 0
 ExcludesNone argument = IsPlainArg argument × (argument.global ≡ false)
 
@@ -29,16 +31,16 @@ ExcludesNone argument = IsPlainArg argument × (argument.global ≡ false)
 abbrev pub TakesInput : Command → Type 0
 TakesInput command = (matches : ArgMatches) → IsParsedFrom command matches → is_some (first_value (found_of matches) (codes "input")) ≡ true
 
--- What selecting the mode by these matches gives: the only mode that is there, or the fault `Mode` unless
--- just one is there. `Memory` may be given in any case.
+-- Selecting the mode by `rows`, the options and values that a parse found, may give this result: the mode, if just
+-- one of `-m` and `--play` is there, or else the fault `Mode`; `Memory` in any case, and no other fault.
 abbrev pub GivesMode : List Row → Result Mode UsageFault → Type 0
 GivesMode rows (Ok mode) = (has_one_mode rows ≡ true) × IsMode rows mode
 GivesMode rows (Err usage.Mode) = has_one_mode rows ≡ false
 GivesMode rows (Err usage.Memory) = ⊤
 GivesMode rows (Err fault) = ⊥
 
--- The fault that a failed parse with an error of this kind gives: `Help` for help, `Words` for a kind other
--- than help and lack of memory. `Memory` may be given in any case.
+-- A parse that failed with an error of this kind may give this fault, with any text: `Help` for a request of help,
+-- `Words` for a kind other than that and lack of memory; `Memory` for any kind, and no other fault.
 abbrev pub IsFaultOf : ErrorKind → UsageFault → Type 0
 IsFaultOf kind (usage.Help text) = kind ≡ DisplayHelp
 IsFaultOf kind (usage.Words text) = (kind ≢ DisplayHelp) × (kind ≢ OutOfMemory)

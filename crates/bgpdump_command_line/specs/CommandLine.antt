@@ -17,28 +17,29 @@ use Rattle.bgpdump_command_line.specs.declared.usage.UsageFault.TheVariants as u
 
 -- ---- the command line: `bgpdump (-m | --play SCRIPT) [-t dump|change] [-O FILE] INPUT`
 
--- the rule of `-m`: a flag
+-- what `clap` is given for `-m` (a rule): a flag, with the id `lines`
 abbrev pub lines_rule : Rule
 lines_rule = record (new_rule (codes "lines")) { short = Some 109; action = Some SetTrue }
 
--- the rule of `--play SCRIPT`
+-- what `clap` is given for `--play SCRIPT` (a rule): an option with one value, with the id `script`
 abbrev pub script_rule : Rule
 script_rule = record (new_rule (codes "script")) { long = Some (codes "play"); value_names = 1 }
 
--- the rule of `-t TIME`, whose default is `dump`
+-- what `clap` is given for `-t TIME` (a rule): an option with one value, which `times` parses and which is `dump` if
+-- the option is absent, with the id `times`
 abbrev pub times_rule : ValueParser → Rule
 times_rule times = record (new_rule (codes "times")) { short = Some 116; value_names = 1; parser = Some times; defaults = codes "dump" ∷ [] }
 
--- the rule of `-O FILE`
+-- what `clap` is given for `-O FILE` (a rule): an option with one value, with the id `output`
 abbrev pub output_rule : Rule
 output_rule = record (new_rule (codes "output")) { short = Some 79; value_names = 1 }
 
--- the rule of INPUT, which is required
+-- what `clap` is given for INPUT (a rule): an argument with one value, which is required, with the id `input`
 abbrev pub input_rule : Rule
 input_rule = record (new_rule (codes "input")) { value_names = 1; required = true; action = Some Set }
 
--- the command line that `bgpdump` takes, as `clap` is told it: `-m`, `--play`, `-t`, whose value `times`
--- parses, `-O` and INPUT
+-- the command line that `bgpdump` takes, as `clap` is given it: the program's name, and the rules of `-m`, `--play`,
+-- `-t` (whose value `times` parses), `-O` and INPUT
 abbrev pub command_line : ValueParser → App
 command_line times =
     with_rule (with_rule (with_rule (with_rule (with_rule (new_app (codes "bgpdump")) lines_rule) script_rule) (times_rule times)) output_rule) input_rule
@@ -50,31 +51,32 @@ TakesTimeChoices other = ⊥
 
 -- ---- the settings that the matches of a parse select
 
--- whether there is a value, and it is `text`
+-- whether `found` is a value, and equal to `text`; false for `None`
 abbrev pub equals_text : Text → Option Text → Bool
 equals_text text found = option_map_or (bytes_eq text) found false
 
--- whether `-m` is among the matches
+-- whether the flag `-m` is set in `rows`, the options and values that a parse found
 abbrev pub has_lines_flag : List Row → Bool
 has_lines_flag rows = equals_text (codes "true") (one_of (codes "lines") rows)
 
--- the value of `--play`, if it is among the matches
+-- the value of `--play` among the options and values that a parse found, `None` if it isn't there
 abbrev pub script_of : List Row → Option Text
 script_of = first_of (codes "script")
 
--- the value of INPUT, if it is among the matches
+-- the value of INPUT among the options and values that a parse found, `None` if it isn't there
 abbrev pub input_of : List Row → Option Text
 input_of = first_of (codes "input")
 
--- the choice of the time that the routes of tables get: `Change` for `-t change`, or else `Dump`
+-- which time the routes of tables get, by the options and values that a parse found: `Change` (their last change) if
+-- the value of `-t` is `change`, or else `Dump` (that of the dump)
 abbrev pub selected_stamp : List Row → Stamp
 selected_stamp rows = if equals_text (codes "change") (first_of (codes "times") rows) then Change else Dump
 
--- whether just one of `-m` and `--play` is among the matches
+-- whether just one of `-m` and `--play` is among the options and values that a parse found
 abbrev pub has_one_mode : List Row → Bool
 has_one_mode rows = if has_lines_flag rows then not (is_some (script_of rows)) else is_some (script_of rows)
 
--- whether the script and the input are both standard input
+-- whether the script and the input are both `-`, standard input, by the options and values that a parse found
 abbrev pub reads_stdin_twice : List Row → Bool
 reads_stdin_twice rows = equals_text (codes "-") (script_of rows) && equals_text (codes "-") (input_of rows)
 
@@ -92,9 +94,9 @@ pub record AreSettings (rows : List Row) (settings : Settings) : Type 0 where
   pub output : option_map string_bytes settings.output ≡ first_of (codes "output") rows
   pub input : input_of rows ≡ Some (string_bytes settings.input)
 
--- `rows`, the options and values that a parse found, may give this result: `Mode` unless they have just one
--- mode, or else `TwoInputs` if script and input are both standard input, or else their settings; `Memory` in
--- any case, and no other fault
+-- reading `rows`, the options and values that a parse found, may give this result: the fault `Mode` unless just one
+-- of `-m` and `--play` is there, or else `TwoInputs` if script and input are both standard input, or else the
+-- settings that they state (`AreSettings`); `Memory` in any case, and no other fault
 abbrev pub GivesSettings : List Row → Result Settings UsageFault → Type 0
 GivesSettings rows (Ok settings) = (has_one_mode rows ≡ true) × (reads_stdin_twice rows ≡ false) × AreSettings rows settings
 GivesSettings rows (Err usage.Mode) = has_one_mode rows ≡ false
@@ -104,17 +106,17 @@ GivesSettings rows (Err fault) = ⊥
 
 -- ---- what the words of a command line give
 
--- the words of a command line, where `times` parses the value of `-t`, may give this result: `Help` if the
--- parse may have the fault of help, `Words` if it may have another one, and else, only if it can have none,
--- what the options and values that it finds may give (`GivesSettings`)
+-- reading the words of a command line, where `times` parses the value of `-t`, may give this result: `Help` if
+-- parsing them may fail with help, `Words` if it may fail with another fault, each with any text; and, only if it
+-- can't fail, what the options and values that it finds may give (`GivesSettings`)
 abbrev pub GivesSettingsFor : ValueParser → List Text → Result Settings UsageFault → Type 0
 GivesSettingsFor times words (Err (usage.Help text)) = IsAmong DisplayHelp (fault_of (command_line times) words)
 GivesSettingsFor times words (Err (usage.Words text)) = (kind : ErrorKind) × IsAmong kind (fault_of (command_line times) words) × (kind ≢ DisplayHelp)
 GivesSettingsFor times words result = (fault_of (command_line times) words ≡ []) × GivesSettings (matches_of (command_line times) words) result
 
--- the words of a command line may give this result: the settings that they state, or a fault, as
--- `GivesSettingsFor` says with a parser of `dump` and `change` for `-t`. Any words may give the fault
--- `Memory`
+-- reading the words of a command line may give this result: the settings that they state, or a fault, as
+-- `GivesSettingsFor` says with a parser that takes `dump` and `change` for `-t`; and the fault `Memory`, whatever the
+-- words
 abbrev pub Answers : List Text → Result Settings UsageFault → Type 0
 Answers words (Err usage.Memory) = ⊤
 Answers words result = (times : ValueParser) × TakesTimeChoices times × GivesSettingsFor times words result

@@ -25,8 +25,8 @@ pub(crate) const OUTPUT: &str = "output";
 /// The id by which `clap` knows the argument INPUT, which names the MRT file.
 pub(crate) const INPUT: &str = "input";
 
-/// The value of `-t` that selects the time of the dump as that of a table's routes. It is the
-/// default.
+/// The value of `-t`, its default, with which the routes of tables get the time when the table was
+/// dumped.
 pub(crate) const DUMP: &str = "dump";
 
 /// The value of `-t` that selects the time at which a route originated, that is its last change.
@@ -53,7 +53,8 @@ Examples:
 `man bgpdump` tells the fields of the lines, the commands of a script and the
 statuses.";
 
-/// Returns the argument `-m`, a flag that selects the output of lines.
+/// Returns the argument `-m`, a flag that selects writing each route, withdrawal and state change
+/// as a line.
 fn lines_argument<'a>(alloc: Global) -> Arg<'a>
     ensures rule { rule_of result ≡ lines_rule }
     ensures alone { ExcludesNone result }
@@ -64,7 +65,8 @@ fn lines_argument<'a>(alloc: Global) -> Arg<'a>
         .help("Prints each route and state change as a line")
 }
 
-/// Returns the argument `--play SCRIPT`, which selects the play of the named script.
+/// Returns the argument `--play SCRIPT`, which selects carrying out the commands in the file
+/// SCRIPT, or in standard input for `-`.
 fn script_argument<'a>(alloc: Global) -> Arg<'a>
     ensures rule { rule_of result ≡ script_rule }
     ensures alone { ExcludesNone result }
@@ -75,8 +77,8 @@ fn script_argument<'a>(alloc: Global) -> Arg<'a>
         .help("Steps through INPUT as the commands in SCRIPT say")
 }
 
-/// Returns the argument `-t TIME`, whose value is `dump`, the default, or `change`: which time the
-/// routes of tables get.
+/// Returns the argument `-t TIME`, which selects the time that the routes of tables get: `dump`,
+/// the default, for when the table was dumped, or `change` for when the route last changed.
 fn times_argument<'a>(alloc: Global) -> Arg<'a>
     ensures rule { IsTimesRule (rule_of result) }
     ensures alone { ExcludesNone result }
@@ -90,7 +92,7 @@ fn times_argument<'a>(alloc: Global) -> Arg<'a>
         .help("Time of a table's routes: dump or change")
 }
 
-/// Returns the argument `-O FILE`, which names the output if that isn't standard output.
+/// Returns the argument `-O FILE`, the name of the file to write to in place of standard output.
 fn output_argument<'a>(alloc: Global) -> Arg<'a>
     ensures rule { rule_of result ≡ output_rule }
     ensures alone { ExcludesNone result }
@@ -101,7 +103,8 @@ fn output_argument<'a>(alloc: Global) -> Arg<'a>
         .help("Writes to FILE, made new or emptied")
 }
 
-/// Returns the argument `INPUT`, the MRT file or `-`. Without it, `clap` refuses the command line.
+/// Returns the argument `INPUT`, which must be given: the name of the MRT file, or `-` for standard
+/// input.
 fn input_argument<'a>(alloc: Global) -> Arg<'a>
     ensures rule { rule_of result ≡ input_rule }
     ensures alone { ExcludesNone result }

@@ -26,8 +26,9 @@ pub fn settings(alloc: Global, words: Vec<String>) -> Result<Settings, UsageFaul
     }
 }
 
-/// Converts an error of `clap` to a fault with its text: `Help` for a request of help, or else
-/// `Words`. It is `Memory` if memory allocation failed, here or in `clap`.
+/// Converts an error of `clap` to a fault with its text: [`UsageFault::Help`] for a request of
+/// help, or else [`UsageFault::Words`] for invalid arguments. It is [`UsageFault::Memory`], without
+/// a text, if memory allocation failed, here or in `clap`.
 fn fault_of_parse_error(alloc: Global, error: &clap::Error) -> UsageFault
     ensures { IsFaultOf (kind_of error.now) result }
 {
@@ -42,9 +43,9 @@ fn fault_of_parse_error(alloc: Global, error: &clap::Error) -> UsageFault
 }
 
 /// Returns the settings that the parsed arguments `matches` select. Requires that these have a
-/// value of `INPUT`. Fails with `Mode` unless exactly one of `-m` and `--play` is there, with
-/// `TwoInputs` if the script and the input are both `-`, or with `Memory` if memory allocation
-/// fails.
+/// value of `INPUT`. Fails with [`UsageFault::Mode`] unless exactly one of `-m` and `--play` is
+/// there, with [`UsageFault::TwoInputs`] if the script and the input are both `-`, or with
+/// [`UsageFault::Memory`] if memory allocation fails.
 fn settings_of(alloc: Global, matches: &ArgMatches<'_>) -> Result<Settings, UsageFault>
     requires input { is_some (input_of (rows_of (found_of matches.now))) ≡ true }
     ensures gives { GivesSettings (rows_of (found_of matches.now)) result }
@@ -66,9 +67,9 @@ fn settings_of(alloc: Global, matches: &ArgMatches<'_>) -> Result<Settings, Usag
     })
 }
 
-/// Returns the mode that the parsed arguments `matches` select: lines for `-m`, or the play of a
-/// script for `--play`. Fails with `Mode` unless exactly one of them is there, or with `Memory` if
-/// memory allocation fails.
+/// Returns the mode that the parsed arguments `matches` select: [`Mode::Lines`] for `-m`, or
+/// [`Mode::Play`] with the name of the script for `--play`. Fails with [`UsageFault::Mode`] unless
+/// exactly one of them is there, or with [`UsageFault::Memory`] if memory allocation fails.
 fn mode_of(alloc: Global, matches: &ArgMatches<'_>) -> Result<Mode, UsageFault>
     ensures { GivesMode (rows_of (found_of matches.now)) result }
 {
@@ -94,8 +95,9 @@ fn reads_stdin_twice(matches: &ArgMatches<'_>) -> bool
     has_value(matches, SCRIPT, STANDARD_INPUT) && has_value(matches, INPUT, STANDARD_INPUT)
 }
 
-/// Returns which time the routes of a table get, by the value of `-t`: that of their last change
-/// for `change`, or else that of the dump.
+/// Returns which time the routes of a table get, by the value of `-t` in the parsed arguments
+/// `matches`: [`Stamp::Change`], when the route last changed, for `change`, or else
+/// [`Stamp::Dump`], when the table was dumped.
 fn selected_stamp(matches: &ArgMatches<'_>) -> Stamp
     ensures { result ≡ selected_stamp (rows_of (found_of matches.now)) }
 {
@@ -115,7 +117,7 @@ fn has_value(matches: &ArgMatches<'_>, argument: &str, value: &str) -> bool
 }
 
 /// Returns the value of the argument with the id `argument` in the parsed arguments `matches`, or
-/// `None` if it has none.
+/// `None` if that argument has no value.
 fn value_of<'a>(matches: &ArgMatches<'a>, argument: &str) -> Option<&'a str>
     ensures { option_map (λ text. text.now) result
         ≡ first_of argument.now (rows_of (found_of matches.now)) }

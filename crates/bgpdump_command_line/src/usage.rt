@@ -28,7 +28,8 @@ pub enum Mode {
 pub struct Settings {
     /// What the program does with the MRT file.
     pub mode: Mode,
-    /// Which time the routes of a table get: that of the dump, or that of their last change.
+    /// Which time the routes of a table get: when the table was dumped, or when the route last
+    /// changed.
     pub stamp: Stamp,
     /// The name of the output file, or `None` for standard output.
     pub output: Option<String>,

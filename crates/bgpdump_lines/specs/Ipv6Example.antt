@@ -30,20 +30,22 @@ ipv6_peer =
       asn = 64500;
     }
 
--- 2001:db8::9
+-- the next hop 2001:db8::9
 abbrev pub ipv6_hop : Address
 ipv6_hop = ipv6_address (0x20 ∷ 0x01 ∷ 0x0D ∷ 0xB8 ∷ replicate 11 0 ++ 0x09 ∷ [])
 
--- 2001:db8::/32
+-- the IPv6 prefix 2001:db8::/32
 abbrev pub ipv6_prefix : Network
 ipv6_prefix = record { family = V6; bits = bits_of_octets (0x20 ∷ 0x01 ∷ 0x0D ∷ 0xB8 ∷ []) }
 
--- 2001:db9::/32
+-- the IPv6 prefix 2001:db9::/32
 abbrev pub withdrawn_ipv6_prefix : Network
 withdrawn_ipv6_prefix =
     record { family = V6; bits = bits_of_octets (0x20 ∷ 0x01 ∷ 0x0D ∷ 0xB9 ∷ []) }
 
--- attributes of all types that are read but NEXT_HOP and those of RFC 6793
+-- the path attributes ORIGIN (INCOMPLETE), AS_PATH (a sequence of 64500 and 64501, and a set of 64502 and 64503),
+-- MULTI_EXIT_DISC (5), LOCAL_PREF (100), ATOMIC_AGGREGATE, AGGREGATOR (192.0.2.3 of AS 64501) and COMMUNITIES
+-- (64500:1 and NO_EXPORT), and no others
 abbrev pub all_attrs : Attrs
 all_attrs =
     record {
@@ -61,7 +63,7 @@ all_attrs =
       atomic = true;
     }
 
--- the value of MP_REACH_NLRI
+-- the value of an MP_REACH_NLRI (RFC 4760, section 3) that announces 2001:db8::/32 with the next hop 2001:db8::9
 abbrev pub reach_octets : List ℕ
 reach_octets =
     -- AFI: IPv6; SAFI: unicast
@@ -72,13 +74,14 @@ reach_octets =
     -- Reserved; 2001:db8::/32
     ∷ 0x00 ∷ 0x20 ∷ 0x20 ∷ 0x01 ∷ 0x0D ∷ 0xB8 ∷ []
 
--- the value of MP_UNREACH_NLRI
+-- the value of an MP_UNREACH_NLRI (RFC 4760, section 4) that withdraws 2001:db9::/32
 abbrev pub unreach_octets : List ℕ
 unreach_octets =
     -- AFI: IPv6; SAFI: unicast; 2001:db9::/32
     0x00 ∷ 0x02 ∷ 0x01 ∷ 0x20 ∷ 0x20 ∷ 0x01 ∷ 0x0D ∷ 0xB9 ∷ []
 
--- the octets of `all_attrs` and of the two attributes above, with AS numbers of four octets
+-- octets that spell `all_attrs`, with AS numbers of four octets, and then MP_REACH_NLRI with the value `reach_octets`
+-- and MP_UNREACH_NLRI with the value `unreach_octets`
 abbrev pub all_attribute_octets : List ℕ
 all_attribute_octets =
     -- ORIGIN: flags, type, length, INCOMPLETE
@@ -104,13 +107,15 @@ all_attribute_octets =
     -- MP_UNREACH_NLRI: flags, type, length
     ++ 0x80 ∷ 0x0F ∷ 0x08 ∷ unreach_octets)
 
--- the body of an UPDATE that withdraws and announces IPv6 prefixes
+-- the body of an UPDATE with the attributes `all_attribute_octets`, which announce 2001:db8::/32 and withdraw
+-- 2001:db9::/32
 abbrev pub ipv6_update_octets : List ℕ
 ipv6_update_octets =
     -- Withdrawn Routes Length: 0; Total Path Attribute Length: 107
     0x00 ∷ 0x00 ∷ 0x00 ∷ 0x6B ∷ all_attribute_octets
 
--- the UPDATE that `ipv6_update_octets` spell
+-- the UPDATE that `ipv6_update_octets` spell: it withdraws `withdrawn_ipv6_prefix`, and announces `ipv6_prefix` with
+-- `all_attrs` and the next hop `ipv6_hop`
 abbrev pub ipv6_update : Update
 ipv6_update =
     record {
@@ -122,11 +127,12 @@ ipv6_update =
       mp_announced = ipv6_prefix ∷ [];
     }
 
--- that UPDATE, and the peer that sent it
+-- the message `ipv6_update` of `ipv6_peer`
 abbrev pub ipv6_message : PeerMessage
 ipv6_message = record { message = messages.Update ipv6_update; peer = ipv6_peer }
 
--- the fields of a session with `ipv6_peer`, with AS numbers of four octets
+-- the first fields of a BGP4MP body (RFC 6396, section 4.4), which describe a session between `ipv6_peer` and
+-- 2001:db8::2 of AS 64501, with AS numbers of four octets
 abbrev pub ipv6_session_octets : List ℕ
 ipv6_session_octets =
     -- Peer AS Number: 64500; Local AS Number: 64501
@@ -140,7 +146,8 @@ ipv6_session_octets =
     ∷ 0x20 ∷ 0x01 ∷ 0x0D ∷ 0xB8 ∷ 0x00 ∷ 0x00 ∷ 0x00 ∷ 0x00
     ∷ 0x00 ∷ 0x00 ∷ 0x00 ∷ 0x00 ∷ 0x00 ∷ 0x00 ∷ 0x00 ∷ 0x02 ∷ []
 
--- the body of a BGP4MP_MESSAGE_AS4
+-- the body of a BGP4MP_MESSAGE_AS4 record (RFC 6396, section 4.4.3): `ipv6_session_octets`, and an UPDATE message,
+-- which is the header of BGP messages and `ipv6_update_octets`
 abbrev pub ipv6_message_body : List ℕ
 ipv6_message_body =
     ipv6_session_octets
@@ -150,7 +157,7 @@ ipv6_message_body =
     -- Length: 130; Type: UPDATE
     ∷ 0x00 ∷ 0x82 ∷ 0x02 ∷ ipv6_update_octets
 
--- a BGP4MP_MESSAGE_AS4
+-- a whole BGP4MP_MESSAGE_AS4 record of time 100: its header, and `ipv6_message_body`
 abbrev pub ipv6_message_octets : List ℕ
 ipv6_message_octets =
     -- Timestamp: 100
@@ -160,11 +167,12 @@ ipv6_message_octets =
     -- Length: 174
     ∷ 0x00 ∷ 0x00 ∷ 0x00 ∷ 0xAE ∷ ipv6_message_body
 
--- the attributes of the announced prefix: `all_attrs` with the next hop of MP_REACH_NLRI
+-- the attributes of the prefix that `ipv6_update` announces: `all_attrs` with the next hop `ipv6_hop`
 abbrev pub announced_attrs : Attrs
 announced_attrs = record all_attrs { next_hop = Some ipv6_hop }
 
--- the frame of `ipv6_message_octets`
+-- the frame (record and outcome) of `ipv6_message_octets`: it is accepted, and its event has the withdrawal and the
+-- announcement of `ipv6_update`
 abbrev pub ipv6_message_frame : Frame
 ipv6_message_frame =
     record {
@@ -176,7 +184,7 @@ ipv6_message_frame =
           ∷ Announced ipv6_peer ipv6_prefix (route_of announced_attrs 100) ∷ []));
     }
 
--- the lines of `ipv6_message_frame`
+-- the lines that `bgpdump -m` prints of `ipv6_message_frame`: of a withdrawal, and of an announcement
 abbrev pub ipv6_message_lines : List ℕ
 ipv6_message_lines =
     codes "BGP4MP|100|W|2001:db8::1|64500|2001:db9::/32\n"

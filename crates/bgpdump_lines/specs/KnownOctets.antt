@@ -20,7 +20,9 @@ held_octets stamp Saw old new octets taken is consumed =
     let known = taken_of old new octets taken is consumed in
     record { taken = taken; after = known.0; more = known.0; took = known.1; whole = known.2; follows = λ frames rest splits saw none. none }
 
--- A run that ends so for all octets that its input may hold ends so for the octets that the input shows.
+-- A theorem: what `EndsForAllContents` says of a run, for all octets that its input may hold, implies what
+-- `EndsOnKnownInput` says of it, for the octets `left` that the input showed before it. The run took the octets
+-- `taken`, and left `left'`.
 pub ends_on_octets : (stamp : Stamp) (outcome : Outcome) (Saw : List Frame → List ℕ → Type 0) (texts : List RecordResult → Texts) (left left' : Option (List ℕ)) (old new : Outputs) (taken : List ℕ)
     → Consumes left left' taken → EndsForAllContents stamp outcome Saw texts left left' old new → EndsOnKnownInput stamp outcome texts left old new
 ends_on_octets stamp outcome Saw texts left left' old new taken consumed ends octets frames rest is splits =

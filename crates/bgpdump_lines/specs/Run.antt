@@ -15,7 +15,8 @@ use Rattle.bgpdump_lines.specs.Lines.{line_feed, event_lines}
 
 -- ---- what a run takes from its input and writes to its outputs, where their octets are known
 
--- the octets of an output grow from `old` to `new` by a prefix of `text`, where they are known
+-- the octets of an output grow from `old` to `new` by a prefix of `text`, maybe empty or all of it, where they are
+-- known
 pub record AppendsPrefix (old new : Option (List ℕ)) (text : List ℕ) : Type 0 where
   pub front : List ℕ
   pub back : List ℕ
@@ -27,7 +28,7 @@ pub record Texts : Type 0 where
   pub out : List ℕ
   pub err : List ℕ
 
--- the texts of a run that wrote `first` and then `then`
+-- the texts of a run that wrote the texts `first`, and after them `then`: joined for each output by itself
 abbrev pub joined_texts : Texts → Texts → Texts
 joined_texts first then = record { out = first.out ++ then.out; err = first.err ++ then.err }
 
@@ -37,19 +38,21 @@ pub record Outputs : Type 0 where
   pub out : Option (List ℕ)
   pub err : Option (List ℕ)
 
--- the octets that were written so far to `out` and to `err`, where `written` and `written'` know them
+-- the octets that were written so far to the devices `out` and `err`, as `written` gives them of `out`, and
+-- `written'` of `err`: `None` where they aren't known
 abbrev pub outputs_of : {O E : Type 0} → (O → Option (List ℕ)) → (E → Option (List ℕ)) → O → E → Outputs
 outputs_of written written' out err = record { out = written out; err = written' err }
 
--- `IsSo` holds of a run over an input and two outputs: of what the input has left before and after the run,
--- and of what the outputs have got before and after it, where `left`, `written` and `written'` know these
--- octets
+-- `IsSo` holds of the octets that an input has left before a run and after it, and of those that two outputs have got
+-- before and after it. The first triple is input, output of lines or replies, and output of reports before the run,
+-- the second these after it; `left`, `written` and `written'` give the octets of each, `None` where they aren't known
 abbrev pub HoldsForDevices : {I O E : Type 0} → (I → Option (List ℕ)) → (O → Option (List ℕ)) → (E → Option (List ℕ)) → (Option (List ℕ) → Option (List ℕ) → Outputs → Outputs → Type 0) → I × O × E → I × O × E → Type 0
 HoldsForDevices left written written' IsSo (input, out, err) (input', out', err') =
     IsSo (left input) (left input') (outputs_of written written' out err) (outputs_of written written' out' err')
 
--- the results of octets that split into `frames` and `rest`, the octets after the last whole record: each an
--- event or a fault, with times of table entries chosen by `stamp`
+-- all results of an input whose octets split into `frames` and `rest`, the octets after the last whole record: the
+-- event or fault of each frame, in order, and a fault of `rest`, if it isn't empty. Faults have numbers and offsets
+-- from the start of the input; `stamp` is the choice of the times that routes of tables have in the frames
 abbrev pub all_results : Stamp → List Frame → List ℕ → List RecordResult
 all_results stamp frames rest = results (start_state stamp INPUT_LIMIT) frames rest
 
@@ -62,32 +65,32 @@ Writes texts old new = Appends old.out new.out texts.out × Appends old.err new.
 abbrev pub WritesPrefixes : Texts → Outputs → Outputs → Type 0
 WritesPrefixes texts old new = AppendsPrefix old.out new.out texts.out × AppendsPrefix old.err new.err texts.err
 
--- a run with this outcome, which was to write `texts` in all, took the outputs from `old` to `new`. `Done`:
--- it wrote all, and there are no reports; `Reported`: it wrote all, and there are some; `ScriptTooLong`:
--- impossible; any other outcome: it wrote a prefix of each text
+-- a run with this outcome, which was to write `texts` in all, took the octets of its outputs from `old` to `new`,
+-- where they are known. `Done`: it wrote all, and `texts` has no reports; `Reported`: it wrote all, and `texts` has
+-- some; `ScriptTooLong`: impossible; any other outcome: it wrote a prefix of each text
 abbrev pub EndsWithTexts : Outcome → Texts → Outputs → Outputs → Type 0
 EndsWithTexts Done texts old new = (texts.err ≡ []) × Writes texts old new
 EndsWithTexts Reported texts old new = (texts.err ≢ []) × Writes texts old new
 EndsWithTexts ScriptTooLong texts old new = ⊥
 EndsWithTexts fault texts old new = WritesPrefixes texts old new
 
--- a run with this outcome took the outputs from `old` to `new`, as `EndsWithTexts` says, by what `texts`
--- gives for all results of `left`, the octets that the input had left before it (times chosen by `stamp`); no
--- claim where `left` is `None`
+-- a run with this outcome took the outputs from `old` to `new` as `EndsWithTexts` says, where what it was to write is
+-- what `texts` gives for all results of `left`, the octets that its input had left before it (times of table entries
+-- chosen by `stamp`). True of any run where `left` isn't known (`None`)
 abbrev pub EndsOnKnownInput : Stamp → Outcome → (List RecordResult → Texts) → Option (List ℕ) → Outputs → Outputs → Type 0
 EndsOnKnownInput stamp outcome texts left old new =
     (octets : List ℕ) (frames : List Frame) (rest : List ℕ) → left ≡ Some octets → Splits stamp None octets frames rest
     → EndsWithTexts outcome (texts (all_results stamp frames rest)) old new
 
--- the outcome is of a run that ended as reading the input failed, or as the input was too long
+-- the outcome is `ReadFault` (reading the input failed) or `InputTooLong` (its limit was passed)
 abbrev pub EndedByInputFault : Outcome → Type 0
 EndedByInputFault ReadFault = Unit {0}
 EndedByInputFault InputTooLong = Unit {0}
 EndedByInputFault other = ⊥
 
--- a run with this outcome, which took `frames` and then the octets `rest`, saw the end of its input: no
--- header in `rest` states too great a length, and either the run came to its end, or an output failed, and
--- `rest` isn't empty (the input ended within a record)
+-- a run with this outcome, which took `frames` and then the octets `rest`, saw the end of its input: `rest` begins
+-- with no header that states more than 16,777,216 octets, and either the outcome is `Done` or `Reported`, or it is
+-- `WriteFault` and `rest` isn't empty (the input ended within a record). False for any other outcome
 abbrev pub SawEnd : Outcome → List Frame → List ℕ → Type 0
 SawEnd Done frames rest = StatesNoExcess rest
 SawEnd Reported frames rest = StatesNoExcess rest
@@ -106,37 +109,40 @@ pub record MayHold (stamp : Stamp) (Saw : List Frame → List ℕ → Type 0) (o
   pub whole : octets ≡ taken ++ more
   pub follows : (frames : List Frame) (rest : List ℕ) → Splits stamp None taken frames rest → Saw frames rest → after ≡ [] → more ≡ []
 
--- `IsSo` holds of the results (times chosen by `stamp`) of all octets that an input may hold (`MayHold`) that
--- had `left` left before a run and `left'` after it, where `Saw` tells by the frames taken, and by the octets
--- taken after them, that the run saw the input's end
+-- `IsSo` holds of all results (times of table entries chosen by `stamp`) of each list of octets that an input may
+-- have held before a run (`MayHold`), by what it had left before the run, `left`, and after it, `left'`. `Saw` says
+-- of the frames that the run took, and the octets that it took after them, whether it saw the end of the input. True
+-- where `left` or `left'` isn't known
 abbrev pub HoldsForAllContents : Stamp → (List Frame → List ℕ → Type 0) → Option (List ℕ) → Option (List ℕ) → (List RecordResult → Type 0) → Type 0
 HoldsForAllContents stamp Saw left left' IsSo =
     (octets : List ℕ) (frames : List Frame) (rest : List ℕ) → MayHold stamp Saw left left' octets → Splits stamp None octets frames rest
     → IsSo (all_results stamp frames rest)
 
--- `IsSo` holds of the frames, and of the octets after them, which begin with no whole record, into which the
--- octets split that were taken from an input with `left` left before and `left'` after; no claim where these
--- aren't known
+-- `IsSo` holds of the frames, and of the octets after the last of them, that a run took from its input, which had
+-- `left` left before it and `left'` after it; these octets begin with no whole record. True where `left` or `left'`
+-- isn't known
 abbrev pub HoldsForTaken : Stamp → Option (List ℕ) → Option (List ℕ) → (List Frame → List ℕ → Type 0) → Type 0
 HoldsForTaken stamp left left' IsSo =
     (taken after : List ℕ) (frames : List Frame) (rest : List ℕ) → TakesFront left left' taken after → Splits stamp None taken frames rest → IsSo frames rest
 
--- for all octets that the input may hold (`HoldsForAllContents`, of `Saw`, `left` and `left'`), a run with
--- this outcome took the outputs from `old` to `new`, as `EndsWithTexts` says, by what `texts` gives for their
--- results
+-- for each list of octets that the input may have held before a run (`HoldsForAllContents`, of `Saw`, `left` and
+-- `left'`), the run, with this outcome, took the outputs from `old` to `new` as `EndsWithTexts` says, where what it
+-- was to write is what `texts` gives for all results of these octets
 abbrev pub EndsForAllContents : Stamp → Outcome → (List Frame → List ℕ → Type 0) → (List RecordResult → Texts) → Option (List ℕ) → Option (List ℕ) → Outputs → Outputs → Type 0
 EndsForAllContents stamp outcome Saw texts left left' old new =
     HoldsForAllContents stamp Saw left left' (λ found. EndsWithTexts outcome (texts found) old new)
 
--- a run that ended as reading the input failed or its limit was passed took the outputs from `old` to `new`
--- by exactly what `texts` gives for the results of the frames taken (from `left` to `left'`)
+-- if the outcome is that reading the input failed or that its limit was passed, the run took the outputs from `old`
+-- to `new` by exactly what `texts` gives for the results of the frames that it took from its input, which had `left`
+-- left before it and `left'` after it; nothing for the octets taken after them. True where `left` or `left'` isn't
+-- known
 abbrev pub WritesBeforeInputFault : Stamp → Outcome → (List RecordResult → Texts) → Option (List ℕ) → Option (List ℕ) → Outputs → Outputs → Type 0
 WritesBeforeInputFault stamp outcome texts left left' old new =
     EndedByInputFault outcome → HoldsForTaken stamp left left' (λ frames rest. Writes (texts (all_results stamp frames [])) old new)
 
--- `rest` may be what a run with this outcome took after its frames: an unfinished record, if reading the
--- input failed or its limit was passed; or else octets that begin with no whole record, maybe none, or, for
--- want of memory, a whole one of which nothing is written. It doesn't hold if the script was too long
+-- `rest` may be what a run with this outcome took after its frames. `ReadFault` and `InputTooLong`: a part of a
+-- record, maybe empty (`IsUnfinished`); `Memory`: what may be left after the last whole record (`IsRest`), or a whole
+-- record of which nothing is written; `ScriptTooLong`: impossible; any other outcome: `IsRest`
 abbrev pub MayTakeAfterFrames : Outcome → List ℕ → Type 0
 MayTakeAfterFrames ReadFault rest = IsUnfinished rest
 MayTakeAfterFrames InputTooLong rest = IsUnfinished rest
@@ -156,7 +162,9 @@ pub record IsTaken (stamp : Stamp) (outcome : Outcome) (taken : List ℕ) : Type
 
 -- ---- the reports of faulty records, and the texts of results
 
--- what is wrong with a record, as its report says
+-- what is wrong with a record, in the words of its report: `cut record`, `length N too long`,
+-- `unsupported type T subtype S`, `malformed`, `no peer index` or `peer index N`, with the numbers of the fault in
+-- decimal
 abbrev pub fault_kind_text : RecordKind → List ℕ
 fault_kind_text CutRecord = codes "cut record"
 fault_kind_text (TooLong size) = codes "length " ++ (decimal size ++ codes " too long")
@@ -165,26 +173,28 @@ fault_kind_text Malformed = codes "malformed"
 fault_kind_text NoIndex = codes "no peer index"
 fault_kind_text (PeerIndex number) = codes "peer index " ++ decimal number
 
--- the report of a faulty record: a line with its number, its offset and what is wrong with it
+-- the report of a faulty record, a line with the record's number, the offset of its header and what is wrong with it:
+-- `bgpdump: record NUMBER, byte OFFSET: FAULT`
 abbrev pub fault_report : RecordFault → List ℕ
 fault_report fault =
     codes "bgpdump: record " ++ (decimal fault.number ++ (codes ", byte " ++ (decimal fault.offset
     ++ (codes ": " ++ (fault_kind_text fault.kind ++ line_feed ∷ [])))))
 
--- the lines of a result: of its event, or none for a fault
+-- the lines of a result: those of its event, or no octets for a fault
 abbrev pub finding_lines : RecordResult → List ℕ
 finding_lines (Found event) = event_lines event
 finding_lines (Bad fault) = []
 
--- the report of a result: of its fault, or none for an event
+-- the report of a result: that of its fault, or no octets for an event
 abbrev pub finding_report : RecordResult → List ℕ
 finding_report (Found event) = []
 finding_report (Bad fault) = fault_report fault
 
--- the reports of all faults among results
+-- the reports of all faults among results, in order
 abbrev pub reports : List RecordResult → List ℕ
 reports found = flat_map finding_report found
 
--- what a run of `bgpdump -m` writes of these results: the lines of all events, and the reports of all faults
+-- what a run of `bgpdump -m` writes of these results, in order: the lines of all events, and the reports of all
+-- faults
 abbrev pub dump_texts : List RecordResult → Texts
 dump_texts found = record { out = flat_map finding_lines found; err = reports found }

@@ -49,26 +49,28 @@ pub record PutsThroughBuffer (old new : Option (List ℕ)) (before after more : 
   pub appended : Appends old new front
   pub whole : front ++ after ≡ before ++ more
 
--- A call passes `more` through a buffer to an output as `PutsThroughBuffer` says, if the result is Ok. On Err
--- a prefix of `before ++ more` was written.
+-- A call passes `more` through a buffer to an output: the buffer holds `before` and then `after`, and the output's
+-- octets are `old` and then `new`, where they are known. On Ok it writes a prefix of `before ++ more`, and the buffer
+-- holds the rest; on Err it writes a prefix of `before ++ more`, and the buffer may hold anything.
 abbrev pub PutsThroughBufferOrFront : {A : Type 0} → Option (List ℕ) → Option (List ℕ) → List ℕ → List ℕ → List ℕ → Result A WriteFault → Type 0
 PutsThroughBufferOrFront old new before after more (Ok done) = PutsThroughBuffer old new before after more
 PutsThroughBufferOrFront old new before after more (Err fault) = AppendsPrefix old new (before ++ more)
 
--- A call that writes the texts of the findings `found` to both outputs writes all of them if the result is
--- Ok, and a prefix of each if an output fails. If memory allocation fails, it writes nothing, or for a single
--- event a prefix of its lines.
+-- A call that writes the lines and the reports of the results `found` to both outputs, whose octets are `old` before
+-- it and `new` after it where they are known, writes all of them if the result is Ok, and a prefix of each text if an
+-- output fails. If memory allocation fails, it writes nothing, or, if `found` is a single event, a prefix of its
+-- lines.
 abbrev pub PutsFindings : {A : Type 0} → List RecordResult → Outputs → Outputs → Result A WriteFault → Type 0
 PutsFindings found old new (Ok done) = Writes (dump_texts found) old new
 PutsFindings found old new (Err Write) = WritesPrefixes (dump_texts found) old new
 PutsFindings found old new (Err Memory) = (new ≡ old) ⊎ ((event : Event) × (found ≡ Found event ∷ []) × WritesPrefixes (dump_texts found) old new)
 
--- Whether the result is the error of an output.
+-- Whether the result is the error `Write`: an output failed.
 abbrev pub is_output_fault : {A : Type 0} → Result A WriteFault → Bool
 is_output_fault (Err Write) = true
 is_output_fault other = false
 
--- Whether there is a faulty record among the findings.
+-- Whether a faulty record is among the results.
 abbrev pub has_fault : List RecordResult → Bool
 has_fault [] = false
 has_fault (Found event ∷ found) = has_fault found
@@ -83,26 +85,28 @@ exit_status Reported = 1
 exit_status outcome.Memory = 4
 exit_status other = 3
 
--- The outcome of a run that a fault of its source ends. A spent source, which no run reads on, counts as out
--- of memory.
+-- The outcome of a run that this fault of its source of records ends: ReadFault for `Read`, InputTooLong and Memory
+-- for the faults of these names, and Memory for `Spent` too, a fault that no run meets, as none reads on after an
+-- error.
 abbrev pub outcome_of_source_fault : SourceFault → Outcome
 outcome_of_source_fault source.Read = outcome.ReadFault
 outcome_of_source_fault source.InputTooLong = outcome.InputTooLong
 outcome_of_source_fault source.Memory = outcome.Memory
 outcome_of_source_fault source.Spent = outcome.Memory
 
--- The outcome of a run that an error of writing ends.
+-- The outcome of a run that this error of writing ends: WriteFault if an output failed, Memory if memory allocation
+-- did.
 abbrev pub outcome_of_write_fault : WriteFault → Outcome
 outcome_of_write_fault write.Write = outcome.WriteFault
 outcome_of_write_fault write.Memory = outcome.Memory
 
--- A result of writing, with the outcome of the run in place of its error.
+-- A result of writing, whose error, if it has one, is replaced by the outcome of a run that this error ends.
 abbrev pub with_outcome_error : {A : Type 0} → Result A WriteFault → Result A Outcome
 with_outcome_error (Ok done) = Ok done
 with_outcome_error (Err fault) = Err (outcome_of_write_fault fault)
 
--- The outcome of a run that came to its end, by whether an output failed as it was finished, and whether
--- something was reported.
+-- The outcome of a run that came to its end: WriteFault if an output failed as it was finished (the first flag), or
+-- else Reported if something was reported (the second flag), or else Done.
 abbrev pub outcome_of_finished_run : Bool → Bool → Outcome
 outcome_of_finished_run true reported = outcome.WriteFault
 outcome_of_finished_run false true = outcome.Reported
@@ -167,17 +171,20 @@ pub record StopsAtPrefixes (p : SourceState) (left left' : Option (List ℕ)) (o
   pub within : place.offset ≤ p.limit
   pub fronts : WritesPrefixes (dump_texts found) old new
 
--- Writing stopped a run with this fault. If memory allocation failed, the last octets taken are a record or a
--- rest of which nothing is written; or they are a record, and a prefix of each text is written.
+-- Writing stopped a run with this fault: its source was in the state `p` and its input had `left` left before, the
+-- input has `left'` left after, and its outputs went from `old` to `new`. A prefix of each text of what it found is
+-- written, and, if memory allocation failed, it took only whole records; or memory allocation failed, the texts of
+-- what it found are written, and then it took a record, or what may follow the last one, of which nothing is written.
 abbrev pub StopsAtWriting : SourceState → Option (List ℕ) → Option (List ℕ) → Outputs → Outputs → WriteFault → Type 0
 StopsAtWriting p left left' old new Write = StopsAtPrefixes p left left' old new
 StopsAtWriting p left left' old new Memory =
     ((stop : StopsUnwritten p left left' old new) × MayTakeAfterFrames outcome.Memory stop.untold.octets)
     ⊎ ((stop : StopsAtPrefixes p left left' old new) × (stop.so_far.rest ≡ []))
 
--- How a run ended, from the state `p` of its source on, before its outputs are finished: with the input, and
--- all that was found is written, if the result is Ok; or else with a fault of the source or of writing, which
--- has this outcome.
+-- A run ended with this result, before its outputs were flushed: its source was in the state `p` and its input had
+-- `left` left before, the input has `left'` left after, and its outputs went from `old` to `new`. Ok: it came to the
+-- end of the input and wrote all that it found; the flag is whether it reported a fault. Err: a fault of the source
+-- or of writing stopped it, and has this outcome.
 abbrev pub EndsUnfinished : SourceState → Result Bool Outcome → Option (List ℕ) → Option (List ℕ) → Outputs → Outputs → Type 0
 EndsUnfinished p (Ok reported) left left' old new = (q : SourceState) × (q.phase ≡ Ended) × WrittenSoFar p q left left' old new reported
 EndsUnfinished p (Err outcome) left left' old new =
@@ -186,6 +193,7 @@ EndsUnfinished p (Err outcome) left left' old new =
 
 -- ---- before the next record is read
 
--- the next record may be read: it is buffered as a whole, so that no read waits or fails, or both outputs hold nothing back
+-- The next record may be read: `buffered`, what the input has in its buffer, holds it as a whole, so that no read
+-- waits or fails, or neither output holds anything back (`AreFlushed`, of `out` and `err`).
 abbrev pub IsReadyToRead : List ℕ → Option (List ℕ) → Option (List ℕ) → Type 0
 IsReadyToRead buffered out err = HoldsRecord buffered ⊎ AreFlushed out err

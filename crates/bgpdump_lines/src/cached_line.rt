@@ -51,10 +51,10 @@ pub(crate) struct LineStart {
 }
 
 impl LineStart {
-    /// Returns the start of the lines of `peer` for routes with the time `time`, in seconds since 1970.
-    /// `octets` are that start, and `head` is the offset in it at which its first three fields end.
-    /// Requires that `octets` were printed for `peer` and `time`, and that they are at most
-    /// [`START_ROOM`].
+    /// Returns the octets before the prefix in the lines of `peer` for routes with the time `time`,
+    /// in seconds since 1970, as a copy of `octets`. `head` is the offset in `octets` at which the
+    /// first three fields (kind, time, letter) end. Requires that `octets` were printed for `peer`
+    /// and `time`, and that they are at most [`START_ROOM`].
     fn of(peer: &Peer, time: u32, octets: &[u8], head: usize) -> LineStart
         requires printed { IsLineStart octets.now head peer.now time }
         requires short { length octets.now ≤ START_ROOM }
@@ -71,9 +71,11 @@ impl LineStart {
     }
 }
 
-/// The printed line of a peer's route in a table, without the prefix: the octets before it, and those
-/// after it, such as `|65000|IGP|192.0.2.1|0|0||NAG||` and a line feed. In the line of another prefix,
-/// the first are copied if the peer and the time are equal, and the latter if the route is.
+/// The printed line of a peer's route in a table, without the prefix: the octets before it, such as
+/// `TABLE_DUMP2|1700000000|B|192.0.2.1|65000`, and those after it, such as
+/// `|65000|IGP|192.0.2.1|0|0||NAG||` and a line feed. They are copied into lines of this peer with
+/// other prefixes: the octets before the prefix if the time is equal, and those after it if the
+/// route is.
 #[derive(Drop)]
 pub(crate) struct CachedLine {
     /// The octets before the prefix, with the peer.
@@ -115,11 +117,11 @@ impl CachedLine {
         Ok(line)
     }
 
-    /// Replaces this line by that of `route` from `peer`. `ends` are the octets of the new line before
-    /// and after the prefix. Requires that they were printed for `peer` and `route`, with at most
-    /// [`START_ROOM`] octets before the prefix and [`LONGEST_TAIL`] after it. Fails if memory allocation
-    /// fails; the line has the new start then, and no tail, so that [`CachedLine::tail_if_equal`] returns
-    /// `None`.
+    /// Replaces this line by the line of `route` from `peer`. `ends` are the octets of the new line
+    /// before and after the prefix. Requires that they were printed for `peer` and `route`, with at
+    /// most [`START_ROOM`] octets before the prefix and [`LONGEST_TAIL`] after it. Fails if memory
+    /// allocation fails; the octets before the prefix are then the new ones, and
+    /// [`CachedLine::tail_if_equal`] returns `None`.
     pub(crate) fn replace(
         &mut self,
         peer: &Peer,
@@ -134,9 +136,10 @@ impl CachedLine {
         self.replace_tail(route, ends.tail)
     }
 
-    /// Replaces the octets after the prefix by `tail`, and the route by `route`. Requires that `tail` was
-    /// printed for `route`, and that it has at most [`LONGEST_TAIL`] octets. Fails if memory allocation
-    /// fails; the line has no tail then, so that [`CachedLine::tail_if_equal`] returns `None`.
+    /// Replaces the octets after the prefix by `tail`, and the route that they were printed for by
+    /// `route`. Requires that `tail` was printed for `route`, and that it has at most
+    /// [`LONGEST_TAIL`] octets. Fails if memory allocation fails; [`CachedLine::tail_if_equal`]
+    /// then returns `None`, and the octets before the prefix are unchanged.
     #[inline]
     pub(crate) fn replace_tail(&mut self, route: &Rc<Route>, tail: &[u8]) -> Result<(), AllocError>
         requires printed { tail.now ≡ fields_after_prefix route.now.value }

@@ -17,19 +17,20 @@ use ip_prefix::Text;
 use mrt_wire::{Input, Next, Source, Stamp};
 use std::alloc::Global;
 
-/// The largest number of octets that an execution of the program takes from its input: 2^40. If the input
-/// is longer, it ends as [`Outcome::InputTooLong`].
+/// The largest number of octets that an execution of the program takes from its input: 2^40. If it
+/// needs to read on after these, it ends as [`Outcome::InputTooLong`].
 pub const INPUT_LIMIT: u64 = 1 << 40;
 
-/// Writes the MRT records (RFC 6396) in `input` as text: the lines of their routes, withdrawals and state
-/// changes to `out`, and a line for each faulty record to `err`. Each record is written before the next
-/// one is read, and both outputs are flushed before a read that may wait. `stamp` selects which time the
-/// routes of tables get: that of the dump, or that of their last change. Requires that no device has
-/// failed before.
+/// Writes the MRT records (RFC 6396) in `input` as text: the lines of their routes, withdrawals and
+/// state changes to `out`, and a line for each faulty record to `err`. Each record is written
+/// before the next one is read, and both outputs are flushed before a read that may wait. `stamp`
+/// selects which time the routes of tables get: when the table was dumped, or when the route last
+/// changed. Requires that neither `input` nor an output has failed before.
 ///
 /// It stops at the end of the input, after a header with a length above 16,777,216 octets (which is
-/// reported), or at the first error, which the [`Outcome`] names. If nothing fails, it calls
-/// [`Output::finish`] of `out` and then of `err`.
+/// reported to `err`), or at the first error: a failed read, write or flush, an input that is too
+/// long ([`INPUT_LIMIT`]), or a lack of memory. The [`Outcome`] says which. If there was no error,
+/// it calls [`Output::finish`] of `out` and then of `err` at the end.
 pub fn run_dump<I: Input, O: Output, E: Output>(
     alloc: Global,
     input: &mut I,
@@ -82,11 +83,11 @@ pub fn run_dump<I: Input, O: Output, E: Output>(
     }
 }
 
-/// Writes the MRT records in `input` as [`run_dump`] does, but doesn't call [`Output::finish`] after the
-/// last one. `stamp` selects which time the routes of tables get: that of the dump, or that of their last
-/// change. Returns `true` if at least one faulty record was reported to `err`, and `false` if none was.
-/// Fails with the [`Outcome`] of the program: a failed read or write, an input that is too long, or a
-/// lack of memory.
+/// Writes the MRT records in `input` as [`run_dump`] does, but doesn't call [`Output::finish`]
+/// after the last one. `stamp` selects which time the routes of tables get: when the table was
+/// dumped, or when the route last changed. Returns `true` if at least one faulty record was
+/// reported to `err`, and `false` if none was. Fails with the [`Outcome`] of the program: a failed
+/// read or write, an input that is too long ([`INPUT_LIMIT`]), or a lack of memory.
 fn dump_all<I: Input, O: Output, E: Output>(
     alloc: Global,
     input: &mut I,

@@ -19,13 +19,13 @@ use ip_prefix::Text;
 use mrt_wire::{Event, Item};
 use std::alloc::AllocError;
 
-/// Appends the line of `item`, an announcement, withdrawal or state change, such as
-/// `BGP4MP|1700000000|W|192.0.2.1|65000|198.51.100.0/24`. `heading` gives the kind and the time of its
-/// record. `last` describes the last line of `text`, or is `None`: fields that the new line has in common
-/// with that one are copied from it. Requires that the line described by `last` is that of an
-/// announcement under `heading`. Returns what the next call gets as `last`: a description of the new line
-/// if `item` is an announcement, or else `None`. Fails if memory allocation fails; `text` then ends with
-/// an unspecified part of the line.
+/// Appends the line of `item`, an announcement, withdrawal or state change, to `text`, such as
+/// `BGP4MP|1700000000|W|192.0.2.1|65000|198.51.100.0/24` and a line feed. `heading` gives the kind
+/// and the time of the item's record. `last`, if given, describes the last line of `text`, from
+/// which an announcement's line copies the fields that are equal. Requires that this last line
+/// prints an announcement with `heading`. Returns a description of the new line, to be passed as
+/// `last` to the next call, or `None` if `item` isn't an announcement. Fails if memory allocation
+/// fails; `text` then ends with an unspecified part of the line.
 #[inline(always)]
 pub(crate) fn put_item_line<'a>(
     heading: &Heading,
@@ -81,10 +81,10 @@ fn put_item_lines(heading: &Heading, items: &[Item], text: &mut Text) -> Result<
     put_each_item_line(heading, items, text)
 }
 
-/// Appends a line for each of `items` (announcements, withdrawals, state changes) in order, or nothing if
-/// there are none. `heading` gives the kind and the time of their record. What the line of an
-/// announcement has in common with that of one right before it is copied. Fails if memory allocation
-/// fails; `text` then ends with an unspecified part of the lines.
+/// Appends a line for each of `items` (announcements, withdrawals, state changes) in order, or
+/// nothing if there are none. `heading` gives the kind and the time of their record. In the line of
+/// an announcement right after another one's, fields that are equal are copied. Fails if memory
+/// allocation fails; `text` then ends with an unspecified part of the lines.
 #[inline(never)]
 fn put_each_item_line(heading: &Heading, items: &[Item], text: &mut Text) -> Result<(), AllocError>
     ensures { Prints text.old text.new (lines_under_heading heading.now (map item_value items.now)) result }
@@ -97,11 +97,11 @@ fn put_each_item_line(heading: &Heading, items: &[Item], text: &mut Text) -> Res
     Ok(())
 }
 
-/// Appends the line of `item`, which repeats the last line of `text` with another prefix. Requires that
-/// `item` announces the peer and the route of `first`, and that `last` has the offsets of the fields of
-/// the last line of `text`, which prints that peer and route under `heading`. Returns the offsets of the
-/// new line's fields in `text`. Fails if memory allocation fails; `text` then ends with an unspecified
-/// part of the line.
+/// Appends the line of `item`, an announcement, to `text`: a copy of the last line of `text` with
+/// another prefix. Requires that `item` announces the peer and the route of `first`, that the last
+/// line of `text` prints this peer and route, with `heading`, and that `last` has the offsets of
+/// that line's fields in `text`. Returns the offsets of the new line's fields in `text`. Fails if
+/// memory allocation fails; `text` then ends with an unspecified part of the line.
 #[inline(always)]
 pub(crate) fn put_another_prefix(
     heading: &Heading,
@@ -123,10 +123,11 @@ pub(crate) fn put_another_prefix(
     }
 }
 
-/// Appends a line for each of `items`, which repeats the line before it with another prefix. Requires
-/// that each item announces the peer and the route of `first`, and that `offsets` are those of the fields
-/// of the last line of `text`, which prints that peer and route under `heading`. Fails if memory
-/// allocation fails; `text` then ends with an unspecified part of the lines.
+/// Appends a line for each of `items`, announcements, to `text`: a copy of the line before it with
+/// another prefix. Requires that each item announces the peer and the route of `first`, that the
+/// last line of `text` prints this peer and route, with `heading`, and that `offsets` has the
+/// offsets of that line's fields in `text`. Fails if memory allocation fails; `text` then ends with
+/// an unspecified part of the lines.
 #[inline(always)]
 fn put_other_prefixes(
     heading: &Heading,
@@ -182,8 +183,9 @@ fn put_shared_route(heading: &Heading, items: &[Item], text: &mut Text) -> Resul
     put_other_prefixes(heading, first, offsets, rest, text)
 }
 
-/// Appends the lines of `event`, one for each of its items (announcements, withdrawals, state changes) in
-/// order. Fails if memory allocation fails; `text` then ends with an unspecified part of the lines.
+/// Appends the lines of `event`, what an MRT record reports, to `text`: one for each of its items
+/// (announcements, withdrawals, state changes) in order. Fails if memory allocation fails; `text`
+/// then ends with an unspecified part of the lines.
 #[inline(always)]
 fn put_event_lines(event: &Event, text: &mut Text) -> Result<(), AllocError>
     ensures { Prints text.old text.new (event_lines event.now) result }

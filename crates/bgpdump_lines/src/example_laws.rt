@@ -11,9 +11,9 @@ ghost use Rattle.bgpdump_lines.specs.Examples.{state_change_octets, state_change
 ghost use Rattle.bgpdump_lines.specs.Ipv6Example.{ipv6_message_octets, ipv6_message_frame, ipv6_message_lines};
 ghost use Rattle.bgpdump_lines.specs.Run.{all_results, dump_texts};
 
-/// States what is printed for one given example, a BGP4MP_STATE_CHANGE record: a change from Established
-/// to Idle at a peer. Its octets are one frame (a whole record), its line is the one below, and there is
-/// no report of a fault.
+/// States the line printed for an example, a BGP4MP_STATE_CHANGE record with a change from
+/// Established to Idle: `BGP4MP|100|STATE|192.0.2.1|64500|6|1`. Its octets are one whole record,
+/// and no fault is reported. A theorem: the function has no code.
 pub fn law_example_state_change()
     ensures split { (stamp : Stamp) →
         Splits stamp None state_change_octets (state_change_frame ∷ []) [] }
@@ -21,9 +21,9 @@ pub fn law_example_state_change()
         ≡ only_lines (codes "BGP4MP|100|STATE|192.0.2.1|64500|6|1\n") }
 {}
 
-/// States what is printed for one given example, a state change of type BGP4MP_ET, whose time has 5
-/// microseconds. Its octets are one frame (a whole record), its line is the one below, with the time
-/// `100.000005`, and there is no report of a fault.
+/// States the line printed for an example, a state change in a record of type BGP4MP_ET, with 5
+/// microseconds in its time: `BGP4MP_ET|100.000005|STATE|192.0.2.1|64500|6|1`. Its octets are one
+/// whole record, and no fault is reported. A theorem: the function has no code.
 pub fn law_example_microseconds()
     ensures split { (stamp : Stamp) →
         Splits stamp None timed_state_change_octets (timed_state_change_frame ∷ []) [] }
@@ -32,19 +32,19 @@ pub fn law_example_microseconds()
         ≡ only_lines (codes "BGP4MP_ET|100.000005|STATE|192.0.2.1|64500|6|1\n") }
 {}
 
-/// States what is printed for one given example, a BGP4MP_MESSAGE record with an UPDATE that withdraws
-/// 198.51.100.0/24 and announces 10.0.0.0/8. Its octets are one frame (a whole record), its lines are one
-/// for the withdrawal and then one for the announcement, and there is no report of a fault.
+/// States the lines printed for an example, a BGP4MP_MESSAGE record with an UPDATE: first one for
+/// the withdrawal of 198.51.100.0/24, then one for the announcement of 10.0.0.0/8. Its octets are
+/// one whole record, and no fault is reported. A theorem: the function has no code.
 pub fn law_example_update()
     ensures split { (stamp : Stamp) → Splits stamp None message_octets (message_frame ∷ []) [] }
     ensures texts { (stamp : Stamp) → dump_texts (all_results stamp (message_frame ∷ []) [])
         ≡ only_lines message_lines }
 {}
 
-/// States what is printed for one given example, a BGP4MP_MESSAGE_AS4 record with an UPDATE that
-/// withdraws 2001:db9::/32 and announces 2001:db8::/32. The UPDATE has attributes of all types that are
-/// read but NEXT_HOP, AS4_PATH and AS4_AGGREGATOR. Its octets are one frame (a whole record), its lines
-/// are one for the withdrawal and then one for the announcement, and there is no report of a fault.
+/// States the lines printed for an example, a BGP4MP_MESSAGE_AS4 record with an UPDATE: first one
+/// for the withdrawal of 2001:db9::/32, then one for the announcement of 2001:db8::/32. The UPDATE
+/// has all attributes that are read, except NEXT_HOP, AS4_PATH and AS4_AGGREGATOR. Its octets are
+/// one whole record, and no fault is reported. A theorem: the function has no code.
 pub fn law_example_ipv6_update()
     ensures split { (stamp : Stamp) →
         Splits stamp None ipv6_message_octets (ipv6_message_frame ∷ []) [] }
@@ -52,10 +52,10 @@ pub fn law_example_ipv6_update()
         ≡ only_lines ipv6_message_lines }
 {}
 
-/// States what is printed for one given example, a PEER_INDEX_TABLE record and then a RIB_IPV4_UNICAST
-/// record with one entry. Their octets are two frames (whole records), and the only line is that of the
-/// entry. Its time is 200, that of the record, or for `Change` 50, that of the entry. There is no report
-/// of a fault.
+/// States the line printed for an example, a PEER_INDEX_TABLE record and then a RIB_IPV4_UNICAST
+/// record with one entry. The line's time is 200, the time of the record, for `Stamp::Dump`, or 50,
+/// the Originated Time of the entry, for `Stamp::Change`. The octets are two whole records, and no
+/// fault is reported. A theorem: the function has no code.
 pub fn law_example_table()
     ensures split { (stamp : Stamp) → Splits stamp None table_octets (table_frames stamp) [] }
     ensures dump { dump_texts (all_results Dump (table_frames Dump) []) ≡ only_lines
@@ -64,9 +64,9 @@ pub fn law_example_table()
         (codes "TABLE_DUMP2|50|B|192.0.2.1|64500|10.0.0.0/8|64500|IGP|192.0.2.9|0|0||NAG||\n") }
 {}
 
-/// States what is printed for one given example, a TABLE_DUMP record for 10.0.0.0/8. Its octets are one
-/// frame (a whole record), with one line. The line's time is 200, that of the record, or for `Change` 50,
-/// the Originated Time. There is no report of a fault.
+/// States the line printed for an example, a TABLE_DUMP record for 10.0.0.0/8. The line's time is
+/// 200, the time of the record, for `Stamp::Dump`, or 50, the Originated Time, for `Stamp::Change`.
+/// Its octets are one whole record, and no fault is reported. A theorem: the function has no code.
 pub fn law_example_old_table()
     ensures split { (stamp : Stamp) →
         Splits stamp None table_dump_octets (table_dump_frame stamp ∷ []) [] }
@@ -76,10 +76,11 @@ pub fn law_example_old_table()
         (codes "TABLE_DUMP|50|B|192.0.2.1|64500|10.0.0.0/8|64500|IGP|192.0.2.9|0|0||NAG||\n") }
 {}
 
-/// States what is printed for one given example, a TABLE_DUMP record with AS4_PATH and AS4_AGGREGATOR
-/// (RFC 6793). Its octets are one frame (a whole record). For `Dump`, its line has the time of the
-/// record, the path `64500 4200000001 64501`, which is joined from AS_PATH and AS4_PATH, and the
-/// aggregator of AS4_AGGREGATOR. There is no report of a fault.
+/// States the line printed for an example, a TABLE_DUMP record with AS4_PATH and AS4_AGGREGATOR
+/// (RFC 6793). For `Stamp::Dump`, the line has the time of the record, the path
+/// `64500 4200000001 64501`, which is joined from AS_PATH and AS4_PATH, and the aggregator of
+/// AS4_AGGREGATOR. Its octets are one whole record, and no fault is reported. A theorem: the
+/// function has no code.
 pub fn law_example_as4_path()
     ensures split { (stamp : Stamp) →
         Splits stamp None as4_table_dump_octets (as4_table_dump_frame stamp ∷ []) [] }
@@ -87,29 +88,30 @@ pub fn law_example_as4_path()
         ≡ only_lines as4_line }
 {}
 
-/// States what is printed for one given example, a BGP4MP_STATE_CHANGE record without its last octet. Its
-/// octets are no frame (whole record) but a rest. There is no line, and the report is the one below.
+/// States the report printed for an example, a BGP4MP_STATE_CHANGE record without its last octet:
+/// `bgpdump: record 1, byte 0: cut record`. Its octets are no whole record, and no line is printed.
+/// A theorem: the function has no code.
 pub fn law_example_cut_record()
     ensures split { (stamp : Stamp) → Splits stamp None cut_octets [] cut_octets }
     ensures texts { (stamp : Stamp) → dump_texts (all_results stamp [] cut_octets)
         ≡ only_reports (codes "bgpdump: record 1, byte 0: cut record\n") }
 {}
 
-/// States what is printed for one given example, a record header with the length 16,777,217, one more
-/// than is read. Its octets are no frame (whole record) but a rest. There is no line, and the report is
-/// the one below.
+/// States the report printed for an example, a record header with the length 16,777,217, one more
+/// than is accepted: `bgpdump: record 1, byte 0: length 16777217 too long`. Its octets are no whole
+/// record, and no line is printed. A theorem: the function has no code.
 pub fn law_example_too_long()
     ensures split { (stamp : Stamp) → Splits stamp None too_long_octets [] too_long_octets }
     ensures texts { (stamp : Stamp) → dump_texts (all_results stamp [] too_long_octets)
         ≡ only_reports (codes "bgpdump: record 1, byte 0: length 16777217 too long\n") }
 {}
 
-/// States what is printed for one given example of seven records, most of them faulty. Their octets are
-/// six frames (whole records) and a rest. The records are, in order: one of an unsupported type, a state
-/// change with an empty body, a RIB_IPV4_UNICAST before any peer index table, a state change without a
-/// fault, a peer index table without peers, a RIB_IPV4_UNICAST whose peer that table hasn't, and a state
-/// change without its last octet. There are one line, that of the state change without a fault, and five
-/// reports.
+/// States what is printed for an example of seven records, most of them faulty: one line and five
+/// reports. The records are, in order: one of an unsupported type, a state change with an empty
+/// body, a RIB_IPV4_UNICAST before any PEER_INDEX_TABLE, a state change without a fault, which has
+/// the line, a PEER_INDEX_TABLE without peers, a RIB_IPV4_UNICAST with the index of a peer that
+/// this table doesn't have, and a state change without its last octet. Their octets are six whole
+/// records and an incomplete one. A theorem: the function has no code.
 pub fn law_example_faults()
     ensures split { (stamp : Stamp) → Splits stamp None faulty_octets faulty_frames cut_octets }
     ensures texts { (stamp : Stamp) → dump_texts (all_results stamp faulty_frames cut_octets)

@@ -71,8 +71,9 @@ fn put_origin_field(origin: Option<Origin>, text: &mut Text) -> Result<(), Alloc
     }
 }
 
-/// Appends the field of the next hop: a bar and its address, such as `|192.0.2.1`, or only a bar for
-/// `None`. Fails if memory allocation fails; `text` then ends with an unspecified part of the field.
+/// Appends the field of the next hop: a bar and its address, such as `|192.0.2.1`, or only a bar
+/// for `None`, where a route has no next hop. Fails if memory allocation fails; `text` then ends
+/// with an unspecified part of the field.
 #[inline(always)]
 fn put_next_hop_field(next_hop: Option<Addr>, text: &mut Text) -> Result<(), AllocError>
     ensures { Prints text.old text.new (bar ∷ next_hop_text next_hop) result }

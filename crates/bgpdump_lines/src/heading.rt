@@ -23,8 +23,8 @@ use std::alloc::AllocError;
 /// zeros.
 const MICROS_DIGITS: usize = 6;
 
-/// What the first field of a line names: the type of the MRT record that the line is from, or, as `RIB`,
-/// a routing table that the player of a script keeps.
+/// The choice of a line's first field: the type of the MRT record that the line is from, or `RIB`
+/// for a route in a table that the player (`bgpdump --play`) keeps.
 #[derive(Clone, Copy)]
 pub(crate) enum FirstField {
     /// The kind of the record that the line is from: `TABLE_DUMP`, `TABLE_DUMP2`, `BGP4MP` or
@@ -34,8 +34,8 @@ pub(crate) enum FirstField {
     Rib,
 }
 
-/// What all lines of a record, or of a peer's table, have in common, and from which their first fields
-/// are made: such as `BGP4MP|1700000000`.
+/// What the first fields of lines are made from, such as `BGP4MP|1700000000`: the type and the time
+/// of the MRT record that the lines are from, or `RIB` for the lines of a peer's table.
 #[derive(Clone, Copy)]
 pub(crate) struct Heading {
     /// The choice of the first field: the kind of the record, or `RIB`.
@@ -62,9 +62,9 @@ impl Heading {
         }
     }
 
-    /// Returns the heading of the lines of a peer's table, which begin like `RIB|1700000000|B`: their
-    /// first field is `RIB`, and the others are those of a route from a TABLE_DUMP_V2 record. The time in
-    /// each line is that of its route ([`Route::time`]), so the time of this heading isn't used.
+    /// Returns the heading of the lines of a peer's table, which begin like `RIB|1700000000|B`:
+    /// with the word `RIB`, the time of the route ([`Route::time`]) and the letter of a table's
+    /// route. The time of the heading is 0 and isn't written.
     #[inline(always)]
     pub(crate) fn for_peer_table() -> Heading
         ensures { (peer : Peer) (prefix : Network) (route : Route) →
@@ -113,10 +113,10 @@ fn put_micros(micros: u32, text: &mut Text) -> Result<(), AllocError>
     Ok(())
 }
 
-/// Appends the field of a record's time: a bar and the seconds since 1970, such as `|1700000000`, and for
-/// BGP4MP_ET a dot and the microseconds (RFC 6396, section 3), such as `|1700000000.000250`, which count
-/// as 0 if `heading` has none. Fails if memory allocation fails; `text` then ends with an unspecified
-/// part of the field.
+/// Appends the field of a record's time: a bar and the seconds since 1970, such as `|1700000000`.
+/// For BGP4MP_ET (RFC 6396, section 3), a dot and the microseconds follow, such as
+/// `|1700000000.000250`; they are 0 if `heading.time` has none. Fails if memory allocation fails;
+/// `text` then ends with an unspecified part of the field.
 #[inline(always)]
 fn put_time_field(heading: &Heading, text: &mut Text) -> Result<(), AllocError>
     ensures { Prints text.old text.new (bar ∷ time_text heading.now.tag heading.now.time) result }

@@ -69,8 +69,9 @@ fn peer_hash(peer: &Peer) -> usize {
 }
 
 /// Returns `true` if the line of `route` may be cached: its AS_PATH has at most two segments
-/// ([`MOST_SEGMENTS`]), and its time is `time`, the time of its record in seconds. Returns `false` for a
-/// route that has more segments or a time of its own, as its line is hardly ever met again.
+/// ([`MOST_SEGMENTS`]), and its time is `time`, the time of its record in seconds since 1970.
+/// Returns `false` for a route that has more segments or a time of its own, as its line is hardly
+/// ever met again.
 #[inline]
 fn is_cacheable(route: &Route, time: u32) -> bool {
     // The line of a route with a time of its own would be cached in vain: in the next record the time is
@@ -78,10 +79,11 @@ fn is_cacheable(route: &Route, time: u32) -> bool {
     route.time == time && route.attrs.path.segments.as_slice().len() <= MOST_SEGMENTS
 }
 
-/// A cache of printed lines of tables, at most one for each peer, to copy from if a peer has an equal
-/// route to another prefix. It takes memory for at most [`MOST_LINES`] lines, of [`START_ROOM`] and
-/// [`LONGEST_TAIL`] octets, and holds their routes. If it saved little during some thousands of lines (a
-/// trial), it is emptied and not used for many more lines (a pause), and then tried anew.
+/// A cache of printed lines of tables, at most one for each peer, which are copied from if the peer
+/// has an equal route to another prefix. It has at most [`MOST_LINES`] lines, each with room for
+/// [`START_ROOM`] octets before the prefix and [`LONGEST_TAIL`] after it, and keeps the routes of
+/// these lines. If it saved little during some thousands of lines (a trial), it is emptied and not
+/// used for many more lines (a pause); then the next trial begins.
 #[derive(Drop)]
 pub(crate) struct LineCache {
     /// The allocator of the lines.
@@ -116,10 +118,11 @@ impl LineCache {
         }
     }
 
-    /// Returns `true` if the lines of `event`, the content of an MRT record, are to be copied from the
-    /// cache or else inserted into it. Returns `false` if they aren't from a TABLE_DUMP_V2 record (RFC
-    /// 6396, section 4.3), or during a pause, in which the cache isn't used because it saved little
-    /// before. Called once for each event, as the lines of such a record shorten the pause.
+    /// Returns `true` if the lines of `event`, the content of an MRT record, are to be copied from
+    /// the cache or else inserted into it. Returns `false` if the record isn't of type
+    /// TABLE_DUMP_V2 (RFC 6396, section 4.3), or during a pause, in which the cache isn't used
+    /// because it saved little before. Each call for a TABLE_DUMP_V2 record shortens the pause by
+    /// the record's lines, so this is called once for each event.
     #[inline(always)]
     pub(crate) fn should_use_for(&mut self, event: &Event) -> bool
         ensures { IsTrue result → event.now.tag ≡ TableDump2 }
@@ -154,9 +157,10 @@ impl LineCache {
         }
     }
 
-    /// Ends a trial, in which the cache is judged, and begins the next one. If the cache was of no use
-    /// for more than half of the trial's lines, empties it and begins a pause of 32 times as many lines
-    /// ([`PAUSE_FACTOR`]), in which it isn't used.
+    /// Ends a trial, in which the cache is judged, and begins the next one. If more than half of
+    /// the trial's lines neither found an equal route of their peer in the cache nor filled a free
+    /// place in it, empties the cache and begins a pause, in which it isn't used: of 32 times
+    /// ([`PAUSE_FACTOR`]) as many lines as the trial had.
     #[inline(never)]
     fn end_trial(&mut self) {
         if self.missed > self.printed / 2 {
@@ -168,10 +172,11 @@ impl LineCache {
         self.missed = 0;
     }
 
-    /// Returns the cached line of `peer` and its index, if its start, the octets up to the prefix, is
-    /// that of the lines of `peer` for routes with the time `time`, in seconds since 1970. Returns `None`
-    /// if not, or if there is no cached line for the hash of the peer. What the line has after the prefix
-    /// may be of another route.
+    /// Returns the cached line of `peer` and its index, which [`LineCache::replace_tail`] takes, if
+    /// the octets before the prefix were printed for this peer and the time `time`, in seconds
+    /// since 1970. Returns `None` if they were printed for another peer or time, or if there is no
+    /// cached line for the hash of the peer ([`peer_hash`]). The octets after the prefix may be of
+    /// any route.
     #[inline(always)]
     pub(crate) fn line_of(&self, peer: &Peer, time: u32) -> Option<(usize, &CachedLine)>
         ensures { IfSome result (λ found. BeginsLinesOf found.1.now peer.now time) }
@@ -185,10 +190,11 @@ impl LineCache {
     }
 
     /// Replaces the octets after the prefix of the cached line with the index `index`, which
-    /// [`LineCache::line_of`] returned, by `tail`. `time` is the time of the record, in seconds since
-    /// 1970. Does nothing if `tail` has more than [`LONGEST_TAIL`] octets, or if [`is_cacheable`] refuses
-    /// `route`. Requires that `tail` was printed for `route`. Fails if memory allocation fails; the line
-    /// is then used for its start only.
+    /// [`LineCache::line_of`] returned, by `tail`. `time` is the time of the record, in seconds
+    /// since 1970. The line is left unchanged if `tail` has more than [`LONGEST_TAIL`] octets, or
+    /// if [`is_cacheable`] returns `false` for `route` and `time`. Requires that `tail` was printed
+    /// for `route`. Fails if memory allocation fails; then only the octets before the prefix are
+    /// still copied from the line.
     #[inline(never)]
     pub(crate) fn replace_tail(
         &mut self,

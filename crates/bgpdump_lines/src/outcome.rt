@@ -27,8 +27,8 @@ pub enum Outcome {
 }
 
 impl Outcome {
-    /// Returns the exit status of the program for this outcome: 0 for `Done`, 1 for `Reported`, 4 for
-    /// `Memory`, and 3 for the others.
+    /// Returns the exit status of the program for this outcome: 0 for `Done`, 1 for `Reported`, 3
+    /// for a failed read or write and for an input or script that is too long, and 4 for `Memory`.
     pub fn status(self) -> u8
         ensures { result ≡ exit_status self }
     {

@@ -39,17 +39,17 @@ pub trait Output {
         ensures octets { WriteAppends (written self.old) (written self.new) result octets.now }
         ensures failed { failed self.new ≡ (failed self.old || is_err result) };
 
-    /// Passes all octets that were written on to the device, so that none waits in a buffer. Called
-    /// before a wait for input that may be long. Fails if the device fails; how many of the octets it has
-    /// got is unspecified then.
+    /// Passes all octets that were written on to the device behind the output, such as a file or a
+    /// pipe, so that none waits in a buffer. Called before a wait for input that may be long. Fails
+    /// if the device fails; how many of the octets it has got is unspecified then.
     fn flush(&mut self) -> Result<(), OutFault>
         ensures octets { Keeps (written self.old) (written self.new) }
         ensures flushed { OnOk result (IsFlushed (pending self.new)) }
         ensures failed { failed self.new ≡ (failed self.old || is_err result) };
 
-    /// Passes all octets that were written on to the device, as [`Output::flush`] does, after the last of
-    /// them was written. Fails if the device fails; how many of the octets it has got is unspecified
-    /// then.
+    /// Passes all octets that were written on to the device behind the output, such as a file or a
+    /// pipe, so that none waits in a buffer. Called at the end, when nothing more is to be written.
+    /// Fails if the device fails; how many of the octets it has got is unspecified then.
     fn finish(&mut self) -> Result<(), OutFault>
         ensures octets { Keeps (written self.old) (written self.new) }
         ensures flushed { OnOk result (IsFlushed (pending self.new)) }
@@ -118,8 +118,8 @@ impl<W: Write> Output for WriteOutput<W> {
     }
 }
 
-/// An [`Output`] over a `BufWriter`. In contracts, the octets in its buffer count as pending: written,
-/// and not yet passed to the writer below.
+/// An [`Output`] over a `BufWriter`. In contracts, the octets in its buffer count as pending:
+/// written, and not yet passed to the `W` that the `BufWriter` wraps.
 #[derive(Drop)]
 pub struct BufferedOutput<W: Write + Drop> {
     output: WriteOutput<BufWriter<W>>,
@@ -188,8 +188,9 @@ pub fn put_all<W: Output>(output: &mut W, octets: &[u8]) -> Result<(), OutFault>
     Ok(())
 }
 
-/// Flushes `out` and then `err`, as the next read of `input` may wait. Does nothing if `input` has its
-/// whole next record in its buffer, so that no wait is to be expected. Fails if a flush fails.
+/// Flushes `out` and then `err` before a read of `input` that may wait. Does nothing if `input` has
+/// its whole next record in its buffer, so that no wait is expected. Fails if a flush fails; `err`
+/// isn't flushed then if flushing `out` failed.
 #[inline(always)]
 pub fn flush_before_waiting<I: Input, O: Output, E: Output>(
     input: &I,
@@ -210,9 +211,10 @@ pub fn flush_before_waiting<I: Input, O: Output, E: Output>(
     err.flush()
 }
 
-/// Calls [`Output::finish`] of `out` and then of `err` at the end of the program's work, and returns how
-/// it ended: `WriteFault` if one of the calls fails, or else `Reported` if `reported`, which says whether
-/// a faulty record or bad line was reported, or else `Done`. Requires that no output has failed.
+/// Calls [`Output::finish`] of `out` and then of `err`, and returns how the program ended:
+/// `WriteFault` if a call fails, or else `Reported` if `reported`, or else `Done`. `reported` is
+/// `true` if a faulty record or a bad line of a script was reported. If `out` fails, `err` isn't
+/// finished. Requires that no output has failed before.
 pub fn finish_outputs<O: Output, E: Output>(out: &mut O, err: &mut E, reported: bool) -> Outcome
     requires sound { (O.failed out.old || E.failed err.old) ≡ false }
     ensures outcome { result ≡ outcome_of_finished_run (O.failed out.new || E.failed err.new) reported }

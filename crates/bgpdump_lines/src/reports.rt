@@ -8,8 +8,9 @@ use ip_prefix::Text;
 use mrt_wire::{RecordFault, RecordKind};
 use std::alloc::AllocError;
 
-/// Appends `word` and right after it `number` in decimal, such as `length 20000000` for the word `length
-/// ` with its space. Fails if memory allocation fails; `text` then ends with an unspecified part of them.
+/// Appends `word` and then `number` in decimal, without a space between them, such as
+/// `length 20000000` for a `word` that ends with a space. Fails if memory allocation fails; `text`
+/// then ends with an unspecified part of them.
 fn put_labelled_number(word: &[u8], number: u64, text: &mut Text) -> Result<(), AllocError>
     ensures { OnOk result (text.new ≡ text.old ++ (word.now ++ decimal number)) }
 {
@@ -18,10 +19,10 @@ fn put_labelled_number(word: &[u8], number: u64, text: &mut Text) -> Result<(), 
     Ok(())
 }
 
-/// Appends what is wrong with a record, in words that follow from `kind`, the kind of its fault: `cut
-/// record`, `length 20000000 too long`, `unsupported type 16 subtype 9`, `malformed`, `no peer index` or
-/// `peer index 7`. Fails if memory allocation fails; `text` then ends with an unspecified part of the
-/// words.
+/// Appends what is wrong with a record whose fault is `kind`, in words: `cut record`,
+/// `length 20000000 too long`, `unsupported type 16 subtype 9`, `malformed`, `no peer index` or
+/// `peer index 7`. Fails if memory allocation fails; `text` then ends with an unspecified part of
+/// the words.
 fn put_fault_description(kind: RecordKind, text: &mut Text) -> Result<(), AllocError>
     ensures { OnOk result (text.new ≡ text.old ++ fault_kind_text kind) }
 {

@@ -16,7 +16,8 @@ use ip_prefix::{Prefix, Text};
 use mrt_wire::{Peer, Route, same_peer, same_prefix, same_route};
 use std::alloc::AllocError;
 
-/// A peer's route to a prefix, as one line prints it: from an announcement, or from a table.
+/// A peer and its route to a prefix, which are printed as one line: from an announcement in an
+/// UPDATE, or from a table.
 #[derive(Clone, Copy)]
 pub(crate) struct Announcement<'a> {
     pub(crate) peer: &'a Peer,
@@ -39,8 +40,8 @@ pub(crate) struct FieldOffsets {
     tail: usize,
 }
 
-/// A description of the last line of a text, which prints a route: the next line is copied from it where
-/// both are equal.
+/// A description of the last line of a text, the line of a route: the next line is copied from it
+/// where both are equal.
 #[derive(Clone, Copy)]
 pub(crate) struct LastLine<'a> {
     /// The peer, the prefix and the route that the line prints.
@@ -50,9 +51,10 @@ pub(crate) struct LastLine<'a> {
 }
 
 /// Appends the line of a route, such as
-/// `BGP4MP|1700000000|A|192.0.2.1|65000|198.51.100.0/24|65000|IGP|192.0.2.1|0|0||NAG||`, and copies none
-/// of it from another line. Returns the offsets of its fields in `text`. Fails if memory allocation
-/// fails; `text` then ends with an unspecified part of the line.
+/// `BGP4MP|1700000000|A|192.0.2.1|65000|198.51.100.0/24|65000|IGP|192.0.2.1|0|0||NAG||` and a line
+/// feed, and copies none of it from another line. `heading` gives the kind and the time of its
+/// record. Returns the offsets of the line's fields in `text`. Fails if memory allocation fails;
+/// `text` then ends with an unspecified part of the line.
 #[inline(always)]
 pub(crate) fn put_whole_route_line(
     heading: &Heading,
@@ -111,11 +113,12 @@ pub(crate) fn repeat_with_prefix(
     })
 }
 
-/// Appends the last line of `text` once more, with `peer` and the attributes of `route` in place of those
-/// in it; the first three fields (kind, time, letter) and the prefix are copied. Requires that `last` has
-/// the offsets of that line's fields in `text`. As the time is copied, callers pass a `route` whose time
-/// that line shows. Returns the offsets of the new line's fields. Fails if memory allocation fails;
-/// `text` then ends with an unspecified part of the line.
+/// Appends the last line of `text` once more, with `peer` and the attributes of `route` in place of
+/// its own; the first three fields (kind, time, letter) and the prefix are copied. The copied time
+/// isn't compared with the time of `route`: callers pass a route with an equal one. Requires that
+/// `last` has the offsets of the copied line's fields in `text`. Returns the offsets of the new
+/// line's fields. Fails if memory allocation fails; `text` then ends with an unspecified part of
+/// the line.
 #[inline(always)]
 fn repeat_with_peer_and_route(
     last: FieldOffsets,
@@ -164,9 +167,10 @@ pub(crate) fn prefixless_last_line(text: &Text, last: FieldOffsets) -> Prefixles
     }
 }
 
-/// Appends the field of a prefix, such as `|198.51.100.0/24`. `last`, if given, describes the last line
-/// of `text` before the unfinished one, from which the field is copied if its prefix is equal to
-/// `prefix`. Fails if memory allocation fails; `text` then ends with an unspecified part of the field.
+/// Appends the field of `prefix`, such as `|198.51.100.0/24`. `last`, if given, describes an
+/// earlier line of `text`, from which the field is copied if its prefix is equal; otherwise the
+/// field is formatted. Fails if memory allocation fails; `text` then ends with an unspecified part
+/// of the field.
 #[inline(always)]
 fn copy_or_put_prefix_field(
     prefix: &Prefix,
@@ -200,13 +204,14 @@ fn copy_or_put_tail(line: &CachedLine, route: &Route, text: &mut Text) -> Result
     Ok(false)
 }
 
-/// Appends the line of a route of a table. Its start, up to the prefix, is copied from `line`, a cached
-/// line; the fields after the prefix are copied from there too if its route is equal, and formatted if
-/// not. Requires that the start of `line` was printed for the announcement's peer and the time of its
-/// route. `last`, if given, describes the last line of `text`, from which the prefix's field is copied if
-/// its prefix is equal. Returns the offsets of the new line's fields in `text`, and `true` if the fields
-/// after the prefix were copied from `line`, or `false` if they were formatted. Fails if memory
-/// allocation fails; `text` then ends with an unspecified part of the line.
+/// Appends the line of `announcement`, a route of a table. The octets before the prefix are copied
+/// from `line`, a cached line. Those after the prefix are copied from `line` if its route is equal,
+/// and formatted if not. Requires that the octets before the prefix of `line` were printed for the
+/// announcement's peer and the time of its route. `last`, if given, describes the last line of
+/// `text`, from which the prefix's field is copied if its prefix is equal. Returns the offsets of
+/// the new line's fields in `text`, and `true` if the octets after the prefix were copied, or
+/// `false` if they were formatted. Fails if memory allocation fails; `text` then ends with an
+/// unspecified part of the line.
 #[inline(always)]
 pub(crate) fn put_line_by_cached(
     line: &CachedLine,
@@ -238,11 +243,12 @@ pub(crate) fn put_line_by_cached(
 }
 
 /// Appends the line of a route, such as
-/// `BGP4MP|1700000000|A|192.0.2.1|65000|198.51.100.0/24|65000|IGP|192.0.2.1|0|0||NAG||`, and returns a
-/// description of it, which the next call gets as `last`. Requires that `last`, if given, describes the
-/// last line of `text`, and that this line prints a route under `heading`; what the new line has in
-/// common with it is copied. Fails if memory allocation fails; `text` then ends with an unspecified part
-/// of the line.
+/// `BGP4MP|1700000000|A|192.0.2.1|65000|198.51.100.0/24|65000|IGP|192.0.2.1|0|0||NAG||` and a line
+/// feed. `heading` gives the kind and the time of its record. `last`, if given, describes the last
+/// line of `text`, from which fields that are equal in the new line are copied. Requires that this
+/// is the line of a route, printed with `heading`. Returns a description of the new line, to be
+/// passed as `last` to the next call. Fails if memory allocation fails; `text` then ends with an
+/// unspecified part of the line.
 #[inline(always)]
 pub(crate) fn put_route_line<'a>(
     heading: &Heading,

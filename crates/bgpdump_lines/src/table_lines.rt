@@ -19,13 +19,13 @@ use mrt_wire::{Item, Route};
 use std::alloc::AllocError;
 use std::rc::Rc;
 
-/// Appends the line of `announcement`, a route of a table, inserts it into `cache`, which holds printed
-/// lines ([`LineCache::insert`], which may leave it out), and returns a description of it, which the
-/// next call gets as `last`. Requires that `route`, which the cache keeps, equals `announcement.route`,
-/// that `heading` is of a TABLE_DUMP_V2 record, and that `last`, if given, describes the last line of
-/// `text`, which prints a route under `heading`; what the new line has in common with that is copied.
-/// Fails if memory allocation fails; `text` then ends with an unspecified part of the line, which isn't
-/// cached.
+/// Appends the line of `announcement`, a route of a table, to `text`, and inserts it into `cache`,
+/// which may leave it out ([`LineCache::insert`]). What the line has in common with the line that
+/// `last` describes is copied. Requires that `last`, if given, describes the last line of `text`,
+/// the line of a route printed with `heading`, that `heading` is of a TABLE_DUMP_V2 record, and
+/// that `route`, which the cache keeps, equals `announcement.route`. Returns a description of the
+/// new line, to be passed as `last` to the next call. Fails if memory allocation fails; `text` then
+/// ends with an unspecified part of the line, and at most the octets before its prefix are cached.
 #[inline(always)]
 fn put_and_cache<'a>(
     heading: &Heading,
@@ -52,15 +52,15 @@ fn put_and_cache<'a>(
     Ok(line)
 }
 
-/// Appends the line of `announcement`, a route of a table, and returns a description of it, which the
-/// next call gets as `last`. If `cache`, which holds printed lines, has one of this peer and of the
-/// route's time, the start of the new line is copied from it, and the fields after the prefix are copied
-/// too if its route is equal. Otherwise what the new line has in common with that of `last` is copied.
-/// What wasn't copied from the cache is put into it, unless it refuses the line ([`LineCache::insert`]).
-/// Requires that `last`, if given, describes the last line of `text`, which prints a route under
-/// `heading`, that `heading` is of a TABLE_DUMP_V2 record, and that `route`, which the cache keeps,
-/// equals `announcement.route`. Fails if memory allocation fails; `text` then ends with an unspecified
-/// part of the line.
+/// Appends the line of `announcement`, a route of a table, to `text`. If `cache` has a printed line
+/// for this peer and the route's time, the octets before the prefix are copied from it, and those
+/// after the prefix too if its route is equal. If it has none, what the new line has in common with
+/// the line that `last` describes is copied. What wasn't copied from the cache is inserted into it,
+/// unless it refuses the line ([`LineCache::insert`]). Requires that `last`, if given, describes
+/// the last line of `text`, the line of a route printed with `heading`, that `heading` is of a
+/// TABLE_DUMP_V2 record, and that `route`, which the cache keeps, equals `announcement.route`.
+/// Returns a description of the new line, to be passed as `last` to the next call. Fails if memory
+/// allocation fails; `text` then ends with an unspecified part of the line.
 #[inline(always)]
 fn put_entry_line<'a>(
     heading: &Heading,
@@ -91,14 +91,15 @@ fn put_entry_line<'a>(
     })
 }
 
-/// Appends the line of `item`, which is a route of a table (or a withdrawal or state change). Returns a
-/// description of the new line, which the next call gets as `last`, or `None` if `item` isn't a route. If
-/// `cache`, which holds printed lines, has one of the same peer and time, what the line of a route has in
-/// common with that is copied; otherwise, what it has in common with the line of `last`. What wasn't
-/// copied from the cache is put into it, unless it refuses the line ([`LineCache::insert`]). Requires
-/// that `last`, if given, describes the last line of `text`, which prints a route under `heading`, and
-/// that `heading` is of a TABLE_DUMP_V2 record. Fails if memory allocation fails; `text` then ends with
-/// an unspecified part of the line.
+/// Appends the line of `item` from a TABLE_DUMP_V2 record, a route of a table (or a withdrawal or
+/// state change), to `text`. A route's line is copied where it can be: from the line of the peer in
+/// `cache`, a cache of printed lines, if its time is equal, or else from the line that `last`
+/// describes. What wasn't copied from the cache is inserted into it, unless it refuses the line
+/// ([`LineCache::insert`]). Requires that `last`, if given, describes the last line of `text`, the
+/// line of a route printed with `heading`, and that `heading` is of a TABLE_DUMP_V2 record. Returns
+/// a description of the new line, to be passed as `last` to the next call, or `None` if `item`
+/// isn't a route. Fails if memory allocation fails; `text` then ends with an unspecified part of
+/// the line.
 #[inline(always)]
 pub(crate) fn put_table_item_line<'a>(
     heading: &Heading,

@@ -32,9 +32,9 @@ use std::rc::Rc;
 /// output. A longer text is written first, so that it never has more than this many octets and two lines.
 const LONG_TEXT: usize = 1 << 16;
 
-/// Writes `text`, lines that are still to be written, to `out` and clears it, if it has more than
-/// [`LONG_TEXT`] octets. Returns `true` if it was written, `false` if it was left as it is. Fails if
-/// `out` fails; some of the first octets may have been written then.
+/// Writes `text`, which holds lines, to `out` and clears it, if it has more than [`LONG_TEXT`]
+/// octets. Returns `true` if it was written, and `false` if it was left as it is. Fails if `out`
+/// fails; some of the first octets may have been written then, and `text` is unchanged.
 #[inline(always)]
 fn write_if_long<O: Output>(out: &mut O, text: &mut Text) -> Result<bool, WriteFault>
     ensures text { PutsThroughBufferOrFront (O.written out.old) (O.written out.new) text.old text.new [] result }
@@ -100,12 +100,13 @@ fn buffer_item_lines<O: Output>(
     buffer_each_item_line(out, heading, items, text)
 }
 
-/// Writes the octets of `text` from offset `end` on to `out`, and truncates `text` to `end`, if these
-/// octets are more than [`LONG_TEXT`]; otherwise does nothing. Requires that `end` isn't above the
-/// length of `text`. The octets before `end` are one line, a template for the next lines, with its
-/// fields at the offsets `template`; `last` has the offsets of the last line's fields. Returns the
-/// offsets of the line that is the last one afterwards: `template` if it wrote, or else `last`. Fails if
-/// `out` fails; some of the octets may have been written then, and `text` is unchanged.
+/// Writes the octets of `text` from offset `end` on to `out`, and truncates `text` to `end`, if
+/// these octets are more than [`LONG_TEXT`]; otherwise does nothing. The octets before `end` are
+/// one line that isn't written, a template for later lines, with its fields at the offsets
+/// `template`. `last` has the offsets of the fields of the last line of `text`. Requires that `end`
+/// isn't above the length of `text`. Returns the offsets of the fields of the line that is the last
+/// one of `text` afterwards: `template` if octets were written, or else `last`. Fails if `out`
+/// fails; some of the octets may have been written then, and `text` is unchanged.
 fn write_rest_if_long<O: Output>(
     out: &mut O,
     template: FieldOffsets,
@@ -132,12 +133,13 @@ fn write_rest_if_long<O: Output>(
     Ok(template)
 }
 
-/// Writes to `out` first `text`, the lines that are still to be written, and then a line for each of
-/// `items`, and leaves `text` empty. Requires that each item announces the peer and the route of `first`.
-/// The line of `first`, which the caller has already appended or written, isn't written again; it serves
-/// as a template for theirs. `heading` gives the kind and the time of their record. Fails if memory
-/// allocation or `out` fails; some of the first lines may have been written to `out` then, and `text`
-/// holds unspecified octets.
+/// Writes first `text`, which holds lines that are still to be written, and then a line for each of
+/// `items` to `out`, and leaves `text` empty. Requires that each item announces the peer and the
+/// route of `first`, so that its line differs from the line of `first` in the prefix alone and is
+/// copied from it. The line of `first` itself isn't written, as it is in `text` or was written
+/// before. `heading` gives the kind and the time of their record. Fails if memory allocation or
+/// `out` fails; some of the first lines may have been written to `out` then, and `text` holds
+/// unspecified octets.
 #[cold]
 #[inline(never)]
 fn write_remaining_prefixes<O: Output>(
@@ -168,13 +170,13 @@ fn write_remaining_prefixes<O: Output>(
     Ok(())
 }
 
-/// Appends a line for each of `items` to `text`, which holds lines that are still to be written to `out`.
-/// If `text` has more than [`LONG_TEXT`] octets before a line, it is written to `out` with that line and
-/// all after it, and is empty then; otherwise nothing is written. Requires that each item announces the
-/// peer and the route of `first`, and that the last line of `text` prints these, to any prefix, with its
-/// fields at `offsets`; it is repeated with the other prefixes. Fails if memory allocation or `out`
-/// fails; some of the first lines may have been written to `out` then, and `text` holds unspecified
-/// octets.
+/// Appends a line for each of `items`, announcements, to `text`, which holds lines that are still
+/// to be written to `out`. If `text` has more than [`LONG_TEXT`] octets before a line, it is
+/// written to `out` with that line and all after it, and left empty; otherwise nothing is written.
+/// Requires that each item announces the peer and the route of `first`, and that the last line of
+/// `text` prints this peer and route, with `heading` and any prefix, and has its fields at
+/// `offsets`: it is copied with the other prefixes. Fails if memory allocation or `out` fails; some
+/// of the first lines may have been written to `out` then, and `text` holds unspecified octets.
 #[inline(always)]
 fn buffer_other_prefixes<O: Output>(
     out: &mut O,
@@ -200,11 +202,12 @@ fn buffer_other_prefixes<O: Output>(
     Ok(())
 }
 
-/// Appends a line for each of `items` to `text`, which holds lines that are still to be written to `out`.
-/// Requires that all items are announcements of one route of one peer. Whenever `text` has more than
-/// [`LONG_TEXT`] octets, it is written to `out` and cleared before the next line; the last lines may be
-/// left in it for the caller to write. Fails if memory allocation or `out` fails; some of the first lines
-/// may have been written to `out` then, and `text` holds unspecified octets.
+/// Appends a line for each of `items` to `text`, which holds lines that are still to be written to
+/// `out`. Requires that all items are announcements of one route of one peer. `heading` gives the
+/// kind and the time of their record. Whenever `text` has more than [`LONG_TEXT`] octets, it is
+/// written to `out` and cleared before the next line; the last lines may be left in it for the
+/// caller to write. Fails if memory allocation or `out` fails; some of the first lines may have
+/// been written to `out` then, and `text` holds unspecified octets.
 #[inline(always)]
 fn buffer_shared_route<O: Output>(
     out: &mut O,
@@ -226,8 +229,9 @@ fn buffer_shared_route<O: Output>(
 }
 
 /// Writes the lines of `event`, what an MRT record reports, to `out`: one for each announcement,
-/// withdrawal or state change. Overwrites `text`, a buffer. Fails if memory allocation or `out` fails;
-/// some of the first lines may have been written to `out` then, and `text` holds unspecified octets.
+/// withdrawal or state change. `text` is a buffer: its octets are discarded, and unspecified
+/// afterwards. Fails if memory allocation or `out` fails; some of the first lines may have been
+/// written to `out` then.
 #[inline(always)]
 fn write_event_lines<O: Output>(
     out: &mut O,
@@ -248,13 +252,13 @@ fn write_event_lines<O: Output>(
     Ok(())
 }
 
-/// Appends a line for each of `items`, which are from a TABLE_DUMP_V2 record, to `text`, which holds
-/// lines that are still to be written to `out`. Whenever `text` has more than [`LONG_TEXT`] octets, it
-/// is written to `out` and cleared before the next line; the last lines are left in it for the caller to
-/// write. Lines are copied from `cache`, which holds printed lines, if it has them, and inserted there
-/// if not. Requires that `heading` is of a TABLE_DUMP_V2 record. Fails if memory allocation or `out`
-/// fails; some of the first lines may have been written to `out` then, and `text` holds unspecified
-/// octets.
+/// Appends a line for each of `items`, which are from a TABLE_DUMP_V2 record, to `text`, which
+/// holds lines that are still to be written to `out`. Whenever `text` has more than [`LONG_TEXT`]
+/// octets, it is written to `out` and cleared before the next line; the last lines are left in it
+/// for the caller to write. What is equal in a line of `cache`, a cache of printed lines, is copied
+/// from it, and other lines are inserted into it. Requires that `heading` is of a TABLE_DUMP_V2
+/// record. Fails if memory allocation or `out` fails; some of the first lines may have been written
+/// to `out` then, and `text` holds unspecified octets.
 #[inline(never)]
 fn buffer_table_items<O: Output>(
     out: &mut O,
@@ -279,9 +283,10 @@ fn buffer_table_items<O: Output>(
 }
 
 /// Writes the lines of `event`, what an MRT record reports, to `out`. Requires that it is from a
-/// TABLE_DUMP_V2 record. Lines are copied from `cache`, which holds printed lines, if it has them, and
-/// inserted there if not. Overwrites `text`, a buffer. Fails if memory allocation or `out` fails; some of
-/// the first lines may have been written to `out` then, and `text` holds unspecified octets.
+/// TABLE_DUMP_V2 record. What is equal in a line of `cache`, a cache of printed lines, is copied
+/// from it, and other lines are inserted into it. `text` is a buffer: its octets are discarded, and
+/// unspecified afterwards. Fails if memory allocation or `out` fails; some of the first lines may
+/// have been written to `out` then.
 #[inline(always)]
 fn write_table_event<O: Output>(
     out: &mut O,
@@ -304,9 +309,10 @@ fn write_table_event<O: Output>(
 
 /// Writes the lines of `event`, what an MRT record reports, to `out`: one for each announcement,
 /// withdrawal or state change. `cache`, which holds printed lines, is used if
-/// [`LineCache::should_use_for`] returns `true` for the event: for TABLE_DUMP_V2 records, as long as
-/// that saves work. Overwrites `text`, a buffer. Fails if memory allocation or `out` fails; some of the
-/// first lines may have been written to `out` then, and `text` holds unspecified octets.
+/// [`LineCache::should_use_for`] returns `true` for the event: for TABLE_DUMP_V2 records, as long
+/// as that saves work. `text` is a buffer: its octets are discarded, and unspecified afterwards.
+/// Fails if memory allocation or `out` fails; some of the first lines may have been written to
+/// `out` then.
 #[inline(always)]
 fn write_event<O: Output>(
     out: &mut O,
@@ -324,11 +330,10 @@ fn write_event<O: Output>(
     }
 }
 
-/// Writes a line for each of `routes`, pairs of a prefix and the route of `peer` to it, to `out`, in
-/// their order, such as
-/// `RIB|1700000000|B|192.0.2.1|65000|198.51.100.0/24|65000|IGP|192.0.2.1|0|0||NAG||`. Overwrites `text`,
-/// a buffer. Fails if memory allocation or `out` fails; some of the first lines may have been written to
-/// `out` then, and `text` holds unspecified octets.
+/// Writes a line for each of `routes`, routes of `peer` with their prefixes, to `out` in order,
+/// such as `RIB|1700000000|B|192.0.2.1|65000|198.51.100.0/24|65000|IGP|192.0.2.1|0|0||NAG||` and a
+/// line feed. `text` is a buffer: its octets are discarded, and unspecified afterwards. Fails if
+/// memory allocation or `out` fails; some of the first lines may have been written to `out` then.
 pub fn write_rib_lines<O: Output>(
     out: &mut O,
     peer: &Peer,
@@ -357,10 +362,11 @@ pub fn write_rib_lines<O: Output>(
     Ok(())
 }
 
-/// Writes the line of the route of `peer` to `prefix` to `out`, such as
-/// `RIB|1700000000|B|192.0.2.1|65000|198.51.100.0/24|65000|IGP|192.0.2.1|0|0||NAG||`. Overwrites `text`,
-/// a buffer. If memory allocation fails, nothing is written; if `out` fails, some of the line's first
-/// octets may have been written.
+/// Writes the line of `peer`'s route to `prefix` to `out`, such as
+/// `RIB|1700000000|B|192.0.2.1|65000|198.51.100.0/24|65000|IGP|192.0.2.1|0|0||NAG||` and a line
+/// feed. `text` is a buffer: its octets are discarded, and unspecified afterwards. If memory
+/// allocation fails, nothing is written; if `out` fails, some of the line's first octets may have
+/// been written.
 pub fn write_rib_line<O: Output>(
     out: &mut O,
     peer: &Peer,
@@ -383,9 +389,10 @@ pub fn write_rib_line<O: Output>(
     Ok(())
 }
 
-/// Writes the report of a faulty record to `err`, such as `bgpdump: record 3, byte 120: cut record`.
-/// Overwrites `text`, a buffer. If memory allocation fails, nothing is written; if `err` fails, some of
-/// the report's first octets may have been written.
+/// Writes the report of a faulty record to `err`, such as `bgpdump: record 3, byte 120: cut record`
+/// and a line feed. `text` is a buffer: its octets are discarded, and unspecified afterwards. If
+/// memory allocation fails, nothing is written; if `err` fails, some of the report's first octets
+/// may have been written.
 pub fn write_report<E: Output>(
     err: &mut E,
     text: &mut Text,
@@ -400,10 +407,12 @@ pub fn write_report<E: Output>(
     Ok(())
 }
 
-/// Writes what reading a record gave: the lines of an event to `out`, the report of a faulty record to
-/// `err`, or nothing at the end of the input. Returns `true` if a report was written, and `false`
-/// otherwise. `cache` holds printed lines. Overwrites `text`, a buffer. Fails if memory allocation
-/// or an output fails; some of the first lines, or a part of the report, may have been written then.
+/// Writes what `next`, the result of reading a record, holds: the lines of an event to `out`, the
+/// report of a faulty record to `err`, or nothing at the end of the input. Returns `true` if a
+/// report was written, and `false` otherwise. `cache` holds printed lines of tables, to be copied
+/// from. `text` is a buffer: its octets aren't written, and are unspecified afterwards. Fails if
+/// memory allocation or an output fails; some of the first lines, or a part of the report, may have
+/// been written then.
 #[inline(always)]
 pub(crate) fn write_lines_or_report<O: Output, E: Output>(
     out: &mut O,

@@ -18,14 +18,15 @@ pub record Course : Type 0 where
   pub ended : Bool
   pub left : List RecordResult
 
--- what some lines of a script and then others do: the first ones wrote `texts`, and `ended` is whether one of
--- them wanted more results than were left; `course` is what the others do
+-- what some lines of a script and then others do: `texts` are what the first ones wrote, `ended` is whether one of
+-- them wanted more results than were left, and `course` is what the others do
 abbrev pub course_after : Texts → Bool → Course → Course
 course_after texts ended course = record { texts = joined_texts texts course.texts; ended = ended || course.ended; left = course.left }
 
--- what lines of a script do from state `s`; the first of them is line `number` of the script. If `cut`,
--- reading the input failed, or its limit was passed, after the unread results: a command that wants more of
--- them gives no reply, only the reports of those that are left, and no line after it does anything
+-- what lines of a script do from state `s`, where the first is line `number` of the script: commands reply, and
+-- report the faults among the results that they take; a line that is no command is reported; an empty one does
+-- nothing. If `cut`, reading the input failed, or its limit was passed, after the unread results: a command that
+-- wants more of them gives no reply, only the reports of those that are left, and no line after it does anything
 abbrev pub course_from : Bool → ℕ → List Line → State → Course
 course_from cut number [] s = record { texts = record { out = []; err = [] }; ended = false; left = s.unread }
 course_from cut number (Empty ∷ lines) s = course_from cut (number + 1) lines s
@@ -51,9 +52,9 @@ play_texts lines found = (course false lines found).texts
 abbrev pub texts_before_input_fault : List Line → List RecordResult → Texts
 texts_before_input_fault lines found = (course true lines found).texts
 
--- a run of `lines` with this outcome, which took `frames` and then the octets `rest`, took only what commands
--- want. `Done` and `Reported`: they took all of the results (times chosen by `stamp`); `ReadFault` and
--- `InputTooLong`: one wanted more results than the frames have; nothing is said of other outcomes
+-- a run of `lines` with this outcome, which took `frames` and then the octets `rest`, took only what commands want.
+-- `Done` and `Reported`: commands took all of the results (times chosen by `stamp`); `ReadFault` and `InputTooLong`:
+-- a command wanted more results than the frames have; true of any other outcome
 abbrev pub TakesWanted : Stamp → Outcome → List Line → List Frame → List ℕ → Type 0
 TakesWanted stamp Done lines frames rest = (course false lines (all_results stamp frames rest)).left ≡ []
 TakesWanted stamp Reported lines frames rest = (course false lines (all_results stamp frames rest)).left ≡ []
@@ -61,21 +62,21 @@ TakesWanted stamp ReadFault lines frames rest = (course true lines (all_results 
 TakesWanted stamp InputTooLong lines frames rest = (course true lines (all_results stamp frames [])).ended ≡ true
 TakesWanted stamp other lines frames rest = Unit {0}
 
--- a run of `lines`, which took `frames` and then the octets `rest`, saw the end of its input: `rest` has no
--- header that states too great a length, and either it isn't empty (the input ended within a record) or one
+-- a run of `lines`, which took `frames` and then the octets `rest`, saw the end of its input: `rest` begins with no
+-- header that states more than 16,777,216 octets, and either it isn't empty (the input ended within a record) or one
 -- of the lines wants more results than the frames and `rest` give (times chosen by `stamp`)
 abbrev pub IsEndSeen : Stamp → List Line → List Frame → List ℕ → Type 0
 IsEndSeen stamp lines frames rest = StatesNoExcess rest × ((rest ≢ []) ⊎ ((course false lines (all_results stamp frames rest)).ended ≡ true))
 
--- a run of `lines` with this outcome, which took `frames` and then `rest`, saw the end of its input
--- (`IsEndSeen`). It doesn't hold if reading the input failed, or the input or the script was too long
+-- a run of `lines` with this outcome, which took `frames` and then the octets `rest`, saw the end of its input
+-- (`IsEndSeen`). False for `ReadFault`, `InputTooLong` and `ScriptTooLong`
 abbrev pub ScriptSawEnd : Stamp → Outcome → List Line → List Frame → List ℕ → Type 0
 ScriptSawEnd stamp ReadFault lines frames rest = ⊥
 ScriptSawEnd stamp InputTooLong lines frames rest = ⊥
 ScriptSawEnd stamp ScriptTooLong lines frames rest = ⊥
 ScriptSawEnd stamp other lines frames rest = IsEndSeen stamp lines frames rest
 
--- the outcome is of a run that ended as an output or memory allocation failed
+-- the outcome is `WriteFault` (an output failed) or `Memory` (memory allocation failed)
 abbrev pub EndedByOutputOrMemory : Outcome → Type 0
 EndedByOutputOrMemory WriteFault = Unit {0}
 EndedByOutputOrMemory Memory = Unit {0}
@@ -100,43 +101,45 @@ pub record HasBegun (stamp : Stamp) (lines : List Line) (left left' : Option (Li
   pub one : length last ≤ 1
   pub texts : HoldsForAllContents stamp (IsEndSeen stamp (done ++ last)) left left' (λ found. WritesBeyond (play_texts done found) (play_texts (done ++ last) found) old new)
 
--- `IsSo` holds of each list of lines that the octets of `script` read as (`IsScript`); they read as just one
--- (`law_one_script`)
+-- `IsSo` holds of the lines of the script whose octets are `script`: of each list of what its lines ask for
+-- (`IsScript`), of which there is just one (`law_one_script`)
 abbrev pub HoldsForLines : List ℕ → (List Line → Type 0) → Type 0
 HoldsForLines script IsSo = (lines : List Line) → IsScript lines script → IsSo lines
 
--- if the octets of `script` aren't too many, a run of it with this outcome took the outputs from `old` to
--- `new` by the texts of its lines over all results of the octets `left`, as `EndsWithTexts` says; no claim
--- where `left`, what the input had left before the run, isn't known
+-- if `script` has at most `LONGEST_SCRIPT` octets, a run of it with this outcome took the outputs from `old` to `new`
+-- as `EndsWithTexts` says, where what it was to write is what its lines write over all results of `left`, the octets
+-- that the input had left before the run. True of any run where `left` isn't known (`None`)
 abbrev pub ScriptEndsOnKnownInput : Stamp → List ℕ → Outcome → Option (List ℕ) → Outputs → Outputs → Type 0
 ScriptEndsOnKnownInput stamp script outcome left old new =
     length script ≤ LONGEST_SCRIPT → HoldsForLines script (λ lines. EndsOnKnownInput stamp outcome (play_texts lines) left old new)
 
--- if the octets of `script` aren't too many, a run of it with this outcome, which took the input from `left`
--- to `left'`, took the outputs from `old` to `new` by the texts of its lines over the results of all octets
--- that the input may hold (`MayHold`, the end seen as `ScriptSawEnd` says), as `EndsWithTexts` says
+-- if `script` has at most `LONGEST_SCRIPT` octets, then for each list of octets that the input may have held before a
+-- run of it (`MayHold`: it had `left` left before and `left'` after, and `ScriptSawEnd` says whether the run saw its
+-- end), the run, with this outcome, took the outputs from `old` to `new` as `EndsWithTexts` says, where what it was
+-- to write is what the lines of the script write over all results of these octets
 abbrev pub ScriptEndsForAllContents : Stamp → List ℕ → Outcome → Option (List ℕ) → Option (List ℕ) → Outputs → Outputs → Type 0
 ScriptEndsForAllContents stamp script outcome left left' old new =
     length script ≤ LONGEST_SCRIPT → (lines : List Line) → IsScript lines script
     → EndsForAllContents stamp outcome (ScriptSawEnd stamp outcome lines) (play_texts lines) left left' old new
 
--- if a run of the octets `script` ended as an output or memory allocation failed, it wrote the texts of the
--- first lines of the script, maybe those of the last of them in part, as `HasBegun` says of the input
--- (`left`, `left'`) and the outputs (`old`, `new`) before and after the run
+-- if the outcome of a run of the octets `script` is that an output or memory allocation failed, it wrote the texts of
+-- the first lines of the script, and maybe a prefix of what the next line adds (`HasBegun`): the input had `left`
+-- left before the run and `left'` after it, and the outputs had got `old` before and `new` after it
 abbrev pub ScriptHasBegun : Stamp → List ℕ → Outcome → Option (List ℕ) → Option (List ℕ) → Outputs → Outputs → Type 0
 ScriptHasBegun stamp script outcome left left' old new =
     EndedByOutputOrMemory outcome → (lines : List Line) → IsScript lines script → HasBegun stamp lines left left' old new
 
--- a run of the octets `script` that ended as reading the input failed or its limit was passed took the
--- outputs from `old` to `new` by exactly what the lines of the script write over the results of the frames
--- taken (from `left` to `left'`), with that fault of the input after them
+-- if the outcome of a run of the octets `script` is that reading the input failed or that its limit was passed, it
+-- took the outputs from `old` to `new` by exactly what the lines of the script write over the results of the frames
+-- taken from the input (`left` left before, `left'` after), with that fault of the input after them
+-- (`texts_before_input_fault`). True where `left` or `left'` isn't known
 abbrev pub ScriptWritesBeforeInputFault : Stamp → List ℕ → Outcome → Option (List ℕ) → Option (List ℕ) → Outputs → Outputs → Type 0
 ScriptWritesBeforeInputFault stamp script outcome left left' old new =
     EndedByInputFault outcome → (lines : List Line) → IsScript lines script
     → HoldsForTaken stamp left left' (λ frames rest. Writes (texts_before_input_fault lines (all_results stamp frames [])) old new)
 
--- a run of the octets `script` with this outcome, which took its input from `left` to `left'`, took no
--- records but those that commands of the script want (`TakesWanted`)
+-- a run of the octets `script` with this outcome, whose input had `left` left before it and `left'` after it, took no
+-- records but those that commands of the script want (`TakesWanted`). True where `left` or `left'` isn't known
 abbrev pub TakesOnlyWantedRecords : Stamp → List ℕ → Outcome → Option (List ℕ) → Option (List ℕ) → Type 0
 TakesOnlyWantedRecords stamp script outcome left left' =
     (lines : List Line) → IsScript lines script → HoldsForTaken stamp left left' (TakesWanted stamp outcome lines)

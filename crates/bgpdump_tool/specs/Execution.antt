@@ -43,34 +43,34 @@ pub record RunState : Type 0 where
   pub left : Option (List ℕ)
   pub err : Option (List ℕ)
 
--- The state of a run with this session, input and output of reports, where `left` and `written` know the
--- octets of these.
+-- The state of a run with this session, this input and this output of reports, where `left` gives the octets that the
+-- input has left and `written` those that the output has got (`None` where they aren't known).
 abbrev pub run_state_from_devices : {S I E : Type 0} → (I → Option (List ℕ)) → (E → Option (List ℕ)) → Session S → I → E → RunState
 run_state_from_devices left written session input err =
     record { player = session.player; place = session.source; reported = session.reported; left = left input; err = written err }
 
--- `IsSo` holds of a call on a session, an input, the output of replies and the output of reports: of the
--- states of the run before and after it, of what the output of replies has got before and after it, and of
--- its answer. `left`, `written` and `written'` know the octets of the devices.
+-- `IsSo` holds of the states of a run before and after a call, of what the output of replies has got before and after
+-- it, and of its answer. The first quadruple is session, input, output of replies and output of reports before the
+-- call, the second these after it; `left`, `written` and `written'` give the octets of the three devices.
 abbrev pub HoldsForRunStates : {S I O E A : Type 0} → (I → Option (List ℕ)) → (O → Option (List ℕ)) → (E → Option (List ℕ)) → (RunState → RunState → Option (List ℕ) → Option (List ℕ) → A → Type 0) → Session S × I × O × E → Session S × I × O × E → A → Type 0
 HoldsForRunStates left written written' IsSo (session, input, out, err) (session', input', out', err') answer =
     IsSo (run_state_from_devices left written' session input err) (run_state_from_devices left written' session' input' err') (written out) (written out') answer
 
--- The state of the script in a run that has come so far, if `unread` are the results that no command has
--- taken yet.
+-- The state of a script (`State`) with the history, the cursor and the floor of a run that has come so far as `s`,
+-- where `unread` are the results that no command has taken yet.
 abbrev pub state_with_unread : Progress → List RecordResult → State
 state_with_unread s unread = record { history = s.history; cursor = s.cursor; floor = s.floor; unread = unread }
 
--- From its state `from` on, with `left` in the input, a source found these results, came to the state `q` and
--- left `left'`. If `ended`, it has seen the end of the input; if it has seen that after whole records,
--- `ended` is true.
+-- A source that was in the state `from`, with `left` in the input, found the results `found`, came to the state `q`
+-- and left `left'`. If `ended`, it has seen the end of the input; if it has seen that after whole records, `ended` is
+-- true.
 pub record HasFound (from : SourceState) (left : Option (List ℕ)) (q : SourceState) (left' : Option (List ℕ)) (found : List RecordResult) (ended : Bool) : Type 0 where
   pub so_far : HasAnswered from q left left' found
   pub seen : q.phase ≡ Ended → so_far.rest ≡ [] → ended ≡ true
   pub ends : ended ≡ true → q.phase ≡ Ended
   pub within : q.offset ≤ from.limit
 
--- The player with its cursor at another position.
+-- The player `t` with its cursor at the position `cursor`, and all else unchanged.
 abbrev pub at_cursor : ℕ → Timeline → Timeline
 at_cursor cursor t = record t { cursor = cursor }
 
@@ -83,7 +83,8 @@ pub record HasRoom (t : Timeline) (q : SourceState) (lost : ℕ) : Type 0 where
   pub within : q.offset ≤ q.limit
   pub limit : q.limit ≡ INPUT_LIMIT
 
--- A run in this state has come so far, since its source was in the state `from` and its input had `left`.
+-- A run in the state `scene` has come so far as `s`, since its source was in the state `from` and its input had
+-- `left` left.
 pub record HasProgress (from : SourceState) (left : Option (List ℕ)) (scene : RunState) (s : Progress) : Type 0 where
   pub history : StandsFor scene.player s.history
   pub cursor : scene.player.cursor ≡ s.cursor
@@ -96,8 +97,9 @@ pub record FindsNothingAfterEnd (q q' : SourceState) (new : List RecordResult) :
   pub quiet : q.phase ≡ Ended → new ≡ []
   pub stays : q.phase ≡ Ended → q'.phase ≡ Ended
 
--- How far a run has come after its cursor moved over `over` events ahead, and then over the events of the
--- results `new`, which come last. `ended` is whether it met the end of the results on the way.
+-- How far a run has come that was at `s`, after its cursor moved over `over` events ahead, and then over the events
+-- of the results `new`, which it found and which come last. `ended` is whether it met the end of the results on the
+-- way.
 abbrev pub progress_after : ℕ → List RecordResult → Bool → Progress → Progress
 progress_after over new ended s = record {
   history = s.history ++ events new;
@@ -132,8 +134,10 @@ pub record StopsWriting (from : SourceState) (left : Option (List ℕ)) (s : Pro
   pub follows : FindsNothingAfterEnd old.place new.place found
   pub fronts : AppendsPrefix old.err new.err (reports found)
 
--- What a step forward from `s` does, by its result: it moves over one event ahead, or finds one result; or,
--- if it ended, it met the end; or, with no event ahead, the source or a fault of writing stopped it.
+-- A step forward of a run, which had come so far as `s`, changes its state from `old` to `new` and gives this result.
+-- `Ok(false)`: it moves over one event ahead, or finds one result; `Ok(true)`: it meets the end of the input; Err:
+-- with no event ahead, the source or a fault of writing stops it, with this outcome. The source was in the state
+-- `from`, with `left` in the input, when the run began.
 abbrev pub StepsFrom : SourceState → Option (List ℕ) → Progress → RunState → RunState → Result Bool Outcome → Type 0
 StepsFrom from left s old new (Ok false) = (over : ℕ) × (found : List RecordResult) × (over + length found ≡ 1) × MovesForward from left s old new over found false
 StepsFrom from left s old new (Ok true) = MovesForward from left s old new 0 [] true
@@ -142,7 +146,8 @@ StepsFrom from left s old new (Err outcome) = (s.cursor ≡ length s.history) ×
     ⊎ ((fault : WriteFault) × (outcome ≡ outcome_of_write_fault fault) × (found : List RecordResult) × (length found ≤ 1) × StopsWriting from left s old new found)
     )
 
--- What a step forward does, however far the run has come before it.
+-- A step forward of a run changes its state from `old` to `new` and gives this result as `StepsFrom` says, however
+-- far the run had come before it.
 abbrev pub Steps : RunState → RunState → Result Bool Outcome → Type 0
 Steps old new result = (from : SourceState) (left : Option (List ℕ)) (s : Progress) → HasProgress from left old s → StepsFrom from left s old new result
 
@@ -187,23 +192,28 @@ pub record IsBrokenOff (command : Command) (from : SourceState) (left : Option (
   pub met : ended ≡ true → (s.ended || meets_end command (state_with_unread s taken)) ≡ true
   pub fronts : (more : List RecordResult) → (new.place.phase ≡ Ended → more ≡ []) → AppendsPrefix out out' (meaning command (state_with_unread s (taken ++ more))).reply × AppendsPrefix old.err new.err (faults_taken command (state_with_unread s (taken ++ more)))
 
--- What executing the command from `s` does, by its result: it led the run and its reply was written; or the
--- source or a fault of writing stopped it, with this outcome.
+-- Executing the command in a run that had come so far as `s` changes the run's state from `old` to `new` and what the
+-- output of replies has got from `out` to `out'`, and gives this result. Ok: the run did what the command means, and
+-- its reply is written; Err: the source or a fault of writing stopped it, with this outcome. The source was in the
+-- state `from`, with `left` in the input, when the run began.
 abbrev pub ExecutesFrom : {A : Type 0} → Command → SourceState → Option (List ℕ) → Progress → RunState → RunState → Option (List ℕ) → Option (List ℕ) → Result A Outcome → Type 0
 ExecutesFrom command from left s old new out out' (Ok done) = (led : IsLed command from left s old new) × Appends out out' led.reply
 ExecutesFrom command from left s old new out out' (Err outcome) =
     ((fault : SourceFault) × (outcome ≡ outcome_of_source_fault fault) × IsCutOff command from left s old new out out' fault)
     ⊎ ((fault : WriteFault) × (outcome ≡ outcome_of_write_fault fault) × IsBrokenOff command from left s old new out out')
 
--- What executing the command does, however far the run has come before it.
+-- Executing the command changes the state of a run from `old` to `new` and what the output of replies has got from
+-- `out` to `out'`, and gives this result, as `ExecutesFrom` says, however far the run had come before it.
 abbrev pub ExecutesCommand : {A : Type 0} → Command → RunState → RunState → Option (List ℕ) → Option (List ℕ) → Result A Outcome → Type 0
 ExecutesCommand command old new out out' result =
     (from : SourceState) (left : Option (List ℕ)) (s : Progress) → HasProgress from left old s → ExecutesFrom command from left s old new out out' result
 
 -- ---- what a run of a script has executed so far, and where it stopped
 
--- What executing a line from `s` does, by its result: nothing if it is empty, what its command does, or a
--- report if it is no command. `number` is that of the line.
+-- Executing line `number` of a script in a run that had come so far as `s` changes the run's state from `old` to
+-- `new` and what the output of replies has got from `out` to `out'`, and gives this result. An empty line does
+-- nothing, a command what `ExecutesFrom` says, and a line that is no command is reported, on Err only by a prefix of
+-- its report.
 abbrev pub ExecutesLineFrom : Line → ℕ → SourceState → Option (List ℕ) → Progress → RunState → RunState → Option (List ℕ) → Option (List ℕ) → Result (Unit {0}) Outcome → Type 0
 ExecutesLineFrom Empty number from left s old new out out' result = (result ≡ Ok tt) × (new ≡ old) × (out' ≡ out)
 ExecutesLineFrom (HasCommand command) number from left s old new out out' result = ExecutesFrom command from left s old new out out' result
@@ -212,8 +222,9 @@ ExecutesLineFrom NoCommand number from left s old new out out' (Ok done) =
 ExecutesLineFrom NoCommand number from left s old new out out' (Err outcome) =
     (new ≡ record old { reported = true; err = new.err }) × (out' ≡ out) × ((fault : WriteFault) × (outcome ≡ outcome_of_write_fault fault) × AppendsPrefix old.err new.err (bad_line_report number))
 
--- What executing a line with these octets does, however far the run has come before it. `number` is that of
--- the line.
+-- Executing line `number` of a script, which has these octets, changes the state of a run from `old` to `new` and
+-- what the output of replies has got from `out` to `out'`, and gives this result, as `ExecutesLineFrom` says, however
+-- far the run had come before it.
 abbrev pub ExecutesLine : List ℕ → ℕ → RunState → RunState → Option (List ℕ) → Option (List ℕ) → Result (Unit {0}) Outcome → Type 0
 ExecutesLine octets number old new out out' result = (line : Line) × IsLine line octets
     × ((from : SourceState) (left : Option (List ℕ)) (s : Progress) → HasProgress from left old s → ExecutesLineFrom line number from left s old new out out' result)
@@ -249,22 +260,25 @@ pub record ExecutionBrokenOff (from : SourceState) (left : Option (List ℕ)) (d
   pub met : ended ≡ true → (lines : List Line) → (course false ((done ++ line ∷ []) ++ lines) found).ended ≡ true
   pub past : (more : List RecordResult) → (scene.place.phase ≡ Ended → more ≡ []) → WritesBeyond (play_texts done (found ++ more)) (play_texts (done ++ line ∷ []) (found ++ more)) old new
 
--- How executing the line after `done` ended, by its result.
+-- Executing `line` after the lines `done` ended with this result, with the run in the state `scene`, and took its
+-- outputs from `old`, before the first line, to `new`. Ok: all these lines are executed; Err: the source or a fault
+-- of writing stopped the run in `line`, with this outcome.
 abbrev pub ExecutesNextLine : SourceState → Option (List ℕ) → List Line → Line → RunState → Outputs → Outputs → Result (Unit {0}) Outcome → Type 0
 ExecutesNextLine from left done line scene old new (Ok all) = HasExecuted from left (done ++ line ∷ []) scene old new
 ExecutesNextLine from left done line scene old new (Err outcome) =
     ((fault : SourceFault) × (outcome ≡ outcome_of_source_fault fault) × ExecutionCutOff from left done line scene old new fault)
     ⊎ ((fault : WriteFault) × (outcome ≡ outcome_of_write_fault fault) × ExecutionBrokenOff from left done line scene old new)
 
--- A run has executed all lines of the script, if the result is Ok; or else the first ones, and a fault
--- stopped it in the next one.
+-- Executing the script ended with this result, with the run in the state `scene`, and took its outputs from `old` to
+-- `new`. Ok: all its lines are executed; Err: its first ones are, and a fault stopped the run in the next one. The
+-- source was in the state `from`, with `left` in the input, when the run began.
 abbrev pub ExecutesScript : SourceState → Option (List ℕ) → List ℕ → RunState → Outputs → Outputs → Result (Unit {0}) Outcome → Type 0
 ExecutesScript from left script scene old new (Ok all) = (done : List Line) × AreLines done (script_lines script) × HasExecuted from left done scene old new
 ExecutesScript from left script scene old new (Err outcome) =
     (done : List Line) × (line : Line) × (first rest : List (List ℕ)) × (script_lines script ≡ first ++ rest) × AreLines (done ++ line ∷ []) first × ExecutesNextLine from left done line scene old new (Err outcome)
 
--- What executing the lines of a script does, by the states of the run and what the output of replies has got,
--- before and after it.
+-- Executing all lines of a script changes the state of a run from `old` to `new` and what the output of replies has
+-- got from `out` to `out'`, and gives this result, as `ExecutesScript` says of a run that begins at `old`.
 abbrev pub ExecutesLines : List ℕ → RunState → RunState → Option (List ℕ) → Option (List ℕ) → Result (Unit {0}) Outcome → Type 0
 ExecutesLines script old new out out' result =
     ExecutesScript old.place old.left script new (record { out = out; err = old.err }) (record { out = out'; err = new.err }) result

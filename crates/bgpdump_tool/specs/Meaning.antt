@@ -29,21 +29,21 @@ start results = record { history = []; cursor = 0; floor = 0; unread = results }
 abbrev pub steps_ahead : State → ℕ
 steps_ahead s = length s.history - s.cursor
 
--- the routes of all peers at the cursor
+-- the routes of all peers after the events before the cursor
 abbrev pub routes_at : State → Routes
 routes_at s = table (take s.cursor s.history)
 
--- the event of a result, or none for a fault
+-- the event of a result as a list of one, and the empty list for a fault
 abbrev pub event_of : RecordResult → List Event
 event_of (Found event) = event ∷ []
 event_of (Bad fault) = []
 
--- the events among results
+-- the events among results, in order
 abbrev pub events : List RecordResult → List Event
 events found = flat_map event_of found
 
--- the state after the cursor moved over `over` events ahead, and then `count` results were taken, or all if
--- fewer are left: their events are appended, and the cursor moved over them
+-- state `s` after its cursor moved over `over` events ahead, and then `count` of the unread results were taken, or
+-- all if there are fewer: their events are appended to the history, and the cursor moved over them too
 abbrev pub moved_forward : ℕ → ℕ → State → State
 moved_forward over count s = record {
   history = s.history ++ events (take count s.unread);
@@ -60,16 +60,17 @@ results_needed (suc count) [] = 1
 results_needed (suc count) (Found event ∷ results) = suc (results_needed count results)
 results_needed (suc count) (Bad fault ∷ results) = suc (results_needed (suc count) results)
 
--- the event that `lose` plays: the session with the peer is lost, at time 0
+-- the event that `lose` plays: the session with the peer goes from Established to Idle, at time 0
 abbrev pub loss : Peer → Event
 loss peer = record { time = record { seconds = 0; micros = None }; tag = Bgp4mp; items = Changed peer ESTABLISHED IDLE ∷ [] }
 
--- the state after an event is played: it replaces the events after the cursor, which moves over it
+-- state `s` after `event` is played: the events after the cursor are dropped, `event` is appended, and the cursor
+-- moves over it
 abbrev pub played : Event → State → State
 played event s = record s { history = take s.cursor s.history ++ event ∷ []; cursor = s.cursor + 1 }
 
--- the state after the oldest events are forgotten, so that at most `keep` events before the cursor can be
--- undone
+-- state `s` after the oldest events are forgotten, so that at most `keep` events before the cursor can be undone;
+-- unchanged if no more can be undone in `s`
 abbrev pub forgotten_keeping : ℕ → State → State
 forgotten_keeping keep s = record s { floor = max s.floor (s.cursor - keep) }
 
@@ -89,13 +90,17 @@ answer reply after = record { wanted = 0; after = after; reply = reply }
 abbrev pub retreat_to : ℕ → State → Meaning
 retreat_to cursor s = answer (at_text cursor false) (record s { cursor = cursor })
 
--- what a command does that moves the cursor of state `s` over `over` events ahead, and then over the events
--- of `count` results, which it wants. Its reply says that it met the end if fewer results are left
+-- what a command does that moves the cursor of state `s` over `over` events ahead, and then over the events of the
+-- next `count` unread results, which it wants. Its reply is the position after that, with `end` if fewer results are
+-- left
 abbrev pub advance : ℕ → ℕ → State → Meaning
 advance over count s =
     record { wanted = count; after = moved_forward over count s; reply = at_text (moved_forward over count s).cursor (nat_lt (length s.unread) count) }
 
--- what a command does in state `s`: how many results it wants, the state after it, and its reply
+-- what a command does in state `s`. `next` moves the cursor over `n` events ahead and, where these end, over unread
+-- results (a fault counts as one); `goto` moves it to position `k`, forward over as many of both as that takes;
+-- `back` moves it back by `n`; `goto` and `back` stop at the floor. `where`, `peers`, `table`, `route` and `lookup`
+-- only reply; `lose` plays `loss`, and `forget` keeps at most `n` events that can be undone
 abbrev pub meaning : Command → State → Meaning
 meaning (Next n) s = advance (min n (steps_ahead s)) (n - min n (steps_ahead s)) s
 meaning (Back n) s = retreat_to (s.cursor - min n (s.cursor - s.floor)) s
@@ -110,10 +115,10 @@ meaning (Lookup peer address) s = answer (found_text peer (longest_match (routes
 meaning (Lose peer) s = answer (labelled_numbers_line ((codes "at ", s.cursor + 1) ∷ (codes " dropped ", steps_ahead s) ∷ [])) (played (loss peer) s)
 meaning (Forget n) s = answer (labelled_numbers_line ((codes "at ", s.cursor) ∷ (codes " floor ", (forgotten_keeping n s).floor) ∷ (codes " forgot ", (forgotten_keeping n s).floor - s.floor) ∷ [])) (forgotten_keeping n s)
 
--- whether a command in a state meets the end of the results: it wants more than are left
+-- whether a command in state `s` meets the end of the results: it wants more than are unread
 abbrev pub meets_end : Command → State → Bool
 meets_end command s = nat_lt (length s.unread) (meaning command s).wanted
 
--- the reports of the faults among the results that a command takes in a state
+-- the reports of the faults among the results that a command takes in state `s`, in order
 abbrev pub faults_taken : Command → State → List ℕ
 faults_taken command s = reports (take (meaning command s).wanted s.unread)

@@ -10,7 +10,8 @@ use Rattle.bgpdump_lines.specs.Lines.{space, line_feed}
 
 -- ---- the words and the lines that spell commands
 
--- the parts of a text before, between and after its marks, empty ones too: one more than there are marks
+-- the parts of `text` before, between and after the octets equal to `mark`, empty ones too: one more than there are
+-- such octets
 abbrev pub split_at_marks : ℕ → List ℕ → List (List ℕ)
 split_at_marks mark text = slice_split (λ octet. octet == mark) text
 
@@ -18,7 +19,8 @@ split_at_marks mark text = slice_split (λ octet. octet == mark) text
 abbrev pub SpellsDecimal : ℕ → List ℕ → Type 0
 SpellsDecimal n word = (n < 2 ^ 32) × (word ≡ decimal n)
 
--- two words spell a peer: the first its address, the second its AS number
+-- the words `address` and `number` spell the peer: its address as text, and its AS number in decimal
+-- (`SpellsDecimal`)
 abbrev pub SpellsPeer : List ℕ → Peer → List ℕ → Type 0
 SpellsPeer address peer number = SpellsAddress peer.addr address × SpellsDecimal peer.asn number
 
@@ -36,7 +38,7 @@ pub data Arguments : Type 0 where
   SoughtPrefix : Peer → Network → Arguments
   SoughtAddress : Peer → Address → Arguments
 
--- the words spell a peer, and then `value` in the way of `Spells`
+-- `words` are three words: the address and the AS number of the peer, and one that spells `value`, as `Spells` says
 abbrev pub SpellsSought : {A : Type 0} → (A → List ℕ → Type 0) → Peer → A → List (List ℕ) → Type 0
 SpellsSought Spells peer value words =
     (address number sought : List ℕ) × SpellsPeer address peer number × Spells value sought
@@ -54,7 +56,7 @@ SpellsArguments (OfPeer peer) words =
 SpellsArguments (SoughtPrefix peer prefix) words = SpellsSought SpellsPrefix peer prefix words
 SpellsArguments (SoughtAddress peer address) words = SpellsSought SpellsAddress peer address words
 
--- the name of a command in ASCII, and its arguments
+-- the name that a command has in a script, in ASCII, such as `next`, and its arguments
 abbrev pub name_and_arguments : Command → List ℕ × Arguments
 name_and_arguments (Next n) = (codes "next", Times n)
 name_and_arguments (Back n) = (codes "back", Times n)
@@ -84,7 +86,7 @@ SpellsCommand command line = SpellsWords command (split_at_marks space line)
 abbrev pub script_lines : List ℕ → List (List ℕ)
 script_lines script = split_at_marks line_feed script
 
--- what a line asks for
+-- what a line of a script asks for: nothing if it is empty, a command, or a report that it is no command
 pub data Line : Type 0 where
   -- the line is empty
   Empty : Line
@@ -100,17 +102,19 @@ IsLine Empty octets = octets ≡ []
 IsLine (HasCommand command) octets = SpellsCommand command octets
 IsLine NoCommand octets = (octets ≢ []) × ((command : Command) → SpellsCommand command octets → ⊥)
 
--- the first list has what each line of octets of the second asks for (`IsLine`), one each and in order
+-- each element of the first list is what the line of octets at its place in the second asks for (`IsLine`); the lists
+-- are equally long
 abbrev pub AreLines : List Line → List (List ℕ) → Type 0
 AreLines [] [] = Unit {0}
 AreLines [] (octets ∷ more) = ⊥
 AreLines (line ∷ lines) [] = ⊥
 AreLines (line ∷ lines) (octets ∷ more) = IsLine line octets × AreLines lines more
 
--- `lines` has what each line of the text `script` asks for (`IsLine`), one each and in order
+-- `lines` are what the lines of the text `script` ask for (`IsLine`), one for each and in order
 abbrev pub IsScript : List Line → List ℕ → Type 0
 IsScript lines script = AreLines lines (script_lines script)
 
--- the report of a line that is no command, where `number` counts lines from 1
+-- the report of a line that is no command, `bgpdump: script line NUMBER: bad command`, where `number` counts lines
+-- from 1
 abbrev pub bad_line_report : ℕ → List ℕ
 bad_line_report number = codes "bgpdump: script line " ++ (decimal number ++ codes ": bad command\n")

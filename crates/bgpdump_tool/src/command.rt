@@ -9,9 +9,10 @@ use crate::words::{equals, parse_number, split_once};
 use ip_prefix::{Addr, Prefix, SPACE};
 use mrt_wire::Peer;
 
-/// A command of a script, which moves a player through the events of an MRT file, or prints parts
-/// of its routing table. A step is one played event, which undo and redo go over; the cursor is
-/// between two steps.
+/// A command of a script (`--play`) to the player, which applies the events of an MRT file to a
+/// routing table and undoes them: moves it, or prints parts of its table. A step is one played
+/// event. The player's cursor is between two steps: those before it are applied, those after it
+/// were undone.
 #[derive(Clone, Copy, Debug, PartialEq, Eq)]
 pub enum Command {
     /// `next`: moves the player this many steps forward, at least 1. Undone steps are applied again
@@ -38,9 +39,9 @@ pub enum Command {
     Forget(u32),
 }
 
-/// Parses a line of a script, without its line feed, such as `lookup 192.0.2.1 65000 198.51.100.7`.
-/// Returns `None` if the line is no command: an empty line, an unknown name, or a wrong number of
-/// words, numbers out of range, or more than one space between words.
+/// Parses a line of a script, without its line feed, as a command, such as
+/// `lookup 192.0.2.1 65000 198.51.100.7`. Returns `None` if it is no command: it is empty, the name
+/// is unknown, an argument is missing, malformed or one too many, or there is a space too many.
 pub fn read_command(line: &[u8]) -> Option<Command>
     ensures { ParsesTo SpellsCommand line.now result }
 {
@@ -109,7 +110,8 @@ fn parse_step_count(word: &[u8]) -> Option<u32>
 }
 
 /// Parses a command of a name and a peer, given by its `address` and AS `number`: `table` or
-/// `lose`. Returns `None` for any other name, or if the peer is malformed.
+/// `lose`. Returns `None` for any other name, or if the address, or the number (decimal, from 0 to
+/// 2^32 - 1, without leading zeros), is malformed.
 fn parse_with_two_arguments(name: &[u8], address: &[u8], number: &[u8]) -> Option<Command>
     ensures { ParsesTo SpellsWords (name.now ∷ address.now ∷ number.now ∷ []) result }
 {
@@ -123,9 +125,9 @@ fn parse_with_two_arguments(name: &[u8], address: &[u8], number: &[u8]) -> Optio
     }
 }
 
-/// Parses a command of a name, a peer, given by its `address` and AS `number`, and what is `sought`
-/// of it: a prefix for `route`, or an address for `lookup`. Returns `None` for any other name, or
-/// if an argument is malformed.
+/// Parses a command of a name, a peer and what is sought among its routes: `route` with a prefix,
+/// or `lookup` with an address. The peer is given by its `address` and AS `number`. Returns `None`
+/// for any other name, or if an argument is malformed.
 fn parse_with_three_arguments(
     name: &[u8],
     address: &[u8],
@@ -145,7 +147,7 @@ fn parse_with_three_arguments(
 }
 
 /// Parses a peer from the words of its address (such as `192.0.2.1`) and its AS number (such as
-/// `65000`). Returns `None` if either is malformed.
+/// `65000`, from 0 to 2^32 - 1). Returns `None` if either is malformed.
 fn parse_peer(address: &[u8], number: &[u8]) -> Option<Peer>
     ensures { ParsesTo (SpellsPeer address.now) number.now result }
 {

@@ -19,12 +19,13 @@ use mrt_wire::{Input, Route};
 use prefix_store::PrefixStore;
 use std::rc::Rc;
 
-/// Executes a command of a script: reads the records that it needs from `input`, reports the faulty
-/// ones to `err`, and then writes its reply to `out`. Requires, so that no count overflows, that at
-/// most 2^40 octets were taken from `input`, and that the number of events played exceeds the
-/// number of these octets by at most 2^20 ([`LONGEST_SCRIPT`](crate::LONGEST_SCRIPT)). Fails with
-/// the [`Outcome`] that ends the program: a failed read or write, an input that is too long, or a
-/// lack of memory.
+/// Executes `command`, a command of a script, on the player of `session`: reads the records that it
+/// needs from `input`, reports the faulty ones to `err`, and then writes its reply to `out`. Fails
+/// with the [`Outcome`] that ends the program: a failed read or write, an input that is too long,
+/// or a lack of memory; how much of the command was executed is unspecified then. Requires, so that
+/// no count overflows, that at most 2^40 octets were taken from `input`, and that the player has at
+/// most 2^20 ([`LONGEST_SCRIPT`](crate::LONGEST_SCRIPT)) more steps (played events) than octets
+/// were taken.
 pub(crate) fn execute_command<S: PrefixStore<Rc<Route>>, I: Input, O: Output, E: Output>(
     session: &mut Session<S>,
     input: &mut I,

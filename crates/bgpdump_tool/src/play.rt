@@ -27,12 +27,14 @@ use std::rc::Rc;
 /// ends as [`Outcome::ScriptTooLong`].
 pub const LONGEST_SCRIPT: usize = 1 << 20;
 
-/// Executes `script` over `input`, MRT records (RFC 6396), with a new player whose routes are kept
-/// in stores of type `S`. Replies go to `out`, reports of faulty records and bad lines to `err`,
-/// each before the next record or line is read, and both are flushed before a read that may wait.
-/// Records that no command wants aren't read. `stamp` selects which time the routes of tables get:
-/// that of the dump, or that of their last change. Requires that no device has failed before. If
-/// nothing fails, calls [`Output::finish`] of `out` and then of `err`.
+/// Executes the commands of `script` over the MRT records of `input` (RFC 6396), and returns how
+/// that ended. A new player applies the records' events to a routing table and undoes them; `S` is
+/// the type of the stores that hold its routes. Replies go to `out`, reports of faulty records and
+/// bad lines to `err`, each before the next record or line is read. Both are flushed before a read
+/// that may wait. Records that no command needs aren't read. `stamp` selects the time of routes
+/// from table dumps: when the table was dumped, or when the route last changed. Requires that none
+/// of `input`, `out` and `err` has failed before. If nothing fails, calls [`Output::finish`], which
+/// flushes, on `out` and then on `err`.
 ///
 /// A script of more than 1,048,576 octets isn't executed: the outcome is `ScriptTooLong`.
 pub fn run_play<S: PrefixStore<Rc<Route>>, I: Input, O: Output, E: Output>(
@@ -117,10 +119,11 @@ pub fn run_play<S: PrefixStore<Rc<Route>>, I: Input, O: Output, E: Output>(
     }
 }
 
-/// Executes the lines of `script` in order, numbered from 1. A line may be empty, or be no command
-/// (which is reported to `err`). Requires that the session is new, and that the script has at most
-/// [`LONGEST_SCRIPT`] octets. Fails with the [`Outcome`] of the first line that ends the program;
-/// the next lines aren't executed then.
+/// Executes the lines of `script` in order. Skips empty lines, and reports a line that is no
+/// command to `err` with its number, counted from 1. Requires that `session` is new, as
+/// [`Session::new`] returns it, and that the script has at most [`LONGEST_SCRIPT`] octets. Fails
+/// with the [`Outcome`] that ends the program: a failed read or write, an input that is too long,
+/// or a lack of memory. The lines after the one that failed aren't executed then.
 fn execute_lines<S: PrefixStore<Rc<Route>>, I: Input, O: Output, E: Output>(
     session: &mut Session<S>,
     input: &mut I,
@@ -151,12 +154,13 @@ fn execute_lines<S: PrefixStore<Rc<Route>>, I: Input, O: Output, E: Output>(
     execute_line(session, input, rest, number, out, err)
 }
 
-/// Executes a line of a script: its command, or nothing if it is empty. A line that is no command
-/// is reported to `err`, such as `bgpdump: script line 3: bad command`, with its `number`, counted
-/// from 1. So that no count overflows, requires that at most 2^40 octets were taken from `input`,
-/// and that the number of events played exceeds the number of these octets by at most 2^20
-/// ([`LONGEST_SCRIPT`](crate::LONGEST_SCRIPT)). Fails with the [`Outcome`] that ends the program: a
-/// failed read or write, an input that is too long, or a lack of memory.
+/// Executes a line of a script, given without its line feed: its command, or nothing if it is
+/// empty. A line that is no command is reported to `err` with its `number`, counted from 1, such as
+/// `bgpdump: script line 3: bad command`. Fails with the [`Outcome`] that ends the program: a
+/// failed read or write, an input that is too long, or a lack of memory; how much of the line was
+/// executed is unspecified then. Requires, so that no count overflows, that at most 2^40 octets
+/// were taken from `input`, and that the player of `session` has at most 2^20
+/// ([`LONGEST_SCRIPT`](crate::LONGEST_SCRIPT)) more steps (played events) than octets were taken.
 fn execute_line<S: PrefixStore<Rc<Route>>, I: Input, O: Output, E: Output>(
     session: &mut Session<S>,
     input: &mut I,

@@ -33,9 +33,9 @@ pub(crate) fn write_labelled_numbers<O: Output>(
 }
 
 /// Writes to `out` the reply `at 5`, where 5 is `position`, the number of played events before the
-/// player's cursor, or `at 5 end` if `ended`, that is if the command met the end of the input.
-/// Overwrites `text`, a buffer. Fails if memory allocation or `out` fails; some of the reply's
-/// first octets may have been written then.
+/// player's cursor. Writes `at 5 end` if `ended`, which says whether the command met the end of the
+/// input. Overwrites `text`, a buffer. Fails if memory allocation or `out` fails; some of the
+/// reply's first octets may have been written then.
 pub(crate) fn write_position<O: Output>(
     position: u64,
     ended: bool,
@@ -51,8 +51,8 @@ pub(crate) fn write_position<O: Output>(
     write_labelled_numbers(&[(b"at ", position)], b"\n", out, text)
 }
 
-/// Writes to `out` the reply `none`, for a question that finds nothing. Fails if `out` fails; some
-/// of the octets may have been written then.
+/// Writes to `out` the reply of a query that finds nothing: `none` and a line feed. Fails if `out`
+/// fails; some of these octets may have been written then.
 pub(crate) fn write_none<O: Output>(out: &mut O) -> Result<(), WriteFault>
     ensures text { Puts (O.written out.old) (O.written out.new) none_text result }
     ensures failed { O.failed out.new ≡ (O.failed out.old || is_output_fault result) }

@@ -40,8 +40,8 @@ pub(crate) struct Session<S: PrefixStore<Rc<Route>>> {
 
 impl<S: PrefixStore<Rc<Route>>> Session<S> {
     /// Returns the state before the first line of a script: nothing is played, read or reported.
-    /// `stamp` selects which time the routes of tables get: that of the dump, or that of their last
-    /// change.
+    /// `stamp` selects the time of routes from table dumps: when the table was dumped, or when the
+    /// route last changed.
     pub(crate) fn new(alloc: Global, stamp: Stamp) -> Self
         ensures player { result.player ≡ fresh }
         ensures source { result.source ≡ start_state stamp INPUT_LIMIT }
@@ -56,18 +56,18 @@ impl<S: PrefixStore<Rc<Route>>> Session<S> {
         }
     }
 
-    /// Drops the state after the last line of a script. Leaks it instead if the stores `S` leave
-    /// their memory to the system (`PrefixStore::leaks_on_drop`), as freeing them one by one would
-    /// take long.
+    /// Ends the execution of a script: drops its state, or leaks it if dropping a store of type `S`
+    /// leaves the memory of its routes to the system ([`PrefixStore::leaks_on_drop`]). The program
+    /// ends soon after, and freeing the routes one by one would take long.
     pub(crate) fn end(self) {
         if S::leaks_on_drop() {
             mem::forget(self);
         }
     }
 
-    /// Flushes `out` and `err`, as the next record may have to be waited for. Does nothing if no
-    /// further record is read, or if `input` has the whole next record in its buffer. Fails if a
-    /// flush fails.
+    /// Flushes `out` and `err` if the next read from `input` may wait. Does nothing if no further
+    /// record is read, since the input has ended or failed, or if `input` has the whole next record
+    /// in its buffer. Fails if a flush fails.
     fn flush_before_record<I: Input, O: Output, E: Output>(
         &self,
         input: &I,
@@ -91,10 +91,11 @@ impl<S: PrefixStore<Rc<Route>>> Session<S> {
     /// from `input` and plays its event. If that record is faulty, it is reported to `err` instead,
     /// and the player stays as it was. Before a read that may wait, `out` and `err` are flushed.
     /// Returns `true` if neither an undone event nor a record was left, and `false` otherwise.
-    /// Requires, so that no count overflows, that at most 2^40 octets were taken from `input`, and
-    /// that the number of events played exceeds the number of these octets by at most 2^20
-    /// ([`LONGEST_SCRIPT`](crate::LONGEST_SCRIPT)). Fails with the [`Outcome`] that ends the
-    /// program: a failed read or write, an input that is too long, or a lack of memory.
+    /// Fails with the [`Outcome`] that ends the program: a failed read or write, an input that is
+    /// too long, or a lack of memory; the player is unchanged then. Requires, so that no count
+    /// overflows, that at most 2^40 octets were taken from `input`, and that the player has at most
+    /// 2^20 ([`LONGEST_SCRIPT`](crate::LONGEST_SCRIPT)) more steps (played events) than octets were
+    /// taken.
     pub(crate) fn step_forward<I: Input, O: Output, E: Output>(
         &mut self,
         input: &mut I,

@@ -20,8 +20,8 @@ pub(crate) fn split_once(text: &[u8], mark: u8) -> Option<(&[u8], &[u8])>
     Some((&text[..at], &text[at + 1..]))
 }
 
-/// Returns `true` if `word` and `name` have the same octets, and `false` if not: whether a word of
-/// a script is the name of a command.
+/// Returns `true` if `word`, a word of a script, has the same octets as `name`, the name of a
+/// command, and `false` if not.
 pub(crate) fn equals(word: &[u8], name: &[u8]) -> bool
     ensures same { IsTrue result → word.now ≡ name.now }
     ensures other { IsFalse result → word.now ≢ name.now }

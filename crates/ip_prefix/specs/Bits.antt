@@ -9,12 +9,12 @@ abbrev pub bit_value : Bool → ℕ
 bit_value true = 1
 bit_value false = 0
 
--- the number that the bits spell in base 2, the most significant first
+-- the number that the bits spell in base 2, the most significant first; 0 of no bits
 unfoldable pub number_of : List Bool → ℕ
 number_of [] = 0
 number_of (bit ∷ bits) = bit_value bit * 2 ^ length bits + number_of bits
 
--- the lowest bits of a number, as many as the first argument says, the most significant first
+-- `bits_of k n` is the lowest `k` bits of `n`, the most significant first
 unfoldable pub bits_of : ℕ → ℕ → List Bool
 bits_of zero n = []
 bits_of (suc k) n = (bit_at n k == 1) ∷ bits_of k n
@@ -24,7 +24,7 @@ abbrev pub bits_of_octets : List ℕ → List Bool
 bits_of_octets [] = []
 bits_of_octets (octet ∷ octets) = bits_of OCTET_BITS octet ++ bits_of_octets octets
 
--- the highest `size` bits of a number of 128 bits, as which addresses and prefixes are stored; `size` is at
--- most 128
+-- the highest `size` bits of `number`, the most significant first; `number` has 128 bits, as which addresses
+-- and prefixes are stored, and `size` is at most 128
 abbrev pub highest_bits : ℕ → ℕ → List Bool
 highest_bits size number = bits_of size (number / 2 ^ (NUMBER_BITS - size))

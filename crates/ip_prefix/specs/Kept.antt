@@ -44,15 +44,15 @@ number-highest j k n fits none =
 
 -- ---- a number as two halves of 64 bits
 
--- the number of 128 bits with these halves
+-- the number of 128 bits whose high half is `high` and whose low half is `low`, of 64 bits each
 abbrev pub whole : ℕ → ℕ → ℕ
 whole high low = high * 2 ^ HALF_BITS + low
 
--- the high half of a number made of two halves is the first of them
+-- `whole high low`, divided by 2^64 and rounded down, is `high`
 pub high-again : (high low : ℕ) → low < 2 ^ HALF_BITS → whole high low / 2 ^ HALF_BITS ≡ high
 high-again high low fits = omega (arith, fits)
 
--- the low half of a number made of two halves is the second of them
+-- `whole high low` modulo 2^64 is `low`
 pub low-again : (high low : ℕ) → low < 2 ^ HALF_BITS → whole high low % 2 ^ HALF_BITS ≡ low
 low-again high low fits = omega (arith, fits)
 
@@ -62,7 +62,7 @@ low-again high low fits = omega (arith, fits)
 abbrev pub number_with_high_bits : ℕ → List Bool → ℕ
 number_with_high_bits size bits = number_of bits * 2 ^ (NUMBER_BITS - size)
 
--- the number of 128 bits with all bits but its highest `size` cleared
+-- `number`, of 128 bits, with all bits cleared but its highest `size`
 abbrev pub highest_part : ℕ → ℕ → ℕ
 highest_part size number = number / 2 ^ (NUMBER_BITS - size) * 2 ^ (NUMBER_BITS - size)
 
@@ -72,14 +72,14 @@ least_address_cmp m n = ordering_then (address_cmp (least_address m) (least_addr
 
 -- ---- the numbers that addresses and prefixes are stored as
 
--- a prefix of `size` bits can be stored as `number`: the family has at least as many bits, and below its
--- highest `size` the number, of 128 bits, has only zeros
+-- `number` can store a prefix of this family with `size` bits: the family has at least `size` bits (32 or
+-- 128), and of the 128 bits of `number` all below the highest `size` are 0
 abbrev pub IsMasked : Family → ℕ → ℕ → Type 0
 IsMasked family number size =
     (number < 2 ^ NUMBER_BITS) × (size ≤ bit_count family) × (number % 2 ^ (NUMBER_BITS - size) ≡ 0)
 
--- an address of the family can be stored as the number: below its highest 32 or 128 bits the number has only
--- zeros
+-- `n` can store an address of this family: of its 128 bits all below the highest 32 for IPv4, or 128 for
+-- IPv6, are 0
 abbrev pub IsAligned : Family → ℕ → Type 0
 IsAligned family n = IsMasked family n (bit_count family)
 
@@ -88,17 +88,19 @@ pub bit_count_le : (family : Family) → bit_count family ≤ NUMBER_BITS
 bit_count_le V4 = omega arith
 bit_count_le V6 = omega arith
 
--- the highest `size` bits are `size` many
+-- `highest_bits size number` has `size` bits
 pub length-masked : (number size : ℕ) → length (highest_bits size number) ≡ size
 length-masked number size = length-bits_of size (number / 2 ^ (NUMBER_BITS - size))
 
--- a number that stores a prefix is the one made of its highest `size` bits
+-- a `number` that can store a prefix of `size` bits is what `number_with_high_bits` makes of `size` and its
+-- highest `size` bits
 pub number-again : (family : Family) (number size : ℕ) → IsMasked family number size → number_with_high_bits size (highest_bits size number) ≡ number
 number-again family number size h =
     let all : NUMBER_BITS ≡ size + (NUMBER_BITS - size) = omega (arith, h.1, bit_count_le family) in
     number-highest size (NUMBER_BITS - size) number (subst (λ w. number < 2 ^ w) all h.0) h.2
 
--- a number that stores a prefix is the one made of its bits, whose length is `size`
+-- a `number` that can store a prefix of `size` bits is what `number_with_high_bits` makes of its highest
+-- `size` bits and the length of their list
 pub number-masked : (family : Family) (number size : ℕ) → IsMasked family number size
     → number_with_high_bits (length (highest_bits size number)) (highest_bits size number) ≡ number
 number-masked family number size h = rw (length-masked number size) (number-again family number size h)

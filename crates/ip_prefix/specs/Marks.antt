@@ -6,7 +6,7 @@ use Rattle.ip_prefix.specs.declared.text.TheConstants.{SLASH, COLON}
 
 -- ---- runs of groups that are 0 (RFC 5952, section 4.2)
 
--- `groups` has `size` groups from the index `start` on, and they are all 0; of none this always holds
+-- `groups` has `size` groups from the index `start` on, and they are all 0; this always holds if `size` is 0
 abbrev pub IsZeroRun : List ℕ → ℕ → ℕ → Type 0
 IsZeroRun groups start size = take size (drop start groups) ≡ replicate size 0
 

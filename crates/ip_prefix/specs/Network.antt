@@ -13,7 +13,8 @@ use Rattle.std.specs.List.{AllByRecursion}
 
 -- ---- addresses (RFC 791, RFC 4291)
 
--- an address: its bits are the most significant first. That there are 32 or 128 is `IsAddress`
+-- an IP address (`Addr` in code): its family, and its bits, the most significant first. That there are 32 or
+-- 128 is required apart (`IsAddress`)
 pub record Address : Type 0 where
   pub family : Family
   pub bits : List Bool
@@ -28,16 +29,16 @@ abbrev pub bit_count : Family → ℕ
 bit_count V4 = V4_BITS
 bit_count V6 = V6_BITS
 
--- the octet of an address at an index, counted from 0 at the most significant
+-- the octet of an address at index `i`, counted from 0 at the most significant; 0 if it has none there
 unfoldable pub octet_at : Address → ℕ → ℕ
 octet_at address i = number_of (take OCTET_BITS (drop (OCTET_BITS * i) address.bits))
 
--- an address has as many bits as those of its family
+-- an address has as many bits as its family says: 32 for IPv4, 128 for IPv6
 abbrev pub IsAddress : Address → Type 0
 IsAddress address = length address.bits ≡ bit_count address.family
 
--- the group of 16 bits of an address at an index, counted from 0 at the most significant (RFC 4291, section
--- 2.2)
+-- the group of 16 bits of an address at index `i`, counted from 0 at the most significant (RFC 4291, section
+-- 2.2); 0 if it has none there
 unfoldable pub group_at : Address → ℕ → ℕ
 group_at address i = number_of (take GROUP_BITS (drop (GROUP_BITS * i) address.bits))
 
@@ -49,16 +50,17 @@ groups_of a =
 
 -- ---- prefixes (RFC 4632, section 3.1)
 
--- a prefix (`Prefix` in code): its length is that of `bits`. That it is at most 32 or 128 is `IsNetwork`
+-- a prefix (`Prefix` in code): its family, and its bits, as many as its length, the most significant first.
+-- That there are at most 32 or 128 is required apart (`IsNetwork`)
 pub record Network : Type 0 where
   pub family : Family
   pub bits : List Bool
 
--- a prefix has at most as many bits as addresses of its family
+-- a prefix has at most as many bits as an address of its family: 32 for IPv4, 128 for IPv6
 abbrev pub IsNetwork : Network → Type 0
 IsNetwork n = length n.bits ≤ bit_count n.family
 
--- the second list begins with the first
+-- the list `bits` begins with the list `front`
 abbrev pub IsFront : List Bool → List Bool → Type 0
 IsFront front bits = take (length front) bits ≡ front
 
@@ -107,11 +109,12 @@ family_cmp V6 V6 = Equal
 abbrev pub bits_cmp : List Bool → List Bool → Ordering
 bits_cmp = slice_cmp bool_cmp
 
--- the order of addresses: by family, then by bits
+-- the order of addresses: by family, IPv4 before IPv6, and then by their bits (`bits_cmp`)
 abbrev pub address_cmp : Address → Address → Ordering
 address_cmp = then_cmp (on (λ a. a.family) family_cmp) (on (λ a. a.bits) bits_cmp)
 
--- the order of prefixes: by family, then by bits
+-- the order of prefixes: by family, IPv4 before IPv6, and then by their bits (`bits_cmp`), so that a prefix
+-- is less than the longer ones that begin with its bits
 abbrev pub network_cmp : Network → Network → Ordering
 network_cmp = then_cmp (on (λ n. n.family) family_cmp) (on (λ n. n.bits) bits_cmp)
 

@@ -26,11 +26,13 @@ family_cmp_total = record { antisymm = antisymm; trans = trans; congr = congr }
 bits_cmp_total : IsTotalOrder bits_cmp
 bits_cmp_total = lists_total bool_cmp_total
 
--- the order of addresses is total
+-- `address_cmp` is a total order: swapping two addresses reverses it, `Less` is transitive, and those that
+-- compare as equal compare alike with others
 pub address_cmp_total : IsTotalOrder address_cmp
 address_cmp_total = then_total (on_total (λ a. a.family) family_cmp_total) (on_total (λ a. a.bits) bits_cmp_total)
 
--- the order of prefixes is total
+-- `network_cmp` is a total order: swapping two prefixes reverses it, `Less` is transitive, and those that
+-- compare as equal compare alike with others
 pub network_cmp_total : IsTotalOrder network_cmp
 network_cmp_total = then_total (on_total (λ n. n.family) family_cmp_total) (on_total (λ n. n.bits) bits_cmp_total)
 
@@ -45,7 +47,7 @@ bits_cmp-IsAntisymmetric = slice_cmp-IsAntisymmetric booleans
     booleans : IsAntisymmetric bool_cmp
     booleans x y e = grind arith
 
--- if one ordering and then another gives `Equal`, both are `Equal`
+-- `ordering_then r s`, which is `s` if `r` is `Equal` and `r` otherwise, is `Equal` only if both are
 pub both_tie : (r s : Ordering) → ordering_then r s ≡ Equal → (r ≡ Equal) × (s ≡ Equal)
 both_tie Less s e = cc
 both_tie Equal s e = (refl, e)

@@ -29,7 +29,7 @@ abbrev text_by : Family → Address → List ℕ
 text_by V4 address = v4_text address
 text_by V6 address = v6_text address
 
--- the printed text of an address, by its family
+-- the printed text of an address: `v4_text` of an IPv4 address, `v6_text` of an IPv6 address
 unfoldable pub address_text : Address → List ℕ
 address_text address = text_by address.family address
 
@@ -54,9 +54,9 @@ abbrev SpellsBy : Family → Address → List ℕ → Type 0
 SpellsBy V4 address text = IsDotted text (octets_of_v4 address)
 SpellsBy V6 address text = IsColonHex text (groups_of address) × HasNoDot text
 
--- `text` is a form of this address of 32 or 128 bits that `Addr::parse` takes: of IPv4 four decimals with
--- dots, of IPv6 groups in hexadecimal with colons, where one `::` may stand for groups that are 0 (RFC 4291,
--- section 2.2), without a dotted end
+-- `text` is a form of this address of 32 or 128 bits that `Addr::parse` takes: of IPv4 four decimals up to
+-- 255 without leading zeros, with dots; of IPv6 eight groups of one to four hexadecimal digits with colons,
+-- where one `::` may stand for groups that are 0 (RFC 4291, section 2.2), without a dotted end
 abbrev pub SpellsAddress : Address → List ℕ → Type 0
 SpellsAddress address text = IsAddress address × SpellsBy address.family address text
 

@@ -13,7 +13,7 @@ use Rattle.ip_prefix.specs.declared.turn.Turn.TheVariants.{Outside, Here, Left, 
 abbrev pub covers : Network → Network → Bool
 covers n other = same_family n.family other.family && begin_with n.bits other.bits
 
--- each address that `other` contains is contained in `n` too
+-- `n` contains each address, of 32 or 128 bits, that `other` contains
 abbrev pub ContainsAllOf : Network → Network → Type 0
 ContainsAllOf n other = (a : Address) → IsAddress a → IsTrue (contains other a) → IsTrue (contains n a)
 
@@ -37,7 +37,7 @@ turn_of [] (true ∷ bits) = Right
 turn_of (first ∷ more) [] = Outside
 turn_of (first ∷ more) (bit ∷ bits) = cond (same_bit first bit) (turn_of more bits) Outside
 
--- the turn of a path that goes on by this bit
+-- where a path goes on by this bit: `Left` by 0, `Right` by 1
 abbrev pub side : Bool → Turn
 side false = Left
 side true = Right
@@ -48,10 +48,11 @@ shared [] bits = []
 shared (first ∷ more) [] = []
 shared (first ∷ more) (bit ∷ bits) = cond (same_bit first bit) (first ∷ shared more bits) []
 
--- the prefix of one bit more, whose last bit is `bit`
+-- the prefix `n` with `bit` added at its end, which contains half of the addresses of `n`
 abbrev pub half : Network → Bool → Network
 half n bit = record { family = n.family; bits = n.bits ++ bit ∷ [] }
 
--- the longest prefix that covers both, if they are of one family
+-- the longest prefix that covers both `m` and `n`, if they are of one family; if not, the bits with which
+-- both begin, in the family of `m`
 abbrev pub common : Network → Network → Network
 common m n = record { family = m.family; bits = shared m.bits n.bits }

@@ -165,8 +165,9 @@ impl Addr {
         (self.number.get() >> (NUMBER_BITS as usize - OCTET_BITS - OCTET_BITS * index) & 0xff) as u8
     }
 
-    /// Returns 16 bits of the address as a number, where index 0 is the most significant group.
-    /// Requires that `index` is below 2 for IPv4, and below 8 for IPv6.
+    /// Returns the 16-bit group at `index` of the address as a number. Groups are what colons
+    /// separate in the text of an IPv6 address; index 0 is the most significant. Requires that
+    /// `index` is below 2 for IPv4, and below 8 for IPv6.
     #[inline]
     pub(crate) fn group(&self, index: usize) -> u16
         requires { GROUP_BITS * index + GROUP_BITS ≤ bit_count self.now.family }

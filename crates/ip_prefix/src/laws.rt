@@ -38,11 +38,11 @@ pub fn law_prefix_order_is_total()
 {}
 
 /// States what the contracts mean by "contains" and "covers":
-/// - a prefix contains an address if and only if it is of the address's family, and the address
-///   begins with its bits;
-/// - a prefix covers another if and only if they are of one family, and the other begins with its
-///   bits;
-/// - that is so if and only if it contains all addresses that the other contains.
+/// - a prefix contains an address if and only if both are of one family, and the address begins
+///   with the bits of the prefix;
+/// - a prefix covers another if and only if both are of one family, and the other begins with the
+///   bits of the prefix;
+/// - a prefix covers another if and only if it contains all addresses that the other contains.
 pub fn law_containment_is_by_bits()
     ensures contained { (n : Network) (a : Address)
         → (IsTrue (contains n a) ↔ ((n.family ≡ a.family) × IsFront n.bits a.bits)) }
@@ -52,9 +52,9 @@ pub fn law_containment_is_by_bits()
         → (IsTrue (covers n other) ↔ ContainsAllOf n other) }
 {}
 
-/// States that "covers" is a partial order of prefixes (each covers itself, two that cover each
-/// other are equal, and one covers what a prefix that it covers does), and that no prefix covers a
-/// shorter one.
+/// States that "covers" (contains all addresses of) is a partial order of prefixes, and that no
+/// prefix covers a shorter one. It is a partial order since each prefix covers itself, two that
+/// cover each other are equal, and, if `a` covers `b` and `b` covers `c`, `a` covers `c`.
 pub fn law_covering_is_partial_order()
     ensures reflexive { (n : Network) → IsTrue (covers n n) }
     ensures transitive { (a b c : Network)
@@ -63,9 +63,8 @@ pub fn law_covering_is_partial_order()
     ensures lengths { (a b : Network) → IsTrue (covers a b) → length a.bits ≤ length b.bits }
 {}
 
-/// States that of two prefixes that contain the same address, the one that isn't longer covers the
-/// other; and that they are equal if they have one length, so that at most one prefix of each
-/// length contains an address.
+/// States that, if two prefixes contain the same address, the shorter one covers the longer one,
+/// and two of equal length are equal. So at most one prefix of each length contains an address.
 pub fn law_containing_prefixes_nest()
     ensures covered { (m n : Network) (a : Address) → IsTrue (contains m a) → IsTrue (contains n a)
         → length m.bits ≤ length n.bits → IsTrue (covers m n) }
@@ -73,11 +72,12 @@ pub fn law_containing_prefixes_nest()
         → length m.bits ≡ length n.bits → m ≡ n }
 {}
 
-/// States what a [`Turn`](crate::Turn) means for a prefix as seen from another:
-/// - it is `Outside` if and only if the other doesn't cover it;
-/// - it is `Here` if and only if they are equal;
-/// - it is `Left` or `Right` if and only if it is covered by the left or right half of the other,
-///   which has one bit more than the other: 0 or 1.
+/// States what a [`Turn`](crate::Turn) means for a prefix as seen from another, the base:
+/// - the turn is `Outside` if and only if the base doesn't cover the prefix;
+/// - the turn is `Here` if and only if the prefix and the base are equal;
+/// - the turn is `Left` or `Right` if and only if the left or right half of the base covers the
+///   prefix. The left half is the base with one more bit, 0, and the right half with one more bit,
+///   1.
 pub fn law_turns_are_by_covering()
     ensures outside { (m n : Network)
         → ((turn_of (way m) (way n) ≡ Outside) ↔ (covers m n ≡ false)) }
@@ -97,8 +97,8 @@ pub fn law_common_prefix_is_longest()
         → IsTrue (covers other (common m n)) }
 {}
 
-/// States that the text that is written for an address can be parsed, as this address, and that the
-/// text that is written for a prefix can be parsed, as this prefix.
+/// States that the text that is written for an address parses as this address, and that the text
+/// that is written for a prefix parses as this prefix.
 pub fn law_printed_text_parses()
     ensures addresses { (a : Address) → IsAddress a → SpellsAddress a (address_text a) }
     ensures prefixes { (n : Network) → IsNetwork n → SpellsPrefix n (network_text n) }
@@ -118,8 +118,8 @@ pub fn law_text_has_one_value()
         → SpellsPrefix m text → SpellsPrefix n text → m ≡ n }
 {}
 
-/// States that octets decode in at most one way: as one prefix of a given family at their start,
-/// and as one list of such prefixes (NLRI, RFC 4271, section 4.3).
+/// States that at most one prefix of a given family can be parsed at the start of octets, and that
+/// octets decode as at most one list of such prefixes (NLRI, RFC 4271, section 4.3).
 pub fn law_octets_have_one_prefix()
     ensures single { (family : Family) → IsSelfDelimiting (SpellsNetwork family) }
     ensures lists { (family : Family) (octets : List ℕ) (a b : List Network)

@@ -12,8 +12,8 @@ use crate::number::{HALF_BITS, NUMBER_BITS};
 /// IPv4 prefixes have at most 24 bits.
 const SHORT: usize = 3;
 
-/// Returns `number` with all bits but its highest `len` set to 0: the bits of a prefix of an
-/// address. Requires that `len` is at most 128.
+/// Returns `number` with its highest `len` bits kept and all other bits set to 0. Requires that
+/// `len` is at most 128.
 #[inline]
 pub(crate) fn keep_highest_bits(number: u128, len: u8) -> u128
     requires { len ≤ NUMBER_BITS }

@@ -94,8 +94,8 @@ impl Prefix {
         self.family
     }
 
-    /// Returns the least address that the prefix contains, that before the slash in its text: its
-    /// bits after the length are 0.
+    /// Returns the least address that the prefix contains, the one before the slash in its text:
+    /// its bits after the length are 0.
     pub fn addr(&self) -> Addr
         ensures value { result ≡ least_address self.now }
         ensures whole { IsAddress result }
@@ -122,9 +122,9 @@ impl Prefix {
         self.number.bit(index)
     }
 
-    /// Returns the first 64 bits of the prefix as a number, the first as the highest. If it has
-    /// fewer, the others are 0; if it has more, they are dropped. So the highest 32 are those of an
-    /// IPv4 prefix.
+    /// Returns the first 64 bits of the prefix as a number, the first bit as the most significant.
+    /// If the prefix has fewer bits, the others are 0; its bits after the first 64 are dropped. So
+    /// the bits of an IPv4 prefix are in the highest 32.
     #[inline]
     pub fn high_64_bits(&self) -> u64
         ensures { bits_of HALF_BITS result ≡ take HALF_BITS
@@ -179,9 +179,9 @@ impl Prefix {
             && keep_highest_bits(other.number.get(), self.len) == self.number.get()
     }
 
-    /// Parses the prefix of `family` at the start of `octets`: its length in bits, of one octet,
-    /// and its bits in as few octets as hold them (RFC 4271, section 4.3). Returns the prefix and
-    /// the number of octets parsed, including the length octet. Returns `None` if the length is
+    /// Parses the prefix of `family` at the start of `octets`: one octet with its length in bits,
+    /// and then its bits in as few octets as hold them (RFC 4271, section 4.3). Returns the prefix
+    /// and the number of octets parsed, including the length octet. Returns `None` if the length is
     /// more than 32 (IPv4) or 128 (IPv6), or if `octets` ends before or inside the prefix. Bits of
     /// the last octet after the prefix are ignored.
     #[inline]

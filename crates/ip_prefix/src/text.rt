@@ -149,7 +149,8 @@ fn write_octet_and_dot(octet: u8, text: &mut [u8], at: usize) -> usize
 /// Writes `address` as text, as in `2001:db8::1`, into `text` at offset `at`, and returns the
 /// offset of the octet after it. The groups are joined by colons, and `::` replaces the first of
 /// the longest runs of two or more groups of 0 (RFC 5952, section 4.2). Requires that `address` is
-/// of IPv6, and that `text` has [`ADDRESS_ROOM`] octets from `at` on.
+/// of IPv6, and that `text` has [`ADDRESS_ROOM`] octets from `at` on, of which those after the
+/// address are then unspecified.
 #[inline(never)]
 fn write_v6(address: &Addr, text: &mut [u8], at: usize) -> usize
     requires { (address.now.family ≡ V6) × (at + ADDRESS_ROOM ≤ length text.old) }
@@ -198,7 +199,8 @@ fn longest_zero_run(groups: &[u16; GROUP_COUNT]) -> (usize, usize)
 
 /// Writes `groups` in lower-case hexadecimal, joined by colons, as in `2001:db8`, into `text` at
 /// offset `at`, and returns the offset of the octet after them, or `at` if there are none. Requires
-/// that `text` has [`GROUP_ROOM`] octets for each group from `at` on.
+/// that `text` has five octets ([`GROUP_ROOM`]) for each group from `at` on, of which those after
+/// the groups are then unspecified.
 fn write_groups(groups: &[u16], text: &mut [u8], at: usize) -> usize
     requires { at + GROUP_ROOM * length groups.now ≤ length text.old }
     ensures written { IsWritten text.old at (Hex.groups_text groups.now) text.new result }
@@ -217,7 +219,7 @@ fn write_groups(groups: &[u16], text: &mut [u8], at: usize) -> usize
 
 /// Writes `group` in lower-case hexadecimal, without leading zeros, as in `db8`, into `text` at
 /// offset `at`, and returns the offset of the octet after it. Requires that `text` has four octets
-/// from `at` on.
+/// from `at` on, of which those after the group are then unspecified.
 #[inline]
 fn write_group(group: u16, text: &mut [u8], at: usize) -> usize
     requires { at + GROUP_DIGITS ≤ length text.old }
@@ -233,7 +235,8 @@ fn write_group(group: u16, text: &mut [u8], at: usize) -> usize
 
 /// Writes `group` in lower-case hexadecimal, without leading zeros, as in `0` or `1f`, into `text`
 /// at offset `at`, and returns the offset of the octet after it. Requires that `group` is below
-/// 256, and that `text` has two octets from `at` on.
+/// 256, and that `text` has two octets from `at` on, of which those after the group are then
+/// unspecified.
 #[inline]
 fn write_group_below_256(group: u16, text: &mut [u8], at: usize) -> usize
     requires { (group < 0x100) × (at + HEX_PAIR ≤ length text.old) }

@@ -67,10 +67,10 @@ impl Prefix {
         Turn::Outside
     }
 
-    /// Returns where this prefix lies as seen from a prefix of `len` bits that is known to cover
-    /// it: `Here` if it has no more than `len` bits, or else `Left` or `Right` if its bit at index
-    /// `len` is 0 or 1. Never returns `Outside`: if the prefix of `len` bits doesn't cover this
-    /// one, the result means nothing.
+    /// Returns where this prefix lies as seen from a prefix of `len` bits that covers it, as the
+    /// caller must know: `Here` if this prefix has `len` bits too, or else `Left` or `Right` if its
+    /// bit at index `len` is 0 or 1. Index 0 is the most significant bit. Never returns `Outside`:
+    /// if the prefix of `len` bits doesn't cover this one, the result has no meaning.
     #[inline]
     pub fn turn_under(&self, len: u8) -> Turn
         ensures { (other : Network) → length other.bits ≡ len

@@ -9,10 +9,12 @@ abbrev pub is_taken : Slot → Bool
 is_taken Free = false
 is_taken (Taken hash route) = true
 
--- whether the tag is of a slot with a route: not 0, the tag of a free slot
+-- whether the tag is one of a slot with a route: every number but 0, which is the tag of a free
+-- slot
 abbrev pub is_tagged : ℕ → Bool
 is_tagged tag = nat_lt 0 tag
 
--- the lists are equally long, and a slot has a route exactly if its tag isn't that of a free slot
+-- the lists are equally long, and the slot at each index has a route exactly if the tag at this
+-- index isn't 0, the tag of a free slot
 abbrev pub AreTagged : List Slot → List ℕ → Type 0
 AreTagged slots tags = map is_taken slots ≡ map is_tagged tags

@@ -31,9 +31,9 @@ pub(crate) struct HashedRoute {
     pub(crate) route: Rc<Route>,
 }
 
-/// A list of routes, sorted in ascending order of their hashes and, for equal hashes, of
-/// [`compare_routes`]. It is cut into runs, sorted lists of at most [`LONGEST_RUN`] routes each. It
-/// holds the routes that found no free slot in the hash table.
+/// A sorted list of the routes that found no free slot in the hash table: in ascending order of
+/// their hashes and, for equal hashes, of [`compare_routes`]. It is cut into runs, sorted lists of
+/// at most [`LONGEST_RUN`] routes each.
 #[derive(Drop)]
 pub(crate) struct OverflowRoutes {
     // A search halves first the runs and then one run, and a route that comes or goes moves one run
@@ -62,16 +62,18 @@ impl HashedRoute {
     }
 }
 
-/// Returns the index in `run`, a sorted list, of the first route that isn't less than `route`,
-/// whose hash is `hash`. It is the length of the run if all are less.
+/// Returns the index in `run` of the first route that isn't less than `route`, or the length of
+/// `run` if all are less. `hash` is the hash of `route`. `run` is sorted by hash and then by
+/// [`compare_routes`].
 fn find_index(run: &[HashedRoute], hash: u32, route: &Route) -> usize
     ensures { result ≤ length run.now }
 {
     run.partition_point(|hashed| hashed.compare_to(hash, route) == Ordering::Less)
 }
 
-/// Returns `true` if the first route of `run`, a sorted list, is greater than `route`, whose hash
-/// is `hash`. Returns `false` if the run is empty.
+/// Returns `true` if the first route of `run` is greater than `route`, by hash and then by
+/// [`compare_routes`]. Returns `false` if it isn't, or if `run` is empty. `hash` is the hash of
+/// `route`.
 #[inline]
 fn starts_after(run: &[HashedRoute], hash: u32, route: &Route) -> bool {
     match run.first() {
@@ -91,8 +93,9 @@ fn shrink_if_oversized<T: Drop>(list: &mut Vec<T>)
     }
 }
 
-/// Removes the routes of the sorted list `run` that have no owner but it, and returns the number of
-/// octets that they took ([`route_size`]), or 0 if there were none.
+/// Removes the routes of `run` that nothing else owns (no other `Rc` shares them), and returns the
+/// number of octets that they took ([`route_size`]), or 0 if there were none. The others stay in
+/// order, but move to a smaller block of memory if [`shrink_if_oversized`] finds `run` too large.
 fn remove_unowned_from(run: &mut Vec<HashedRoute>) -> u64 {
     let mut octets = 0u64;
     'routes: for hashed in run.iter() {
@@ -107,8 +110,8 @@ fn remove_unowned_from(run: &mut Vec<HashedRoute>) -> u64 {
     octets
 }
 
-/// Removes the second half of the sorted list `run` and returns it, in order. Fails if memory
-/// allocation fails; the run is unchanged then.
+/// Removes the second half of `run`, the larger one if its length is odd, and returns it, in order.
+/// Fails if memory allocation fails; `run` is unchanged then.
 fn split_off_half(
     alloc: Global,
     run: &mut Vec<HashedRoute>,
@@ -139,17 +142,17 @@ impl OverflowRoutes {
         self.count >= MOST_ORDERED
     }
 
-    /// Returns the index of the run (one of the sorted lists in `runs`) in which `route`, whose
-    /// hash is `hash`, is or would be: the last one whose first route isn't greater, or 0 if there
-    /// is none.
+    /// Returns the index in `runs` of the run (a sorted list of routes) that `route` is in or would
+    /// be inserted into: the last one whose first route isn't greater than `route`, or 0 if there
+    /// is none. `hash` is the hash of `route`.
     fn find_run(&self, hash: u32, route: &Route) -> usize {
         self.runs
             .partition_point(|run| !starts_after(run, hash, route))
             .saturating_sub(1)
     }
 
-    /// Returns a route of the list with the hash `hash` that equals `route`, or `None` if there is
-    /// none.
+    /// Returns a route of the list that equals `route`, or `None` if there is none. `hash` is the
+    /// hash of `route`.
     pub(crate) fn find_route(&self, hash: u32, route: &Route) -> Option<&Rc<Route>>
         ensures { IfSome result (λ known. known.now.value ≡ route.now) }
     {
@@ -161,9 +164,9 @@ impl OverflowRoutes {
         None
     }
 
-    /// Splits one run (a sorted list of routes) into two halves: the run whose index in `runs` is
-    /// `index`. The second half follows the first in `runs`. Fails if memory allocation fails; the
-    /// runs are unchanged then.
+    /// Splits the run (a sorted list of routes) whose index in `runs` is `index` into two halves.
+    /// The second half follows the first in `runs`. Fails if memory allocation fails; the runs are
+    /// unchanged then.
     fn split_run(&mut self, index: usize) -> Result<(), AllocError>
         requires { index < vec_len self.old.runs }
     {
@@ -186,8 +189,9 @@ impl OverflowRoutes {
         Ok(self.find_run(hash, route))
     }
 
-    /// Inserts a route, whose hash is `hash`, at its place in the order. Fails if memory allocation
-    /// fails; the route is dropped then.
+    /// Inserts `route`, whose hash is `hash`, so that the list stays sorted by hash and then by
+    /// [`compare_routes`]. Fails if memory allocation fails; `route` is dropped then, and the
+    /// others stay.
     pub(crate) fn insert_route(&mut self, hash: u32, route: Rc<Route>) -> Result<(), AllocError> {
         if self.runs.is_empty() {
             let first = Vec::new(*self.runs.allocator());

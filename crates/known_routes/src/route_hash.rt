@@ -33,8 +33,7 @@ const COMMUNITIES: u64 = 4;
 /// half of all slots of the hash table would never be taken.
 const LOWEST_BITS: u32 = 32;
 
-/// Returns a hash of `hash`, that of what came before, and `number`: one step of a multiplicative
-/// hash.
+/// Returns the hash so far, `hash`, with `number` mixed in: one step of a multiplicative hash.
 #[inline]
 fn mix(hash: u64, number: u64) -> u64 {
     let product = u128::from(hash ^ number).wrapping_mul(u128::from(MULTIPLIER));
@@ -62,7 +61,7 @@ fn be_u32_at(addr: &Addr, offset: usize) -> u32
     ])
 }
 
-/// Returns a hash of `hash`, that of what came before, and of all octets of the address.
+/// Returns the hash so far, `hash`, with all octets of the address mixed in.
 #[inline]
 fn mix_address(hash: u64, addr: &Addr) -> u64 {
     match addr.family() {
@@ -74,8 +73,9 @@ fn mix_address(hash: u64, addr: &Addr) -> u64 {
     }
 }
 
-/// Returns a hash of `hash`, that of what came before, and of a list: its mark, its length and each
-/// of its numbers. The mark tells what list it is: the kind of a path segment, or [`COMMUNITIES`].
+/// Returns the hash so far, `hash`, with a list mixed in: its mark, its length and each of its
+/// numbers. `mark`, at most 7, tells what list it is: the kind of a path segment, from 0 to 3, for
+/// its AS numbers, or [`COMMUNITIES`].
 #[inline]
 fn mix_numbers(hash: u64, mark: u64, numbers: &[u32]) -> u64 {
     let mut hash = mix(hash, (numbers.len() as u64) << MARK_BITS | mark);
@@ -89,9 +89,9 @@ fn mix_numbers(hash: u64, mark: u64, numbers: &[u32]) -> u64 {
     }
 }
 
-/// Returns a number, to be hashed, with bits for the value of ORIGIN (0 and 1), for
-/// ATOMIC_AGGREGATE (2), and for whether NEXT_HOP, LOCAL_PREF, MULTI_EXIT_DISC and AGGREGATOR are
-/// present (3 to 6).
+/// Returns some attributes as bits of one number, to be hashed: ORIGIN in the two lowest bits, or 3
+/// there if it is absent; ATOMIC_AGGREGATE in bit 2 (counted from 0, the lowest); and in bits 3 to
+/// 6 whether NEXT_HOP, LOCAL_PREF, MULTI_EXIT_DISC and AGGREGATOR are present.
 #[inline]
 fn attribute_bits(attrs: &Attrs) -> u32 {
     attrs.origin.map_or(NO_ORIGIN, |origin| origin as u32)

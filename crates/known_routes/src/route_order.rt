@@ -16,8 +16,8 @@ fn compare_numbers(one: &[u32], other: &[u32]) -> Ordering {
     one.cmp(&other)
 }
 
-/// Compares two segments of AS paths: by the numbers of their kinds, then by their AS numbers
-/// lexicographically.
+/// Compares two segments of AS paths: by their kinds, in the order of
+/// [`SegmentKind`](bgp_wire::SegmentKind), then by their AS numbers lexicographically.
 fn compare_segments(one: &Segment, other: &Segment) -> Ordering {
     match (one.kind as u64).cmp(&(other.kind as u64)) {
         Ordering::Equal => { compare_numbers(one.numbers.as_slice(), other.numbers.as_slice()) }
@@ -66,8 +66,9 @@ fn compare_origins(one: Option<Origin>, other: Option<Origin>) -> Ordering {
     one.cmp(&other)
 }
 
-/// Compares the attributes of two routes, except for AS paths and communities: by next hop,
-/// MULTI_EXIT_DISC, LOCAL_PREF, ORIGIN, ATOMIC_AGGREGATE and AGGREGATOR, in this order.
+/// Compares the attributes of two routes, except for AS paths and communities: by NEXT_HOP,
+/// MULTI_EXIT_DISC, LOCAL_PREF, ORIGIN, ATOMIC_AGGREGATE and AGGREGATOR, in this order. An absent
+/// attribute is less than a present one, but an absent ORIGIN is greater.
 fn compare_short_attributes(one: &Attrs, other: &Attrs) -> Ordering {
     one.next_hop
         .cmp(&other.next_hop)

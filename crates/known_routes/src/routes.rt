@@ -94,9 +94,10 @@ impl RouteInterner {
     }
 
     /// Returns the table's route that equals `route`, or else adds `route` to the table and returns
-    /// it. `peer` is where the route comes from: its last route is compared first, since peers
-    /// often repeat one. If a new route's vectors have much unused capacity, a copy without it is
-    /// added and returned. Fails if memory allocation fails; `route` isn't added then.
+    /// it. `peer` is the peer that the route comes from: the route last interned for it is compared
+    /// first, since peers often repeat one. If a new route's vectors have much unused capacity, a
+    /// copy without that capacity is added and returned. Fails if memory allocation fails; `route`
+    /// isn't added then, and others may be dropped.
     pub fn intern(&mut self, peer: &Peer, route: &Rc<Route>) -> Result<Rc<Route>, AllocError>
         ensures value { IfOk result (λ known. known.value ≡ route.now.value) }
         ensures stood { sized_for self.new ≤ max (sized_for self.old) (route_count self.new) }
@@ -119,11 +120,11 @@ impl RouteInterner {
     }
 
     /// Returns the table's route that equals `route`, or else adds `route` and returns it, as
-    /// [`RouteInterner::intern`] does. `peer` is where the route comes from. But a route of more
-    /// than [`MOST_NUMBERS`] AS numbers, segments and communities is returned itself, without a
-    /// look-up, if it has more than [`LOOKED_FOR_OWNERS`] owners (`Rc`s), so that all look-ups for
-    /// the items of an event take bounded time. Fails if memory allocation fails; `route` isn't
-    /// added then.
+    /// [`RouteInterner::intern`] does, but returns a long route with many owners as it is. Such a
+    /// route has more than [`MOST_NUMBERS`] AS numbers, segments and communities, and more than
+    /// [`LOOKED_FOR_OWNERS`] owners (`Rc`s). So all look-ups for the items of an event take bounded
+    /// time. `peer` is the peer that the route comes from. Fails if memory allocation fails;
+    /// `route` isn't added then, and others may be dropped.
     pub fn intern_if_cheap(
         &mut self,
         peer: &Peer,
@@ -140,10 +141,10 @@ impl RouteInterner {
         route.clone()
     }
 
-    /// Returns the route in the slot that is noted for a group of peers, if it equals `route`, or
-    /// else `None`. `peer_group` is the index of the group in `last_slots`; peers are grouped by
-    /// the highest bits of their hashes. The slot had the route that was last interned for a peer
-    /// of the group, but may have another one since, or none.
+    /// Returns the route that was last interned for a group of peers, if it equals `route` and is
+    /// still in its slot, or else `None`. `peer_group` is the index of the group in `last_slots`,
+    /// given by the highest bits of a peer's hash. If the slot noted there has another route by
+    /// now, that one is compared, and returned if it equals `route`.
     #[inline]
     fn last_route_if_equal(&self, peer_group: usize, route: &Route) -> Option<&Rc<Route>>
         ensures { IfSome result (λ known. known.now.value ≡ route.now) }
@@ -157,9 +158,9 @@ impl RouteInterner {
 
     /// Notes in `last_slots` which slot of the hash table has the route that was last interned for
     /// a group of peers, so that the next look-up compares it first. `peer_group` is the index of
-    /// the group in `last_slots`; peers are grouped by the highest bits of their hashes. `index` is
-    /// that of the slot, or `usize::MAX` for a route in no slot. Does nothing if `peer_group` is
-    /// out of bounds.
+    /// the group in `last_slots`, given by the highest bits of a peer's hash. `index` is the index
+    /// of the slot, or `usize::MAX` for a route in no slot. Does nothing if `peer_group` is out of
+    /// bounds.
     fn note_slot_of_last_route(&mut self, peer_group: usize, index: usize)
         ensures routes { route_count self.new ≡ route_count self.old }
         ensures stood { sized_for self.new ≡ sized_for self.old }
@@ -169,9 +170,9 @@ impl RouteInterner {
         }
     }
 
-    /// Moves the routes to a hash table with a number of slots that fits their number, and
-    /// allocates `last_slots` if that is empty. Fails if memory allocation fails; the hash table is
-    /// unchanged then, or empty if the routes were being moved already.
+    /// Moves the routes to a hash table whose number of slots fits their number
+    /// ([`InternTable::resize`]), and allocates `last_slots` if that is empty. Fails if memory
+    /// allocation fails; the hash table then is unchanged, or has no slots and no routes any more.
     fn grow(&mut self) -> Result<(), AllocError>
         ensures { sized_for self.new ≤ max (sized_for self.old) (route_count self.new) }
     {
@@ -184,10 +185,11 @@ impl RouteInterner {
         Ok(())
     }
 
-    /// Adds `route`, which isn't in the table, with its hash and the number of octets that it takes
-    /// ([`route_size`]). Returns the index of its slot in the hash table, or `usize::MAX` if it is
-    /// in no slot: its slots were taken, so that it is in the overflow list. Fails if memory
-    /// allocation fails; the route isn't added then.
+    /// Adds `route`, which a search didn't find in the table, with its hash `hash` and `octets`,
+    /// the number of octets that it takes ([`route_size`]). Returns the index of its slot in the
+    /// hash table, or `usize::MAX` if its slots were all taken, so that it is in the overflow list.
+    /// Another route may be dropped to make room. Fails if memory allocation fails; `route` isn't
+    /// added then, and others may be dropped.
     fn insert(&mut self, hash: u32, route: Rc<Route>, octets: u64) -> Result<usize, AllocError>
         ensures { sized_for self.new ≤ max (sized_for self.old) (route_count self.new) }
     {
@@ -201,10 +203,10 @@ impl RouteInterner {
         Ok(index)
     }
 
-    /// Tells the table that `route`, one of the owners (`Rc`s) of a route, is about to be dropped.
-    /// If one other owner is left, the table removes the route, since that owner may be the table
-    /// itself. Otherwise, if fewer than [`FEW_OWNERS`] others are left, the octets of the route are
-    /// counted as released: [`RouteInterner::sweep_if_due`] may remove it later, if the table is
+    /// Notes that the caller is about to drop `route`, one of the owners (`Rc`s) of a route. If one
+    /// other owner is left, which may be the table, the table removes the route if it has it.
+    /// Otherwise, if fewer than [`FEW_OWNERS`] others are left, the octets of the route are counted
+    /// as released, so that [`RouteInterner::sweep_if_due`] may remove it later, if the table is
     /// then its only owner.
     pub fn release(&mut self, route: &Rc<Route>)
         ensures { sized_for self.new ≡ sized_for self.old }
@@ -219,9 +221,10 @@ impl RouteInterner {
         }
     }
 
-    /// Counts as released all routes that were added since [`RouteInterner::prepare_for_event`] was
-    /// last called, as they may have no owner but the table. For callers that don't use the routes
-    /// that they looked up, such as for an event that is refused.
+    /// Counts as released ([`RouteInterner::release`]) the octets of all routes that were added
+    /// since [`RouteInterner::prepare_for_event`] was last called, as they may have no owner but
+    /// the table. Callers call it if they don't use the routes that they interned, as for an event
+    /// that is refused.
     pub fn release_added(&mut self)
         ensures { sized_for self.new ≡ sized_for self.old }
     {
@@ -231,7 +234,7 @@ impl RouteInterner {
 
     /// Removes the routes that have no owner (`Rc`) but the table, if enough octets were counted as
     /// released ([`RouteInterner::release`]) since the last such removal: more than the sum of a
-    /// mebibyte and a quarter of what the other routes take.
+    /// mebibyte and a quarter of the octets that the other routes take. Otherwise does nothing.
     pub fn sweep_if_due(&mut self)
         ensures { sized_for self.new ≡ sized_for self.old }
     {
@@ -243,10 +246,10 @@ impl RouteInterner {
         }
     }
 
-    /// Prepares the table for the look-ups of a next event: removes routes without another owner if
-    /// that is due ([`RouteInterner::sweep_if_due`]), and moves the others to a smaller hash table
-    /// if it has too many slots for them. If memory allocation for that fails, all routes are
-    /// removed instead.
+    /// Prepares the table for the next event, before its routes are interned: removes routes that
+    /// have no other owner if that is due ([`RouteInterner::sweep_if_due`]), and moves the others
+    /// to a smaller hash table if they have too many slots. If memory allocation for that fails,
+    /// all routes are removed instead.
     pub fn prepare_for_event(&mut self)
         ensures { sized_for self.new ≡ route_count self.new }
     {

@@ -62,8 +62,9 @@ pub(crate) fn route_size_at(slot: &Slot) -> u64 {
     }
 }
 
-/// Returns the tag of a slot whose route has the hash `hash`, an octet that searches compare before
-/// the whole hash: the lowest octet of the hash, or 1 if that is 0. So it is never [`FREE`].
+/// Returns the tag of a slot whose route has the hash `hash`: an octet that searches compare before
+/// the whole hash. It is the lowest octet of the hash, or 1 if that is 0, so that it is never
+/// [`FREE`], the tag of a slot without a route.
 #[inline]
 pub(crate) fn tag_of(hash: u32) -> u8
     ensures { is_tagged result ≡ true }
@@ -73,8 +74,9 @@ pub(crate) fn tag_of(hash: u32) -> u8
     hash.to_le_bytes()[0].max(FREE + 1)
 }
 
-/// Returns `true` if the slot at the index `index` has the tag `tag` (an octet of the hash of its
-/// route, or [`FREE`]). Returns `false` if the index is out of bounds.
+/// Returns `true` if the slot at the index `index` has the tag `tag`, and `false` if it has another
+/// one, or if the index is out of bounds. `tags` has an octet for each slot: [`tag_of`] the hash of
+/// its route, or [`FREE`] if it has none.
 #[inline]
 fn has_tag(tags: &[u8], index: usize, tag: u8) -> bool {
     tags.get(index).is_some_and(|other| *other == tag)
@@ -100,9 +102,10 @@ pub(crate) fn row_starts(hash: u32, count: usize) -> [usize; 2] {
     ]
 }
 
-/// Returns a route with the hash `hash` that equals `route`, and the index of its slot, from the
-/// row of four slots whose first one has the index `start`. Returns `None` if the row has none, or
-/// is out of bounds. `tags` has the tag ([`tag_of`] or [`FREE`]) of each of `slots`.
+/// Returns a route that equals `route`, whose hash is `hash`, and the index of its slot, from one
+/// row (a bucket of four slots), or `None` if the row has no such route or is out of bounds.
+/// `start` is the index of the row's first slot. `tags` has an octet for each of `slots`:
+/// [`tag_of`] the hash of its route, or [`FREE`] if it has none.
 #[inline]
 pub(crate) fn find_in_row<'a>(
     tags: &[u8],
@@ -126,16 +129,18 @@ pub(crate) fn find_in_row<'a>(
     None
 }
 
-/// Returns `true` if the last slot of the row of four slots whose first one has the index `start`
-/// is free, so that the row isn't full. Returns `false` if it is out of bounds. `tags` has the tag
-/// ([`tag_of`] or [`FREE`]) of each slot.
+/// Returns `true` if the last slot of a row (a bucket of four slots) is free, so that the row isn't
+/// full, and `false` if it has a route or is out of bounds. `start` is the index of the row's first
+/// slot. `tags` has an octet for each slot: [`tag_of`] the hash of its route, or [`FREE`] if it has
+/// none.
 #[inline]
 pub(crate) fn ends_with_free_slot(tags: &[u8], start: usize) -> bool {
     has_tag(tags, start.saturating_add(ROW - 1), FREE)
 }
 
-/// Returns the index of the first free slot of the row of four slots whose first one has the index
-/// `start`, or `None` if it has none. `tags` has the tag ([`tag_of`] or [`FREE`]) of each slot.
+/// Returns the index of the first free slot of a row (a bucket of four slots), or `None` if the row
+/// is full or out of bounds. `start` is the index of the row's first slot. `tags` has an octet for
+/// each slot: [`tag_of`] the hash of its route, or [`FREE`] if it has none.
 #[inline]
 fn find_free_in_row(tags: &[u8], start: usize) -> Option<usize> {
     (start..start.saturating_add(ROW)).find(|index| has_tag(tags, *index, FREE))
@@ -143,8 +148,8 @@ fn find_free_in_row(tags: &[u8], start: usize) -> Option<usize> {
 
 /// Returns the index of the slot that a route with the hash `hash` is to be put into: the first
 /// free one of its two rows (buckets of four slots), or the first slot of its first row if both are
-/// full. `tags` has the tag ([`tag_of`] or [`FREE`]) of each slot; if it is empty, the index is out
-/// of bounds.
+/// full. `tags` has an octet for each slot: [`tag_of`] the hash of its route, or [`FREE`] if it has
+/// none. If it is empty, the index is out of bounds.
 #[inline]
 pub(crate) fn slot_for(tags: &[u8], hash: u32) -> usize {
     let [first, second] = row_starts(hash, tags.len());
@@ -154,8 +159,8 @@ pub(crate) fn slot_for(tags: &[u8], hash: u32) -> usize {
 }
 
 /// Returns the index of the slot that has `route`, an `Rc` of this very allocation ([`Rc::ptr_eq`])
-/// and not one of an equal route, in the row of four slots whose first one has the index `start`.
-/// Returns `None` if the row doesn't have it.
+/// and not one of an equal route, in one row (a bucket of four slots). `start` is the index of the
+/// row's first slot. Returns `None` if the row doesn't have it.
 #[inline]
 fn index_in_row(slots: &[Slot], start: usize, route: &Rc<Route>) -> Option<usize> {
     (start..start.saturating_add(ROW)).find(|index| {

@@ -42,9 +42,10 @@ const OVERWRITTEN_SHARE: usize = 12;
 /// number is above it.
 const IN_OVERFLOW: usize = usize::MAX;
 
-/// A hash table of routes, each an `Rc` under a 32-bit hash, whose callers intern routes by it:
-/// equal routes share one `Rc`. It has slots in rows of four, and an overflow, a sorted list, for
-/// routes whose rows are full. Some routes may be replaced by others, and aren't found any more.
+/// A hash table of routes, which finds the `Rc` of an equal route so that equal routes share one.
+/// Each route is in a slot of one of two rows (buckets of four slots), which its 32-bit hash
+/// selects, or in an overflow, a sorted list, if both were full. A route may be dropped to make
+/// room for another one.
 #[derive(Drop)]
 pub(crate) struct InternTable {
     /// The slots. A table may have none.
@@ -67,8 +68,8 @@ pub(crate) struct InternTable {
 }
 
 impl InternTable {
-    /// Returns a table without slots and routes, which can't take any ([`InternTable::put`] drops
-    /// them). Allocates no memory.
+    /// Returns a table without slots, which holds no routes: [`InternTable::put`] drops them.
+    /// Allocates no memory.
     pub(crate) fn empty(alloc: Global) -> InternTable
         ensures { vec_len result.slots ≡ 0 }
     {
@@ -103,31 +104,30 @@ impl InternTable {
         })
     }
 
-    /// Returns `true` if the overflow list has more routes than a [`CROWDED_SHARE`]th of those in
-    /// slots. A search then goes on in the list even after a row (a bucket of four slots) with a
-    /// free slot. Otherwise it ends at such a row, and may miss a route that went to the list
-    /// before that slot became free.
+    /// Returns `true` if the overflow list has so many routes that no search may leave it out: more
+    /// than a [`CROWDED_SHARE`]th of the number of routes in slots. Otherwise a search ends at a
+    /// row (a bucket of four slots) whose last slot is free, and may miss a route that went to the
+    /// list before that slot became free.
     #[inline]
     fn is_overflow_crowded(&self) -> bool {
         self.overflow.count > self.taken / CROWDED_SHARE
     }
 
-    /// Returns `true` if a search ends at a row (a bucket of four slots) in which it didn't find
-    /// its route. `row` is the index of the row's first slot. The search ends there if the row
-    /// isn't full, so that the route needn't have been put elsewhere, and the overflow list isn't
-    /// crowded ([`InternTable::is_overflow_crowded`]). Otherwise it goes on in the second row of
-    /// the hash, or from that one in the overflow list.
+    /// Returns `true` if a search ends at a row (a bucket of four slots) that doesn't have its
+    /// route. `row` is the index of the row's first slot. The search ends there if the row's last
+    /// slot is free, so that the route needn't have been put elsewhere, and the overflow list isn't
+    /// crowded ([`InternTable::is_overflow_crowded`]). Otherwise it goes on: after the first row of
+    /// the hash in the second one, and after that in the overflow list.
     #[inline]
     fn ends_search(&self, row: usize) -> bool {
         // Rows are filled from the front.
         ends_with_free_slot(&self.tags, row) && !self.is_overflow_crowded()
     }
 
-    /// Returns a route with the hash `hash` that equals `route`, and the index of its slot, or
-    /// [`IN_OVERFLOW`] if it is in the overflow list. `hash` is that of `route`. Returns `None` if
-    /// none is found, though the table may have one: a search may end at a row (a bucket of four
-    /// slots) that isn't full now ([`InternTable::ends_search`]), but was when the route was put
-    /// elsewhere.
+    /// Returns a route of the table that equals `route`, whose hash is `hash`, and the index of its
+    /// slot, or [`IN_OVERFLOW`] if it is in the overflow list. Returns `None` if none is found. A
+    /// search misses a route that was put elsewhere while a row (a bucket of four slots) was full,
+    /// if it ends at that row now ([`InternTable::ends_search`]).
     #[inline]
     pub(crate) fn find_route(&self, hash: u32, route: &Route) -> Option<(usize, &Rc<Route>)>
         ensures { IfSome result (λ found. found.1.now.value ≡ route.now) }
@@ -148,16 +148,17 @@ impl InternTable {
         Some((IN_OVERFLOW, self.overflow.find_route(hash, route)?))
     }
 
-    /// Returns `true` if a route whose two rows (buckets of four slots) are full is to replace
-    /// another route in its slot, and `false` if it is to go to the overflow list. It is to replace
-    /// one if fewer routes were replaced so far than an [`OVERWRITTEN_SHARE`]th of those in slots,
-    /// or if the overflow list is full.
+    /// Returns `true` if a new route whose two rows (buckets of four slots) are full is to replace
+    /// a route in a slot, and `false` if it is to go to the overflow list. It is to replace one if
+    /// the number of routes replaced so far is less than an [`OVERWRITTEN_SHARE`]th of the number
+    /// of routes in slots, or if the overflow list is full.
     fn overwrites_when_full(&self) -> bool {
         self.overwritten < self.taken / OVERWRITTEN_SHARE || self.overflow.is_full()
     }
 
-    /// Adds a route with the hash `hash` to the overflow list, and returns [`IN_OVERFLOW`]. Fails
-    /// if memory allocation fails; the route is dropped then.
+    /// Adds `route`, whose hash is `hash`, to the overflow list, and returns [`IN_OVERFLOW`] in
+    /// place of the index of a slot. Fails if memory allocation fails; `route` is dropped then, and
+    /// the others stay.
     #[inline(never)]
     fn put_into_overflow(&mut self, hash: u32, route: Rc<Route>) -> Result<usize, AllocError>
         ensures slots { vec_len self.new.slots ≡ vec_len self.old.slots }
@@ -168,13 +169,12 @@ impl InternTable {
         Ok(IN_OVERFLOW)
     }
 
-    /// Puts a route with the hash `hash` into a free slot of its two rows (buckets of four slots),
-    /// and returns the index of the slot. If both rows are full,
-    /// [`InternTable::overwrites_when_full`] decides: the route replaces that in the first slot of
-    /// the first row, whose index is returned, or goes to the overflow list, for which
-    /// [`IN_OVERFLOW`] is returned. A replaced route is dropped. A table without slots drops the
-    /// route, and returns that too. The caller adds the octets of the route to `held_octets`. Fails
-    /// if memory allocation fails; the route is dropped then.
+    /// Adds `route`, whose hash is `hash`, and returns the index of its slot, or [`IN_OVERFLOW`] if
+    /// it is in no slot. It is put into a free slot of its two rows (buckets of four slots). If
+    /// both are full, it replaces the route in the first slot of the first row, which is dropped,
+    /// or goes to the overflow list ([`InternTable::overwrites_when_full`]). A table without slots
+    /// drops `route`. The caller adds the octets of `route` to `held_octets`. Fails if memory
+    /// allocation fails; `route` is dropped then, and the others stay.
     pub(crate) fn put(&mut self, hash: u32, route: Rc<Route>) -> Result<usize, AllocError>
         ensures slots { vec_len self.new.slots ≡ vec_len self.old.slots }
         ensures taken { self.old.taken ≤ self.new.taken }
@@ -219,8 +219,8 @@ impl InternTable {
     }
 
     /// Removes `route`, whose hash is `hash`, from the table: an `Rc` of this very allocation
-    /// ([`Rc::ptr_eq`]), not one of an equal route. Does nothing if it isn't found. Subtracts its
-    /// octets from `held_octets`.
+    /// ([`Rc::ptr_eq`]), not one of an equal route. Subtracts its octets from `held_octets`. Does
+    /// nothing if it isn't found.
     pub(crate) fn remove_route(&mut self, hash: u32, route: &Rc<Route>)
         ensures { vec_len self.new.slots ≡ vec_len self.old.slots }
     {
@@ -232,8 +232,8 @@ impl InternTable {
     }
 
     /// Puts the routes of `run` into this table, each as [`InternTable::put`] does. `run` is one of
-    /// the lists that the overflow list of another table is cut into. Fails if memory allocation
-    /// fails; the routes put by then stay, and the others are dropped.
+    /// the sorted lists that the overflow list of another table is cut into. Fails if memory
+    /// allocation fails; the routes put by then stay, and the others are dropped.
     fn move_from_run(&mut self, run: Vec<HashedRoute>) -> Result<(), AllocError>
         ensures { vec_len self.new.slots ≡ vec_len self.old.slots }
     {
@@ -255,9 +255,9 @@ impl InternTable {
         Ok(())
     }
 
-    /// Moves the routes of `others` into this table, which the caller has made without routes. Some
-    /// may be replaced by others of them, and so dropped, as in [`InternTable::put`]. Fails if
-    /// memory allocation fails; the routes moved by then stay here, and the others are dropped.
+    /// Moves the routes of `others` into this table, which is to have none yet. Some may be dropped
+    /// where rows (buckets of four slots) are full, as in [`InternTable::put`]. Fails if memory
+    /// allocation fails; the routes moved by then stay here, and the others are dropped.
     fn move_from(&mut self, mut others: InternTable) -> Result<(), AllocError>
         ensures { vec_len self.new.slots ≡ vec_len self.old.slots }
     {
@@ -294,9 +294,9 @@ impl InternTable {
         Ok(fewest)
     }
 
-    /// Removes the routes that have no owner (`Rc`) but this table. A list of the overflow that
-    /// lost routes is moved to a smaller block of memory if it uses little of its block, and stays
-    /// where it is if allocating the smaller one fails. Allocates no other memory.
+    /// Removes the routes that have no owner (`Rc`) but this table, and subtracts their octets from
+    /// `held_octets`. Allocates memory only to move parts of the overflow list that lost many
+    /// routes to smaller blocks; a part stays where it is if that fails.
     pub(crate) fn sweep(&mut self)
         ensures { vec_len self.new.slots ≡ vec_len self.old.slots }
     {
@@ -323,9 +323,10 @@ impl InternTable {
         self.slots.len() <= most
     }
 
-    /// Moves the routes to a new table, with more slots or fewer: two and a third for each route,
-    /// but at least [`MIN_SLOTS`] and at most [`MAX_SLOTS`]. Fails if memory allocation fails; the
-    /// table is unchanged then, or has no slots and no routes.
+    /// Moves the routes to a new table, with more slots or fewer: two and a third for each route in
+    /// a slot, but at least [`MIN_SLOTS`] and at most [`MAX_SLOTS`]. If too few routes get a slot
+    /// there, the new table has [`MIN_SLOTS`]. Fails if memory allocation fails; the table then is
+    /// unchanged, or has no slots and no routes any more.
     pub(crate) fn resize(&mut self, alloc: Global) -> Result<(), AllocError>
         ensures most { OnOk result (vec_len self.new.slots ≤ MAX_SLOTS) }
         ensures fitting { OnOk result

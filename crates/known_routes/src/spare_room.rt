@@ -26,8 +26,8 @@ const NUMBER_OCTETS: usize = size_of::<u32>();
 /// The number of octets in memory of a path segment in the list of a path, without its AS numbers.
 const SEGMENT_OCTETS: usize = size_of::<Segment>();
 
-/// Returns the memory, in octets, of spare capacity for `count` elements that take `octets` octets
-/// each.
+/// Returns the number of octets of memory that unused capacity for `count` elements takes, if each
+/// element takes `octets` octets.
 #[inline]
 fn spare_octets(count: usize, octets: usize) -> u64 {
     (count as u64).wrapping_mul(octets as u64)

@@ -9,10 +9,10 @@ use Rattle.bgp_wire.specs.Codes.{coded_attrs}
 use Rattle.mrt_events.specs.declared.peer.Peer.{Peer}
 use Rattle.mrt_events.specs.declared.event.Route.{Route}
 
--- the code of peers: a pair of address and AS number
+-- a code of peers as plain data, for keys and values of finite maps: the pair of address and AS number
 abbrev pub coded_peer : Coded Peer
 coded_peer = code_by (Address × ℕ) (coded× coded_address coded_ℕ) (λ p. (p.addr, p.asn)) (λ p. record { addr = p.0; asn = p.1 }) (λ _. refl)
 
--- the code of routes: a pair of attributes and time
+-- a code of routes as plain data, for keys and values of finite maps: the pair of attributes and time
 abbrev pub coded_route : Coded Route
 coded_route = code_by (Attrs × ℕ) (coded× coded_attrs coded_ℕ) (λ r. (r.attrs, r.time)) (λ p. record { attrs = p.0; time = p.1 }) (λ _. refl)

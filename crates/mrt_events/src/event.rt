@@ -11,7 +11,8 @@ use std::alloc::AllocError;
 use std::marker::Model;
 use std::rc::Rc;
 
-/// The timestamp of an MRT record (RFC 6396, sections 2 and 3).
+/// The timestamp of an MRT record, in seconds since 1970, with microseconds if the record is a
+/// BGP4MP_ET one (RFC 6396, sections 2 and 3).
 #[derive(Clone, Copy, Debug, PartialEq, Eq)]
 pub struct Time {
     /// Seconds since 1970-01-01 00:00:00 UTC.
@@ -65,7 +66,8 @@ impl Clone for Route {
 /// 4.4.1).
 pub const ESTABLISHED: u16 = 6;
 
-/// One change that a record reports: of a peer's route to a prefix, or of the state of its session.
+/// One change that an MRT record reports: of a peer's route to a prefix, or of the state of the
+/// session with a peer.
 #[derive(Debug, Drop)]
 pub enum Item {
     /// The peer announces the prefix with this route, which replaces the route that it had. Entries
@@ -78,8 +80,8 @@ pub enum Item {
     State(Peer, u16, u16),
 }
 
-/// A range of the items of an [`Event`], all of which announce prefixes of one peer with one route.
-/// So a user may handle peer and route once for all of them. The range may be empty.
+/// A range of the items of an [`Event`], all of which are announcements by one peer with equal
+/// routes. So a user may handle peer and route once for all of them. The range may be empty.
 #[derive(Clone, Copy, Debug, PartialEq, Eq)]
 pub struct SharedRange {
     /// The index of the first item of the range.
@@ -88,8 +90,8 @@ pub struct SharedRange {
     pub end: usize,
 }
 
-/// Two adjacent ranges of the items of an [`Event`]. In each range, all items announce prefixes of
-/// one peer with one route; the second range may have another peer or route than the first. So a
+/// Two adjacent ranges of the items of an [`Event`]. In each range, all items are announcements by
+/// one peer with equal routes; the second range may have another peer or route than the first. So a
 /// user may handle peer and route once per range. Either may be empty.
 #[derive(Clone, Copy, Debug, PartialEq, Eq)]
 pub struct SharedRanges {
@@ -102,9 +104,9 @@ pub struct SharedRanges {
 }
 
 /// The items of an event, in order, and two adjacent ranges of them, of which either may be empty
-/// ([`SharedRanges`]). All items of one range are known to announce prefixes of one peer with one
-/// route; the two ranges may differ in both. In contracts, the value is the list of the items, each
-/// with the route itself instead of the `Rc`; the ranges don't show.
+/// ([`SharedRanges`]). In each range, all items are announcements by one peer with equal routes.
+/// Contracts regard the value as the list of the items, with the route itself in place of each
+/// `Rc`, and without the ranges.
 #[derive(Debug, Drop)]
 pub struct Items {
     items: Vec<Item>,
@@ -170,10 +172,10 @@ impl Items {
         &self.items
     }
 
-    /// Returns the longer of the two ranges of [`Items::shared_ranges`], or the first if they are
-    /// of one length. All its items announce prefixes of one peer with one route. It may be empty,
-    /// and items outside of it may have this peer and route too. Its indices are at most the number
-    /// of items.
+    /// Returns the longer of the two ranges of [`Items::shared_ranges`], or the first if both are
+    /// equally long. All its items are announcements by one peer with equal routes. It may be
+    /// empty, and items outside of it may have this peer and route too. Its indices are at most the
+    /// number of items.
     pub fn longest_shared_range(&self) -> SharedRange
         ensures ordered { result.start ≤ result.end }
         ensures within { result.end ≤ length self.now }
@@ -187,9 +189,9 @@ impl Items {
     }
 
     /// Returns two ranges of the indices of items, the second of which begins where the first ends.
-    /// In each, all items are known to announce prefixes of one peer with one route. Either range
-    /// may be empty, and items outside of both may share a route too. The indices are in ascending
-    /// order, and at most the number of items.
+    /// In each, all items are announcements by one peer with equal routes. Either range may be
+    /// empty, and items outside of both may share a route too. The indices are in ascending order,
+    /// and at most the number of items.
     pub fn shared_ranges(&self) -> SharedRanges
         ensures { AreSharedRanges result self.now }
     {

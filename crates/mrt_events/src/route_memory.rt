@@ -61,7 +61,7 @@ pub fn route_size(route: &Route) -> u64 {
 }
 
 /// Returns an upper estimate of the octets of memory that a route takes if it was parsed from
-/// octets: [`route_size`], and the spare capacity that the lists of such a route have at most. The
+/// octets: [`route_size`] plus the most spare capacity that the lists of such a route have. The
 /// estimate is `u64::MAX` if it would be greater.
 pub fn max_route_size(route: &Route) -> u64 {
     let segments = route.attrs.path.segments.as_slice().len();

@@ -97,8 +97,8 @@ pub fn same_peer(one: &Peer, other: &Peer) -> bool
     one.asn == other.asn && one.addr == other.addr
 }
 
-/// Returns `true` if two prefixes are equal, in family, length and bits, as `==` does. Its
-/// contract, unlike that of `==`, states that their values are equal, for the proofs of callers.
+/// Returns `true` if two prefixes are equal, in family, length and bits, as `==` does. The contract
+/// here, unlike the one of `==`, states that their values are equal, for the proofs of callers.
 #[inline]
 pub fn same_prefix(one: &Prefix, other: &Prefix) -> bool
     ensures { IsTrue result ↔ (one.now ≡ other.now) }

@@ -2,9 +2,9 @@
 //! the route last changed. A user of `mrt_wire` passes one to its source; the program takes it from
 //! its option `-t`.
 
-/// Which of two times becomes the time ([`Route::time`](crate::Route)) of a route that is read from
-/// a dump of a routing table (a TABLE_DUMP or TABLE_DUMP_V2 record): the timestamp in the header of
-/// the record, or the Originated Time in the entry.
+/// The choice of the time that a route of a dumped routing table gets
+/// ([`Route::time`](crate::Route)): the timestamp of its record, of type TABLE_DUMP or
+/// TABLE_DUMP_V2, or the Originated Time of its entry in the record.
 #[derive(Clone, Copy, Debug, PartialEq, Eq)]
 pub enum Stamp {
     /// The timestamp of the record: about when the table was dumped.

@@ -14,9 +14,9 @@ pub record HoldsRecord (buffered : List ℕ) : Type 0 where
   pub whole : buffered ≡ header_octets seconds kind subtype size ++ after
   pub enough : size ≤ length after
 
--- a read after which its slice has the octets `buffer`: if the slice isn't empty, and not longer than the octets
--- `old` buffered before, the read doesn't fail, returns the length of the slice, and takes its octets off the front
--- of `old`, so that `new` are buffered then
+-- a read into a slice, whose octets then are `buffer`, from an input that had `old` buffered before and has `new`
+-- then: if the slice isn't empty, and `old` has at least as many octets, the read returns the length of the slice and
+-- takes its octets off the front of `old`, so that `new` is left
 abbrev pub ReadsBuffered : {E : Type 0} → List ℕ → List ℕ → Result ℕ E → List ℕ → Type 0
 ReadsBuffered old new result buffer =
     0 < length buffer → length buffer ≤ length old → (result ≡ Ok (length buffer)) × (old ≡ buffer ++ new)

@@ -7,7 +7,7 @@ use Rattle.mrt_frames.specs.declared.fault.RecordKind.TheVariants.{CutRecord, To
 
 -- ---- MRT records and their octets (RFC 6396, section 2)
 
--- a record: its timestamp in seconds, its type, which is `kind`, its subtype, and its body, whose length the header
+-- an MRT record: its timestamp in seconds, its type (`kind`), its subtype, and its body, whose length its header
 -- states too
 pub record Record : Type 0 where
   pub seconds : ℕ
@@ -36,26 +36,28 @@ pub record IsRecord (r : Record) : Type 0 where
   pub header : FitsHeader r.seconds r.kind r.subtype (length r.body)
   pub size : length r.body ≤ LONGEST_BODY
 
--- the octets don't begin with those of a record that is whole; they may begin with a part of one, or be empty
+-- the octets begin with no whole record whose body has at most 16,777,216 octets; they may begin with a part of one,
+-- or be empty
 abbrev pub BeginsWithNoRecord : List ℕ → Type 0
 BeginsWithNoRecord octets = (r : Record) (more : List ℕ) → IsRecord r → octets ≡ spelling r ++ more → ⊥
 
 -- ---- the rest: the octets after the last whole record, and their fault
 
--- the length of the body that a header states, where the octets begin with that header. It means nothing of fewer
--- than 12 octets
+-- the length of the body that a header states, where the octets begin with that header: their octets 8 to 11 as a
+-- big-endian number. It means nothing of fewer than 12 octets
 abbrev pub stated_size : List ℕ → ℕ
 stated_size octets = from_be_bytes w32 (take 4 (drop 8 octets))
 
--- the fault of a rest that isn't empty: `TooLong` where it has a whole header that states more than 16,777,216
--- octets, and `CutRecord` otherwise. It is `CutRecord` of no octets too, where `rest_fault` has no fault
+-- the fault of `rest`, the octets after the last whole record of an input: `TooLong`, with the stated length, if they
+-- begin with a header that states more than 16,777,216 octets, and `CutRecord` otherwise. An empty `rest` has no
+-- fault (`rest_fault`), though this is `CutRecord` of it
 abbrev pub rest_fault_kind : List ℕ → RecordKind
 rest_fault_kind rest =
     if nat_lt (length rest) HEADER_SIZE then CutRecord
     else (if nat_lt LONGEST_BODY (stated_size rest) then TooLong (stated_size rest) else CutRecord)
 
--- the fault of the octets after the last whole record of an input: `TooLong` or `CutRecord`, as `rest_fault_kind` says;
--- `None` if there are no such octets, which is the proper end of the input
+-- the fault of the octets after the last whole record of an input, `TooLong` or `CutRecord`, as `rest_fault_kind`
+-- says; `None` if there are no such octets, which is the proper end of the input
 abbrev pub rest_fault : List ℕ → Option RecordKind
 rest_fault [] = None
 rest_fault (octet ∷ octets) = Some (rest_fault_kind (octet ∷ octets))

@@ -27,43 +27,46 @@ record_from_fields seconds kind subtype body = record { seconds = seconds; kind 
 abbrev pub record_with_header : Header → List ℕ → Record
 record_with_header header body = record_from_fields header.seconds header.kind header.subtype body
 
--- the record of a header whose body is at the start of a buffer: as many octets of it as the header states, or all
--- where it has fewer
+-- the record with the fields of `header` and the body at the start of `buffer`: as many octets as the header states,
+-- or all where the buffer has fewer
 abbrev pub record_in_buffer : Header → List ℕ → Record
 record_in_buffer header buffer = record_with_header header (take header.size buffer)
 
 -- ---- the octets that calls take from an input, where it knows those that are left
 
--- a call took these octets from an input that had `old` left before and has `new` left afterwards, if these are
--- known, and raised the number of octets taken in all from `before` to `after` by theirs
+-- a call took `octets` off the front of what an input had left, `old`, so that `new` is left, and raised the number
+-- of octets taken in all from `before` to `after` by theirs. Of an input that doesn't know its octets (`None`) only
+-- the latter is required
 abbrev pub Takes : Option (List ℕ) → Option (List ℕ) → ℕ → ℕ → List ℕ → Type 0
 Takes old new before after octets = Consumes old new octets × (after ≡ before + length octets)
 
--- the error of a source for an error of reading octets into memory that is there
+-- the error of a source for an error of reading octets: `Read` for `InputFailed`, and `InputTooLong` for `PastLimit`
 abbrev pub source_fault : TakeFault → SourceFault
 source_fault InputFailed = Read
 source_fault PastLimit = InputTooLong
 
--- a result with the error of a source in place of an error of reading octets
+-- the result with its error, if it has one, turned into the error of a source by `source_fault`
 abbrev pub source_answer : {A : Type 0} → Result A TakeFault → Result A SourceFault
 source_answer (Ok answer) = Ok answer
 source_answer (Err fault) = Err (source_fault fault)
 
--- the source may fail so when it has taken `taken` octets in all, of at most `limit`: with `InputTooLong` only at the
--- limit, with `Spent` never, and with the others anywhere up to it
+-- a source may fail with this error when it has taken `taken` octets in all, of at most `limit`: with `InputTooLong`
+-- only at the limit, with `Spent` never, and with the others anywhere up to it
 abbrev pub Stops : SourceFault → ℕ → ℕ → Type 0
 Stops InputTooLong taken limit = taken ≡ limit
 Stops Spent taken limit = ⊥
 Stops other taken limit = taken ≤ limit
 
--- a call that fills `size` octets of a buffer returned this result, with the input before and after it and the octets
--- taken in all before and after it. On `Ok` the octets taken are the first of the buffer, and fewer than `size` only
--- at the end of the input. On `Err` fewer than `size` octets were taken, which needn't be in the buffer.
+-- a call that fills `size` octets of a buffer, which then has the octets `buffer`, returned this result. The input
+-- had `old` left before and has `new` left then; the number of octets taken in all rose from `before` to `after`. On
+-- `Ok` the octets taken, fewer than `size` only at the end of the input, are the first of the buffer, as many as it
+-- returns. On `Err` fewer than `size` were taken, which needn't be in the buffer, and the error fits `after` and
+-- `limit` (`Stops`).
 abbrev pub FillsWithin : Option (List ℕ) → Option (List ℕ) → ℕ → ℕ → List ℕ → ℕ → ℕ → Result ℕ SourceFault → Type 0
 FillsWithin old new before after buffer size limit (Ok count) = (count ≤ size) × (after ≤ limit) × Takes old new before after (take count buffer) × (count < size → IsAtEnd new)
 FillsWithin old new before after buffer size limit (Err fault) = (front : List ℕ) × (length front < size) × Stops fault after limit × Takes old new before after front
 
--- true for the error that a read of the input failed, and false for any other result
+-- whether the result is the error `Read`: a read of the input failed
 abbrev pub is_err_read : {A : Type 0} → Result A SourceFault → Bool
 is_err_read (Err Read) = true
 is_err_read other = false
@@ -76,36 +79,38 @@ pub record EndsAt (left : Option (List ℕ)) (octets : List ℕ) : Type 0 where
   pub rest : IsRest octets
   pub seen : StatesNoExcess octets → IsAtEnd left
 
--- a call took octets from an input, and `AreSo` holds of what the input has left, of the number of octets taken in
--- all afterwards, and of the octets
+-- a call took octets from an input, of which `old` was left before and `new` is left after it, raised the number of
+-- octets taken in all from `before` to `after`, and `AreSo` holds of `new`, of `after` and of these octets
 abbrev pub TakesOctets : (Option (List ℕ) → ℕ → List ℕ → Type 0) → Option (List ℕ) → Option (List ℕ) → ℕ → ℕ → Type 0
 TakesOctets AreSo old new before after = (octets : List ℕ) × Takes old new before after octets × AreSo new after octets
 
--- the octets taken by a call that reads a header and returns this result: those of the header, or of the rest, or on
--- error a part of a header. The octets are the last argument; `left` is what the input has left, and `taken` how many
--- were taken in all, of at most `limit`.
+-- `octets` are those taken by a call that reads a header and returned this result: those of the header; or what is
+-- read of the input after its last whole record, with its fault; or, on error, the beginning of a record. `left` is
+-- what the input has left then; an error fits `limit` and `taken`, the number of octets taken in all (`Stops`).
 abbrev pub TakesHeaderOrRest : ℕ → Result NextHeader SourceFault → Option (List ℕ) → ℕ → List ℕ → Type 0
 TakesHeaderOrRest limit (Ok (start.Header header)) left taken octets = FitsHeader header.seconds header.kind header.subtype header.size × (octets ≡ header_octets header.seconds header.kind header.subtype header.size)
 TakesHeaderOrRest limit (Ok (start.Rest kind)) left taken octets = EndsAt left octets × (kind ≡ rest_fault octets)
 TakesHeaderOrRest limit (Err fault) left taken octets = IsUnfinished octets × Stops fault taken limit
 
--- the octets taken by a call that reads a body of `size` octets into the start of a buffer and returns this result:
--- the whole body on `true`, and fewer octets otherwise, to the end of the input on `false`. The octets are the last
--- argument.
+-- `octets` are those taken by a call that reads a body of `size` octets into the start of `buffer` and returned this
+-- result: the whole body on `true`, and fewer octets otherwise, to the end of the input on `false`. `left` is what
+-- the input has left then; an error fits `limit` and `taken`, the number of octets taken in all (`Stops`).
 abbrev pub TakesBody : ℕ → List ℕ → ℕ → Result Bool SourceFault → Option (List ℕ) → ℕ → List ℕ → Type 0
 TakesBody limit buffer size (Ok true) left taken octets = (octets ≡ take size buffer) × (length octets ≡ size)
 TakesBody limit buffer size (Ok false) left taken octets = IsAtEnd left × (length octets < size)
 TakesBody limit buffer size (Err fault) left taken octets = (length octets < size) × Stops fault taken limit
 
--- the octets taken by a call that skips a body of `size` octets and returns this result: the whole body on `true`,
--- and fewer octets otherwise, to the end of the input on `false`. The octets are the last argument.
+-- `octets` are those taken by a call that skips a body of `size` octets and returned this result: the whole body on
+-- `true`, and fewer octets otherwise, to the end of the input on `false`. `left` is what the input has left then; an
+-- error fits `limit` and `taken`, the number of octets taken in all (`Stops`).
 abbrev pub SkipsBody : ℕ → ℕ → Result Bool SourceFault → Option (List ℕ) → ℕ → List ℕ → Type 0
 SkipsBody limit size result left taken octets = TakesBody limit octets size result left taken octets
 
--- the octets taken by a call that reads a record and returns this result: those of a record of a supported type,
--- whose body is at the start of the buffer, or of one of an unsupported type, which was skipped, or of the rest, or
--- on error a part of a record. `format_at` gives the format of each type and subtype that is supported. The octets
--- are the last argument.
+-- `octets` are those taken by a call that reads a record and returned this result: those of a record for whose type
+-- and subtype `format_at` has a format, and whose body is at the start of `buffer`; those of a record without a
+-- format, which was skipped; what is read of the input after its last whole record, with its fault; or, on error, the
+-- beginning of a record. `left` is what the input has left then; an error fits `limit` and `taken`, the number of
+-- octets taken in all (`Stops`).
 abbrev pub TakesRecordOrRest : {F : Type 0} → (ℕ → ℕ → Option F) → ℕ → List ℕ → Result (NextRecord F) SourceFault → Option (List ℕ) → ℕ → List ℕ → Type 0
 TakesRecordOrRest format_at limit buffer (Ok (front.Record header form)) left taken octets =
     (format_at header.kind header.subtype ≡ Some form) × (length (take header.size buffer) ≡ header.size) × IsRecord (record_in_buffer header buffer) × (octets ≡ spelling (record_in_buffer header buffer))
@@ -116,12 +121,15 @@ TakesRecordOrRest format_at limit buffer (Err fault) left taken octets = IsUnfin
 
 -- ---- what reads take from a buffer that has enough
 
--- several reads, for so many octets in all, of which enough are buffered: none fails, and if the limit allows all, these are the octets that leave the buffer
+-- a call that fills the first `size` octets of a slice, whose octets then are `octets`, from an input that had `old`
+-- buffered before and has `new` then: if `old` has at least `size`, no read of the input fails, and on `Ok` all
+-- `size` are filled, with the first of `old`, after which `new` is left
 abbrev pub FillsBuffered : List ℕ → List ℕ → List ℕ → ℕ → Result ℕ SourceFault → Type 0
 FillsBuffered old new octets size result =
     size ≤ length old → (is_err_read result ≡ false) × IfOk result (λ count. (count ≡ size) × (old ≡ take size octets ++ new))
 
--- the header that was read is the one that was buffered
+-- a call that reads a header, from an input that had `old` buffered before and has `new` then, returned this result:
+-- a header, whose octets and then `new` make up `old`; or an error, but not `Read`; never a rest
 abbrev pub StartsBuffered : List ℕ → List ℕ → Result NextHeader SourceFault → Type 0
 StartsBuffered old new (Ok (start.Header header)) = old ≡ header_octets header.seconds header.kind header.subtype header.size ++ new
 StartsBuffered old new (Ok (start.Rest kind)) = ⊥

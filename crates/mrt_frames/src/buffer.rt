@@ -15,9 +15,9 @@ const FIRST_GROWTH: usize = 4096;
 
 /// Fills `buffer` from `input`, and returns the number of octets filled, which is less than the
 /// length of `buffer` only at the end of the input. `taken` is the number of octets read from the
-/// input so far, to which it adds those that it reads, on error too. Fails with `PastLimit` if
-/// `taken` reaches `limit` before `buffer` is full, or with `InputFailed` if a read fails; `buffer`
-/// is then partly filled. Requires `taken <= limit`.
+/// input so far, and grows by those read here, on error too; `limit` is the most that it may
+/// become. Fails with `PastLimit` if `taken` reaches `limit` before `buffer` is full, or with
+/// `InputFailed` if a read fails; `buffer` is then partly filled. Requires `taken <= limit`.
 #[inline(always)]
 pub(crate) fn fill_within<I: Input>(
     input: &mut I,
@@ -51,10 +51,11 @@ pub(crate) fn fill_within<I: Input>(
     Ok(filled)
 }
 
-/// Returns the index up to which the buffer of a body of `size` octets is to be filled next, where
-/// the buffer has `held` octets, of which the first `filled` are filled. It is `held`, or, if all
-/// of these are filled, a greater length, to which the buffer is to grow; it is at most `size`.
-/// Requires that `filled` is below `size`.
+/// Returns the exclusive end of the part of a buffer that is to be filled next, as a body of `size`
+/// octets is read into it. The buffer has `held` octets, of which the first `filled` are filled.
+/// The end is `held`, or, if all of these are filled, a greater length, to which the buffer is to
+/// grow; it is at most `size`. Requires that `filled` is below `size`, and that `size` is at most
+/// [`LONGEST_BODY`].
 fn next_fill_end(held: usize, filled: usize, size: usize) -> usize
     requires unfinished { filled < size }
     requires small { size ≤ LONGEST_BODY }
@@ -71,10 +72,12 @@ fn next_fill_end(held: usize, filled: usize, size: usize) -> usize
 }
 
 /// Fills the octets of `buffer` at the indices `part` from `input`, and returns the number of
-/// octets filled, which is less than the length of `part` only at the end of the input. Adds the
-/// octets read to `taken`, on error too. Fails with `PastLimit` if `taken` reaches `limit` before
-/// the part is full, or with `InputFailed` if a read fails. The octets before the part are
-/// unchanged. Requires that `part` is within `buffer`, and `taken <= limit`.
+/// octets filled, which is less than the length of `part` only at the end of the input. `taken` is
+/// the number of octets read from the input so far, and grows by those read here, on error too;
+/// `limit` is the most that it may become. Fails with `PastLimit` if `taken` reaches `limit` before
+/// the part is full, or with `InputFailed` if a read fails; the part is then partly filled. The
+/// octets outside of the part are unchanged. Requires `taken <= limit`, and that `part` is within
+/// `buffer`.
 pub(crate) fn fill_part<I: Input>(
     input: &mut I,
     buffer: &mut Vec<u8>,
@@ -98,10 +101,13 @@ pub(crate) fn fill_part<I: Input>(
 }
 
 /// Reads a body of `size` octets into the start of `buffer`, and returns the number of octets read,
-/// which is less than `size` only at the end of the input. Adds them to `taken`, on error too.
-/// Fails with `InputTooLong` if `taken` reaches `limit` first, `Read` if a read fails, or `Memory`.
-/// `buffer` grows to at most twice the octets read plus 4,096, so that a header that states a
-/// length which the input doesn't have allocates little. Requires `taken <= limit`.
+/// which is less than `size` only at the end of the input. `taken` is the number of octets read
+/// from the input so far, and grows by those read here, on error too; `limit` is the most that it
+/// may become. A `buffer` shorter than `size` grows to at most twice the octets read plus 4,096, so
+/// that a header that states a length which the input doesn't have allocates little. Fails with
+/// `InputTooLong` if `taken` reaches `limit` before the body is read, with `Read` if a read fails,
+/// and with `Memory` if memory allocation fails; `buffer` is then unspecified. Requires that `size`
+/// is at most [`LONGEST_BODY`], and `taken <= limit`.
 #[inline(never)]
 pub(crate) fn fill_body<I: Input>(
     input: &mut I,

@@ -10,8 +10,9 @@ use crate::input::InFault;
 use std::alloc::AllocError;
 use thiserror::Error;
 
-/// What is wrong with an MRT record, or why it isn't supported. If several of these apply, the
-/// first in this order is reported, except that `TooLong` comes before `CutRecord`.
+/// What is wrong with an MRT record, or that its type isn't supported. If several of these apply,
+/// the first in the order of the variants is reported, except that `TooLong` comes before
+/// `CutRecord`.
 #[derive(Clone, Copy, Debug, PartialEq, Eq)]
 pub enum RecordKind {
     /// The input ends inside the record: in its header or in its body.

@@ -37,7 +37,8 @@ pub trait RecordTypes {
         ensures { result ≡ format_at self.now kind subtype };
 }
 
-/// The header of the next record, or what is left of the input if no whole header is.
+/// The outcome of reading the header of the next MRT record: the header, or that the input ends
+/// before or inside it.
 #[derive(Clone, Copy)]
 enum NextHeader {
     /// The header of the next record.
@@ -47,8 +48,9 @@ enum NextHeader {
     Rest(Option<RecordKind>),
 }
 
-/// The next record of an input, or the end of the input. `F` is the type of the formats of bodies,
-/// by which the caller parses them: [`RecordTypes::BodyFormat`].
+/// The outcome of reading the next MRT record: it was read, was skipped as unsupported, or is
+/// missing, cut or too long. `F` is the type of the formats of bodies, [`RecordTypes::BodyFormat`],
+/// by which the caller knows how to parse a body.
 #[derive(Clone, Copy)]
 pub enum NextRecord<F> {
     /// The header of a record of a supported type, and the format of its body, as [`RecordTypes`]
@@ -184,11 +186,12 @@ impl FrameReader {
         Ok(true)
     }
 
-    /// Reads the next record from `input`, or returns [`NextRecord::Rest`] if there is no whole one
-    /// or its body is too long. The body is kept for [`FrameReader::body`], or skipped if
-    /// `record_types` doesn't support the record. Fails if a read fails, if the limit given to
-    /// [`FrameReader::new`] is reached, or if memory allocation fails; a part of the record may
-    /// have been read then. No read fails if `input` has the whole record in its buffer.
+    /// Reads the next record from `input`, or returns [`NextRecord::Rest`] if the input ends before
+    /// or inside it, or if its body is longer than [`LONGEST_BODY`]. The body is kept for
+    /// [`FrameReader::body`], or skipped if `record_types` doesn't support the record. Fails if a
+    /// read fails, if the limit given to [`FrameReader::new`] is reached, or if memory allocation
+    /// fails; a part of the record may have been read then. No read fails if `input` has the whole
+    /// record in its buffer.
     #[inline(always)]
     pub fn take_record<P: RecordTypes, I: Input>(
         &mut self,

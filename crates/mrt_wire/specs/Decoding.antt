@@ -38,47 +38,54 @@ use Rattle.mrt_wire.specs.Session.{SessionBody}
 use Rattle.mrt_wire.specs.Content.{Content}
 use Rattle.mrt_wire.specs.Results.{PeerTable, Accepted, Refused, ReadsAs, index_after}
 
--- `Some` has a value that the octets begin with and the octets after it, and `None` means that they begin with no
--- value. The first argument tells which octets spell a value.
+-- what a parser finds at the start of the octets: a value that they begin with, by `Spells`, and the octets after it,
+-- or `None` if they begin with no value
 abbrev pub FindsValue : {A : Type 0} → (A → List ℕ → Type 0) → List ℕ → Option (ValueAndRest A) → Type 0
 FindsValue Spells octets (Some found) = Begins Spells found.value found.rest.now octets
 FindsValue Spells octets None = BeginsWithNone Spells octets
 
--- the reason why a record yields no event, where the parser of its body fails so
+-- the error of parsing a record, where the parser of its body fails with this one: for `Malformed` the fault
+-- `Malformed` of the record, for `Memory` `Memory`
 abbrev pub body_error : WireFault → DecodeError
 body_error wire.Malformed = refusal.Fault Malformed
 body_error wire.Memory = refusal.Memory
 
--- items with these values, in order, were appended
+-- the values of the items `new` are those of `old` and then `more`: items with the values `more` were appended, in
+-- order
 abbrev pub AddsItems : List Item → List Item → List ItemValue → Type 0
 AddsItems old new more = map item_value new ≡ map item_value old ++ more
 
--- the route has the attributes that the raw octets spell, and this time in seconds
+-- `route` has the attributes that the octets of `raw` spell, by its family and its width of AS numbers, and the time
+-- `time`, in seconds
 abbrev pub IsRouteFrom : RawAttrs → ℕ → Route → Type 0
 IsRouteFrom raw time route = SpellsRibAttrs raw.family raw.width route.attrs raw.octets.now × (route.time ≡ time)
 
--- a call that parses raw attributes may fail so: with `Malformed` only where the octets spell none
+-- a call that parses the attributes `raw` may return this error: `Malformed` only if their octets spell no
+-- attributes, `Memory` always
 abbrev pub RefusesRaw : RawAttrs → WireFault → Type 0
 RefusesRaw raw fault = Refuses (SpellsRibAttrs raw.family raw.width) raw.octets.now fault
 
--- the values of the items of an announcement whose prefixes have these attributes
+-- the announcements of the prefixes of `announcement` by its peer, each with the route of these attributes and its
+-- time
 abbrev pub announced_with : AnnouncedPrefixes → Attrs → List ItemValue
 announced_with announcement attrs = announcements announcement.peer.now (route_of attrs announcement.seconds) announcement.prefixes.now
 
--- a call that parses a record returned this result, with these peer index tables before and after it. The outcome of
--- the record is as returned; on an error the table is unchanged, and `Memory` leaves the outcome open.
+-- a call that parses record `r` returned this result, with peer index table `before` before it and `after` after it:
+-- the event with which the record is accepted, or the fault with which it is refused (`ReadsAs`, times chosen by
+-- `stamp`), or `Memory`, which leaves this open. On both errors the table is unchanged.
 abbrev pub Decodes : Stamp → PeerTable → PeerTable → Record → Result Event DecodeError → Type 0
 Decodes stamp before after r (Ok event) =
     (content : Content) × ReadsAs stamp before r (Accepted content event) × (after ≡ index_after before (Accepted content event))
 Decodes stamp before after r (Err (refusal.Fault kind)) = ReadsAs stamp before r (Refused kind) × (after ≡ before)
 Decodes stamp before after r (Err refusal.Memory) = after ≡ before
 
--- what a source returns of a record of this number, counted from 1, and offset that has this fault
+-- what `next` returns of a record with this fault, where `number` is that of the record, counted from 1, and `offset`
+-- that of its header: the fault with both
 abbrev pub fault_answer : ℕ → ℕ → RecordKind → Next
 fault_answer number offset kind = next.Bad (record { number = number; offset = offset; kind = kind })
 
--- what a source returns of a record of this number, counted from 1, and offset, where the call that parses it
--- returned this
+-- what `next` returns of a record whose parser returned this: its event, or its fault with the record's number,
+-- counted from 1, and the offset of its header, or the error `Memory`
 abbrev pub decoded_answer : ℕ → ℕ → Result Event DecodeError → Result Next SourceFault
 decoded_answer number offset (Ok event) = Ok (next.Event event)
 decoded_answer number offset (Err (refusal.Fault kind)) = Ok (fault_answer number offset kind)
@@ -93,15 +100,17 @@ SpellsMapped {A} Spells says parsed octets = (value : A) × Spells value octets 
 abbrev pub parsed_session : ℕ → SessionBody → SessionItems
 parsed_session seconds body = record { items = session_items seconds body.content; micros = body.micros }
 
--- the RIB entry that was parsed
+-- the RIB entry that was parsed: the attributes of its route, its Originated Time, and its peer index
 abbrev pub entry_value : ParsedEntry → RibEntry
 entry_value entry = record { attrs = entry.route.value.attrs; time = entry.originated; index = entry.index }
 
--- the route of the parsed entry has the time that the context chooses for it
+-- the route of the parsed entry has the time that the stamp of the context chooses: the timestamp of the record, or
+-- the Originated Time of the entry
 abbrev pub HasEntryTime : TableContext → ParsedEntry → Type 0
 HasEntryTime context entry = entry.route.value.time ≡ entry_time context.stamp context.seconds entry.originated
 
--- the announcement of a prefix by a RIB entry in this context
+-- the announcement of a prefix by a RIB entry, with the peers, the stamp and the timestamp of this context, as a list
+-- of one; it is empty if the entry's peer index isn't below the number of peers
 abbrev pub context_items : TableContext → Network → RibEntry → List ItemValue
 context_items context = entry_items context.peers.now context.stamp context.seconds
 
@@ -111,8 +120,8 @@ pub record AreItemsOf (context : TableContext) (rib : PrefixEntries) (parsed : E
   pub items : map item_value parsed.items.items ≡ entries_items context.peers.now context.stamp context.seconds rib
   pub unknown : parsed.unknown ≡ first_unknown context.peers.now rib.entries
 
--- the octets are the number of RIB entries, the entries and then any octets, and these are their items for this
--- prefix
+-- the octets are the number of RIB entries, the entries and then any octets, and `parsed` has the items that these
+-- entries make for this prefix and their first peer index that isn't in the table (`AreItemsOf`)
 abbrev pub SpellsEntryItems : TableContext → Network → EntryItems → List ℕ → Type 0
 SpellsEntryItems context prefix parsed octets =
     (entries : List RibEntry) × SpellsEntries context.family entries octets

@@ -15,7 +15,7 @@ pub record SpellsOctet (n : ℕ) (octets : List ℕ) : Type 0 where
   pub fits : n < 256
   pub whole : octets ≡ n ∷ []
 
--- the octets are two, which are `n`, below 2^16, as a big-endian number
+-- the octets are `n` as a big-endian number of two octets; `n` is below 2^16
 abbrev pub SpellsShort : ℕ → List ℕ → Type 0
 SpellsShort n octets = SpellsNumber w16 (2 ^ 16) n octets
 

@@ -15,8 +15,8 @@ use Rattle.mrt_wire.specs.Session.{SessionContent, Change, Receipt}
 
 -- ---- the entries of routing tables
 
--- the time of a table entry's route, as the stamp chooses: `seconds`, the timestamp of the record, or `originated`,
--- the Originated Time of the entry
+-- the time of a table entry's route, as the stamp chooses: for `Dump` `seconds`, the timestamp of the record, and for
+-- `Change` `originated`, the Originated Time of the entry
 abbrev pub entry_time : Stamp → ℕ → ℕ → ℕ
 entry_time Dump seconds originated = seconds
 entry_time Change seconds originated = originated
@@ -60,8 +60,8 @@ abbrev pub mp_announcements : Peer → ℕ → Option Attrs → List Network →
 mp_announcements peer seconds None prefixes = []
 mp_announcements peer seconds (Some attrs) prefixes = announcements peer (route_of attrs seconds) prefixes
 
--- the items of an UPDATE that a peer sent at this time in seconds: the withdrawn prefixes, those of MP_UNREACH_NLRI,
--- the announced ones, and those of MP_REACH_NLRI
+-- the items of an UPDATE that a peer sent at this time in seconds, in this order: withdrawals of the withdrawn
+-- prefixes and of those of MP_UNREACH_NLRI, and announcements of the announced prefixes and of those of MP_REACH_NLRI
 abbrev pub update_items : Peer → ℕ → Update → List ItemValue
 update_items peer seconds update =
     map (Withdrawn peer) update.withdrawn ++ (map (Withdrawn peer) update.mp_withdrawn
@@ -73,7 +73,7 @@ abbrev pub message_items : Peer → ℕ → Message → List ItemValue
 message_items peer seconds (message.Update update) = update_items peer seconds update
 message_items peer seconds (message.Other kind) = []
 
--- the items of a state change or a message, in a record with this timestamp
+-- the items of a state change or a message in a record with timestamp `seconds`: the change alone, or `message_items`
 abbrev pub session_items : ℕ → SessionContent → List ItemValue
 session_items seconds (Change change) = Changed change.peer change.old change.new ∷ []
 session_items seconds (Receipt m) = message_items m.peer seconds m.message

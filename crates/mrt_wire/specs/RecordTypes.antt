@@ -8,8 +8,8 @@ use Rattle.mrt_wire.specs.declared.record_types.SessionKind.TheVariants.{StateCh
 use Rattle.mrt_wire.specs.declared.record_types.TheConstants.{TABLE_DUMP, AFI_IPV4, AFI_IPV6, TABLE_DUMP_V2, BGP4MP, BGP4MP_ET, PEER_INDEX_TABLE, RIB_IPV4_UNICAST, RIB_IPV6_UNICAST, BGP4MP_STATE_CHANGE, BGP4MP_MESSAGE, BGP4MP_MESSAGE_AS4, BGP4MP_STATE_CHANGE_AS4}
 use Rattle.mrt_frames.specs.Record.{Record}
 
--- the format of the bodies of BGP4MP records of this subtype, and `None` where it isn't supported (section 4.4);
--- `timed` tells whether the bodies begin with microseconds (section 3)
+-- the format of the bodies of BGP4MP records of this subtype, and `None` where it isn't supported (RFC 6396, section
+-- 4.4); `timed` says whether the bodies begin with microseconds, as in BGP4MP_ET (section 3)
 abbrev pub session_format : Bool → ℕ → Option BodyFormat
 session_format timed subtype =
     if subtype == BGP4MP_STATE_CHANGE then Some (Session record { kind = StateChange; width = Two; timed = timed })
@@ -18,8 +18,8 @@ session_format timed subtype =
     else if subtype == BGP4MP_STATE_CHANGE_AS4 then Some (Session record { kind = StateChange; width = Four; timed = timed })
     else None
 
--- the format of the bodies of this type and subtype, and `None` where these aren't supported (sections 4.2, 4.3 and
--- 4.4)
+-- the format of the bodies of records of this type and subtype, and `None` where these aren't supported (RFC 6396,
+-- sections 4.2, 4.3 and 4.4)
 abbrev pub body_format : ℕ → ℕ → Option BodyFormat
 body_format kind subtype =
     if kind == TABLE_DUMP then

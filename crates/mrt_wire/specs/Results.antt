@@ -32,8 +32,8 @@ pub record Frame : Type 0 where
 abbrev pub PeerTable : Type 0
 PeerTable = Option (List Peer)
 
--- the peer index table after a record with this outcome, where `index` is the one before it: its own, if it is an
--- accepted PEER_INDEX_TABLE, and otherwise `index`
+-- the peer index table after a record with this outcome, where `index` is the one before it: that of the record, if
+-- it is an accepted PEER_INDEX_TABLE, and otherwise `index`
 abbrev pub index_after : PeerTable → RecordOutcome → PeerTable
 index_after index (Accepted (Entry entry) event) = index
 index_after index (Accepted (Peers peers) event) = Some peers
@@ -47,7 +47,7 @@ peers_in None = []
 peers_in (Some peers) = peers
 
 -- the fault of a RIB record, where `unknown` is the first peer index among its entries that isn't in the table:
--- `NoIndex` without a table, even without entries, or else `PeerIndex` with `unknown`
+-- `NoIndex` without a table, even without entries; or else `PeerIndex` with `unknown`, or `None` if that is `None`
 abbrev pub entries_fault : PeerTable → Option ℕ → Option RecordKind
 entries_fault None unknown = Some NoIndex
 entries_fault (Some peers) None = None
@@ -70,16 +70,18 @@ session_tag (Some micros) = Bgp4mpEt
 abbrev pub event_at : ℕ → Option ℕ → Tag → List ItemValue → Event
 event_at seconds micros tag items = record { time = record { seconds = seconds; micros = micros }; tag = tag; items = items }
 
--- the event of accepted record `r`, whose body has this content, with peer index table `index` before it; `stamp`
--- chooses the times of table entries
+-- the event of accepted record `r`, whose body has this content, with peer index table `index` before it: its
+-- timestamp, with microseconds if the body has them, the tag of its type, and the items of its content, none for a
+-- PEER_INDEX_TABLE; `stamp` chooses the times of table entries
 abbrev pub event_of : Stamp → PeerTable → Record → Content → Event
 event_of stamp index r (Entry entry) = event_at r.seconds None TableDump (table_dump_items stamp r.seconds entry)
 event_of stamp index r (Peers peers) = event_at r.seconds None TableDump2 []
 event_of stamp index r (Entries rib) = event_at r.seconds None TableDump2 (entries_items (peers_in index) stamp r.seconds rib)
 event_of stamp index r (Session body) = event_at r.seconds body.micros (session_tag body.micros) (session_items r.seconds body.content)
 
--- `kind` is the first fault that a whole record has, with this peer index table before it: `Unsupported`, or else
--- `Malformed` where its body has no content, or else the fault of its content
+-- `kind` is the first fault that record `r`, a whole one, has, with peer index table `index` before it:
+-- `Unsupported`, by its type and subtype; or else `Malformed`, if its body spells no content; or else the fault of
+-- its content (`content_fault`)
 abbrev pub HasFault : PeerTable → Record → RecordKind → Type 0
 HasFault index r kind =
     ((IsSupported r → ⊥) × (kind ≡ Unsupported r.kind r.subtype))
@@ -125,7 +127,8 @@ pub record Splits (stamp : Stamp) (index : PeerTable) (octets : List ℕ) (frame
   pub are_frames : AreFrames stamp index frames
   pub none : BeginsWithNoRecord rest
 
--- what an input has at a record: an event, or a fault with the record's number and offset
+-- one result of an input: the event of a record, or the fault of a record or of the octets after the last one, with
+-- its number and offset
 pub data RecordResult : Type 0 where
   Found : Event → RecordResult
   Bad : RecordFault → RecordResult
@@ -136,7 +139,7 @@ abbrev pub record_result : ℕ → ℕ → RecordOutcome → RecordResult
 record_result number offset (Accepted content event) = Found event
 record_result number offset (Refused kind) = Bad (record { number = number; offset = offset; kind = kind })
 
--- the fault, if there is one, with this number and offset, as a list of at most one
+-- the fault with this number and offset, as a list of one; the empty list if there is no fault (`None`)
 abbrev pub fault_results : ℕ → ℕ → Option RecordKind → List RecordResult
 fault_results number offset None = []
 fault_results number offset (Some kind) = Bad (record { number = number; offset = offset; kind = kind }) ∷ []
@@ -152,7 +155,8 @@ pub record SourceState : Type 0 where
   pub stamp : Stamp
   pub phase : Phase
 
--- the state of a source after the record of a frame, where `p` is that before it
+-- the state of a source that was in state `p` after the record of this frame: the peer index table after it, the
+-- number greater by 1, and the offset by the octets of the record
 abbrev pub state_after : SourceState → Frame → SourceState
 state_after p frame =
     record { index = index_after p.index frame.outcome; number = p.number + 1; offset = p.offset + length (spelling frame.mrt); limit = p.limit; stamp = p.stamp; phase = p.phase }
@@ -161,8 +165,8 @@ state_after p frame =
 abbrev pub start_state : Stamp → ℕ → SourceState
 start_state stamp limit = record { index = None; number = 0; offset = 0; limit = limit; stamp = stamp; phase = Reading }
 
--- the results of an input from a state on, where its octets split into these frames and this rest: an event or a
--- fault for each frame, in order, and then the fault of the rest, if it isn't empty
+-- the results of an input from state `p` on, whose octets from there are those of the records of these frames and
+-- then `rest`: an event or a fault for each frame, in order, and then the fault of `rest`, if it isn't empty
 abbrev pub results : SourceState → List Frame → List ℕ → List RecordResult
 results p [] rest = fault_results (p.number + 1) p.offset (rest_fault rest)
 results p (frame ∷ frames) rest = record_result (p.number + 1) p.offset frame.outcome ∷ results (state_after p frame) frames rest

@@ -28,8 +28,8 @@ peer_family kind = if bit_and kind IPV6_PEER == 0 then V4 else V6
 abbrev pub peer_width : ℕ → AsWidth
 peer_width kind = if bit_and kind AS4_PEER == 0 then Two else Four
 
--- the octets are those of Peer Type, Peer BGP ID, Peer IP Address and Peer AS. The value is the type, the octets of
--- the BGP ID, and the peer
+-- the octets are those of Peer Type (one octet), Peer BGP ID (four), Peer IP Address and Peer AS, of the family and
+-- width that the type says. The value is the type, the octets of the BGP ID, and the peer
 abbrev pub SpellsPeerFields : ℕ × (List ℕ × Peer) → List ℕ → Type 0
 SpellsPeerFields =
     SpellsPair SpellsOctet (λ kind. SpellsPair (AreOctets ID_SIZE) (λ id. SpellsPeerOf (peer_family kind) (peer_width kind)))
@@ -39,13 +39,13 @@ abbrev pub SpellsPeer : Peer → List ℕ → Type 0
 SpellsPeer peer octets =
     (kind : ℕ) × (id : List ℕ) × SpellsPeerFields (kind, (id, peer)) octets
 
--- the octets are those of Collector BGP ID, and of View Name after its length. The value is the octets of both, which
--- may be any
+-- the octets are those of Collector BGP ID (four), and of View Name after its length in two octets. The value is the
+-- octets of both, which may be any
 abbrev pub SpellsView : List ℕ × List ℕ → List ℕ → Type 0
 SpellsView = SpellsPair (AreOctets ID_SIZE) (λ id. AreSized)
 
--- the octets are the body of a PEER_INDEX_TABLE with these peers: any collector and view name, the number of the
--- peers, the peer entries, and then any octets
+-- the octets are the body of a PEER_INDEX_TABLE with these peers: any Collector BGP ID and View Name, the number of
+-- the peers in two octets, the peer entries, and then any octets
 abbrev pub SpellsPeerIndex : List Peer → List ℕ → Type 0
 SpellsPeerIndex = SpellsAfter SpellsView (λ view. SpellsFront (SpellsCounted SpellsPeer))
 
@@ -62,8 +62,8 @@ pub record PrefixEntries : Type 0 where
   pub prefix : Network
   pub entries : List RibEntry
 
--- the octets are those of Peer Index, Originated Time, and BGP Attributes after their length. The value is the index,
--- the time, and the octets of the attributes
+-- the octets are those of Peer Index (two octets), Originated Time (four), and BGP Attributes after their length in
+-- two octets. The value is the index, the time, and the octets of the attributes
 abbrev pub AreEntryFields : ℕ × (ℕ × List ℕ) → List ℕ → Type 0
 AreEntryFields = SpellsPair SpellsShort (λ index. SpellsPair SpellsU32 (λ time. AreSized))
 
@@ -78,7 +78,8 @@ SpellsEntry family entry octets =
 abbrev pub SpellsEntries : Family → List RibEntry → List ℕ → Type 0
 SpellsEntries family = SpellsFront (SpellsCounted (SpellsEntry family))
 
--- the octets are those of a prefix of this family and of its entries, and then any octets
+-- the octets are those of a prefix of this family, as BGP sends it, and of its entries after their number, and then
+-- any octets
 abbrev pub SpellsPrefixAndEntries : Family → PrefixEntries → List ℕ → Type 0
 SpellsPrefixAndEntries family rib octets =
     SpellsPair (SpellsNetwork family) (λ prefix. SpellsEntries family) (rib.prefix, rib.entries) octets
@@ -107,9 +108,10 @@ pub record SpellsAddressAndLength (family : Family) (prefix : Network) (octets :
   pub fits : len ≤ bit_count family
   pub first_bits : prefix ≡ network_of address len
 
--- the octets are the fields of a TABLE_DUMP body with a prefix of this family: View Number and Sequence Number, the
--- prefix and its length, Status, Originated Time, the peer, with an AS number of two octets, and the attributes after
--- their length. The value has these in order: the first two, Status and the attributes as octets, which may be any
+-- the octets are the fields of a TABLE_DUMP body with a prefix of this family: View Number and Sequence Number (four
+-- octets together), the prefix and its length, Status (one octet), Originated Time, the peer, with an AS number of
+-- two octets, and the attributes after their length in two octets. The value has these in order: the first two,
+-- Status and the attributes as octets, which may be any
 abbrev pub AreTableDumpFields : Family → List ℕ × (Network × (List ℕ × (ℕ × (Peer × List ℕ)))) → List ℕ → Type 0
 AreTableDumpFields family =
     SpellsPair (AreOctets NUMBERS_SIZE) (λ numbers. SpellsPair (SpellsAddressAndLength family) (λ prefix.

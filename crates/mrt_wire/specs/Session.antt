@@ -42,14 +42,14 @@ pub record SessionBody : Type 0 where
 abbrev pub SpellsFamily : Family → List ℕ → Type 0
 SpellsFamily family octets = octets ≡ 0 ∷ family_code family ∷ []
 
--- the octets are those of Peer AS Number, Local AS Number and Interface Index, with AS numbers of this width. The
--- value is the peer's number, and the octets of the other two, which may be any
+-- the octets are those of Peer AS Number, Local AS Number and Interface Index (two octets), with AS numbers of this
+-- width. The value is the peer's number, and the octets of the other two, which may be any
 abbrev pub AreAsnFields : AsWidth → ℕ × (List ℕ × List ℕ) → List ℕ → Type 0
 AreAsnFields width =
     SpellsPair (SpellsAsn width) (λ asn. SpellsPair (AreOctets (asn_size width)) (λ local_asn. AreOctets INTERFACE_SIZE))
 
--- the octets are those of Address Family, Peer IP Address and Local IP Address. The value is the family, the peer's
--- address, and the octets of the local address, which may be any
+-- the octets are those of Address Family, Peer IP Address and Local IP Address, both of this family. The value is the
+-- family, the peer's address, and the octets of the local address, which may be any
 abbrev pub AreAddressFields : Family × (Address × List ℕ) → List ℕ → Type 0
 AreAddressFields =
     SpellsPair SpellsFamily (λ family. SpellsPair (SpellsAddressOf family) (λ address. AreOctets (octet_count family)))
@@ -64,7 +64,8 @@ SpellsSessionPeer width peer octets =
     ((peer.asn, (local_asn, interface)), (family, (peer.addr, local_address))) octets
 
 -- the octets are a state change, of BGP4MP_STATE_CHANGE or, with AS numbers of four octets, of
--- BGP4MP_STATE_CHANGE_AS4: the session fields (`SpellsSessionPeer`), Old State, New State, and then any octets
+-- BGP4MP_STATE_CHANGE_AS4: the session fields (`SpellsSessionPeer`), Old State and New State, of two octets each, and
+-- then any octets
 abbrev pub SpellsStateChange : AsWidth → StateChange → List ℕ → Type 0
 SpellsStateChange width change octets =
     SpellsPair (SpellsSessionPeer width) (λ peer. SpellsPair SpellsShort (λ old. SpellsFront SpellsShort)) (change.peer, (change.old, change.new)) octets

@@ -60,8 +60,8 @@ pub(crate) struct RawRecord<'a> {
     pub(crate) body: &'a [u8],
 }
 
-/// Returns the peers of the peer index table `index`, in which a peer's position is its peer index,
-/// or an empty slice if there is no table.
+/// Returns the peers of the peer index table `index`, each at the position of its peer index.
+/// Returns an empty slice if `index` is `None`, as no table was accepted yet.
 fn peers_in(index: &Option<Peers>) -> &[Peer]
     ensures { result.now ≡ peers_in index.now }
 {
@@ -71,10 +71,10 @@ fn peers_in(index: &Option<Peers>) -> &[Peer]
     }
 }
 
-/// Returns the fault of a RIB record by the peer indexes of its entries, or `None` if it has none.
-/// It is `NoIndex` if `index` is `None`: no peer index table was accepted before the record.
-/// Otherwise it is `PeerIndex` with `unknown`, the first peer index among the entries that isn't in
-/// the table, unless that is `None`.
+/// Returns the fault of a RIB record whose entries refer to peers that aren't known, or `None` if
+/// it has none. `index` is the last peer index table, or `None` if none was accepted before the
+/// record, for which the fault is `NoIndex`. `unknown` is the first peer index among the entries
+/// that isn't in the table, for which the fault is `PeerIndex`, or `None` if all are in it.
 fn entries_fault(index: &Option<Peers>, unknown: Option<u16>) -> Option<RecordKind>
     ensures { result ≡ entries_fault index.now unknown }
 {
@@ -96,11 +96,12 @@ fn session_tag(micros: Option<u32>) -> Tag
     }
 }
 
-/// Parses a record into its event. `pool` is memory that records are parsed into one after the
-/// other; `stamp` selects which time the routes of table entries get: that of the record, or of the
-/// entry. `index` has the peers of the last accepted PEER_INDEX_TABLE, and those of this record
-/// replace it if it is one. Fails with the fault of the record, or with `Memory` if memory
-/// allocation fails; `index` is unchanged then.
+/// Parses the record `raw` into its event, whose routes reuse memory of earlier records in `pool`.
+/// `stamp` selects the time of the routes of table entries: the timestamp of the record (`Dump`) or
+/// the Originated Time of the entry (`Change`). `index` has the peers of the last accepted
+/// PEER_INDEX_TABLE, or is `None` before the first; if `raw` is one, its peers replace them.
+/// Requires that `raw.form` is the format of records of this type and subtype. Fails with `Fault`
+/// if the record is faulty, or with `Memory` if memory allocation fails; `index` is unchanged then.
 #[inline(always)]
 pub(crate) fn decode_record(
     alloc: Global,

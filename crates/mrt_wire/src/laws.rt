@@ -23,18 +23,19 @@ pub fn law_octets_have_one_record_content()
         IsBody kind subtype a body → IsBody kind subtype b body → a ≡ b }
 {}
 
-/// States that every input can be split into whole records, each with its event or its fault, and
-/// the octets after the last whole record. It is stated as a double negation (there is no input
-/// without such a split), since it constructs none.
+/// States that every input can be split into whole records, each with its event or the fault for
+/// which it has none, and a rest, the octets after the last whole record. It is stated as a double
+/// negation (there is no input without such a split), since it constructs none.
 pub fn law_input_splits_into_records()
     ensures { (stamp : Stamp) (index : PeerTable) (octets : List ℕ) → IsOctets octets →
         ((frames : List Frame) (rest : List ℕ) → Splits stamp index octets frames rest → ⊥) → ⊥ }
 {}
 
 /// States that an input can be split in at most one way into whole records, each with its event or
-/// its fault, and a rest, the octets after the last whole record. So what a reader is to return is
-/// determined by the octets of the input, the peers known before it, and the choice which time the
-/// routes of tables get, that of the record or that of the entry.
+/// the fault for which it has none, and a rest, the octets after the last whole record. So what a
+/// reader is to return is determined by three things: the octets of the input, the peer index table
+/// known before it, and whether routes of tables get the timestamp of the record or the Originated
+/// Time of the entry.
 pub fn law_input_splits_in_one_way()
     ensures { (stamp : Stamp) (index : PeerTable) (octets : List ℕ) → SplitsOneWay stamp index octets }
 {}

@@ -5,8 +5,8 @@
 use mrt_events::Event;
 use mrt_frames::RecordFault;
 
-/// What [`Source::next`](crate::Source::next) returns of the next MRT record of its input: the
-/// event that the record tells, the fault that it has, or the end of the input.
+/// The result of reading the next MRT record with [`Source::next`](crate::Source::next): its event,
+/// the fault for which it has none, or the end of the input.
 #[derive(Debug, Drop)]
 pub enum Next {
     /// The event of an accepted record: its time, its type, and what it says of peers and routes.
@@ -18,7 +18,8 @@ pub enum Next {
     End,
 }
 
-/// Whether a [`Source`](crate::Source), a reader of MRT records, still reads its input.
+/// The phase of a [`Source`](crate::Source), a reader of MRT records: it still reads its input, has
+/// met the end, or has returned an error.
 #[derive(Clone, Copy, Debug, PartialEq, Eq)]
 pub enum Phase {
     /// The source reads its input: the next call of [`Source::next`](crate::Source::next) reads a

@@ -75,8 +75,8 @@ fn split_peer(octets: &[u8]) -> Option<ValueAndRest<'_, Peer>>
 
 /// Parses the peers of a PEER_INDEX_TABLE (RFC 6396, section 4.3.1). `octets` is the part of its
 /// body after the View Name: a big-endian 16-bit count, as many peer entries, and further octets,
-/// which are ignored. Fails with `Malformed` if there are fewer entries than the count states, or
-/// with `Memory` if memory allocation fails.
+/// which are ignored. Fails with `Malformed` if the count is missing or fewer entries follow than
+/// it states, or with `Memory` if memory allocation fails.
 fn read_peers(alloc: Global, octets: &[u8]) -> Result<Peers, WireFault>
     ensures { ParsesOrFails (SpellsFront (SpellsCounted SpellsPeer)) octets.now result }
 {
@@ -95,9 +95,9 @@ fn read_peers(alloc: Global, octets: &[u8]) -> Result<Peers, WireFault>
     Ok(Peers::from_vec(peers))
 }
 
-/// Parses the body of a PEER_INDEX_TABLE record into its peers (RFC 6396, section 4.3.1), and
-/// ignores the collector's BGP ID and the view name. Fails with `Malformed` if a field is missing,
-/// or with `Memory` if memory allocation fails.
+/// Parses `octets`, the body of a PEER_INDEX_TABLE record, into its peers (RFC 6396, section
+/// 4.3.1). Ignores the collector's BGP ID, the View Name, and octets after the last peer entry.
+/// Fails with `Malformed` if a field is missing, or with `Memory` if memory allocation fails.
 pub(crate) fn read_peer_index(alloc: Global, octets: &[u8]) -> Result<Peers, WireFault>
     ensures { ParsesOrFails SpellsPeerIndex octets.now result }
 {

@@ -50,8 +50,9 @@ fn last_octets(addr: &Addr) -> u32 {
     }
 }
 
-/// Returns a hash of the last four octets of the peer's address and of its AS number, below
-/// [`PEER_SLOTS`]: the index of the slot of the cache in which its last route is. Several peers may
+/// Returns a hash of the peer's AS number and of the last four octets of its address, less than
+/// [`PEER_SLOTS`]. It is the index of the slot in which the cache of parsed routes
+/// ([`RouteCache`](crate::route_cache::RouteCache)) keeps the peer's last route. Several peers may
 /// have the same hash.
 #[inline]
 pub(crate) fn peer_hash(peer: &Peer) -> usize

@@ -36,8 +36,8 @@ const _: () = prove!(SLOTS_OCTETS + SPARES_OCTETS + ROUTES_OCTETS <= MOST_OCTETS
 /// record, in items. A larger vector is dropped, and the next record allocates its own.
 const MOST_ITEMS: usize = 4096;
 
-/// The memory that records are parsed into, one after the other: routes, and the vectors of parts
-/// of messages and of events. Later records reuse it.
+/// Memory that a record is parsed into and that later records reuse: routes, the parts of an
+/// UPDATE, and a vector for the items of an event (announcements and withdrawals).
 #[derive(Drop)]
 pub(crate) struct Pool {
     /// The routes of BGP messages.
@@ -62,20 +62,19 @@ impl Pool {
         }
     }
 
-    /// Frees the memory that is kept for BGP messages, so that a long message doesn't leave the
-    /// program large: their routes, the parts of an UPDATE, and the vector of items. Later messages
-    /// allocate their own.
+    /// Frees the memory kept for BGP messages, which a long message may have made large: the routes
+    /// of messages, the parts of an UPDATE, and the vector for the items of an event. The next
+    /// message allocates its own. The routes of table entries are kept.
     pub(crate) fn free_message_memory(&mut self, alloc: Global) {
         self.routes = RoutePool::new(alloc);
         self.parts = UpdateBuffer::empty(alloc);
         self.items = Vec::new(alloc);
     }
 
-    /// Makes the pool ready for the next record: the routes that earlier records were parsed into
-    /// may be overwritten from now on, except for those that have other owners. `octets` is the
-    /// length of the record's body. It is needed since a bound on kept memory that a large record
-    /// raised falls in proportion to the lengths of the records after it
-    /// ([`RoutePool::begin_record`]).
+    /// Prepares the pool for the next record, whose body has `octets` octets: from now on, routes
+    /// of earlier records may be overwritten, except for those that have other owners. A large
+    /// record raises the bound on the memory that is kept; it falls again in proportion to the
+    /// lengths of later bodies ([`RoutePool::begin_record`]).
     #[inline(always)]
     pub(crate) fn begin_record(&mut self, octets: usize)
         ensures used { (self.new.routes.used ≡ 0) × (self.new.read.routes.used ≡ 0) }
@@ -84,8 +83,9 @@ impl Pool {
         self.read.routes.begin_record(octets);
     }
 
-    /// Returns the kept vector for the items of an event, empty but with its capacity. Later calls
-    /// return a vector without capacity until [`Pool::keep_items`] is called.
+    /// Takes out the vector that the pool keeps for the items of an event, and returns it, empty
+    /// but with its capacity. Later calls return a vector without capacity until
+    /// [`Pool::keep_items`] is called.
     #[inline(always)]
     pub(crate) fn take_items(&mut self, alloc: Global) -> Vec<Item>
         ensures items { result.items ≡ [] }

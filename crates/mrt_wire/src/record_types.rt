@@ -93,8 +93,8 @@ pub(crate) enum BodyFormat {
     Session(SessionFormat),
 }
 
-/// Tells the reader of headers which MRT types and subtypes are supported, each with the
-/// [`BodyFormat`] of its bodies. Records of others are skipped.
+/// The supported MRT types and subtypes, each with the [`BodyFormat`] of its bodies. The reader of
+/// record headers gets them through [`RecordTypes`], and skips records of other types.
 pub(crate) struct SupportedTypes;
 
 impl RecordTypes for SupportedTypes {

@@ -114,8 +114,9 @@ fn split_entry_fields(octets: &[u8]) -> Option<EntryFields<'_>>
 }
 
 /// Parses the RIB entry at the start of `octets`, and returns it with the octets after it (RFC
-/// 6396, section 4.3.4). The route reuses memory of earlier records in `pool`. Fails with
-/// `Malformed` if no well-formed entry is there, or with `Memory` if memory allocation fails.
+/// 6396, section 4.3.4). `context` has the family of the prefix, and selects the time of the route.
+/// The route reuses memory of earlier records in `pool`. Fails with `Malformed` if no well-formed
+/// entry is there, or with `Memory` if memory allocation fails.
 #[inline]
 fn read_entry<'a>(
     alloc: Global,
@@ -146,8 +147,8 @@ fn read_entry<'a>(
     Ok((entry, framed.rest))
 }
 
-/// Returns the peer at the position `number` of `peers`, counted from 0: that with this peer index,
-/// or `None` if there is no such peer.
+/// Returns the peer with the peer index `number`, which is its position in `peers`, counted from 0.
+/// Returns `None` if `peers` has no such position.
 #[inline]
 fn peer_by_index(peers: &[Peer], number: u16) -> Option<Peer>
     ensures { result ≡ slice_get peers.now number }
@@ -156,10 +157,10 @@ fn peer_by_index(peers: &[Peer], number: u16) -> Option<Peer>
 }
 
 impl EntryItems {
-    /// Appends the announcement of `prefix` with the route of `entry` by its peer. If the peer
-    /// index of `entry` isn't in the table of `context`, appends nothing and sets `unknown` to it,
-    /// unless `unknown` is set already. Fails if memory allocation fails; `self` is unspecified
-    /// then.
+    /// Appends to `items` the announcement of `prefix` by the peer of `entry`, with the route of
+    /// `entry`. If the peer index of `entry` isn't in the table of `context`, appends nothing and
+    /// sets `unknown` to this index, unless `unknown` has an earlier one. Fails if memory
+    /// allocation fails; `self` is unspecified then.
     fn add(
         &mut self,
         context: TableContext<'_>,
@@ -185,8 +186,8 @@ impl EntryItems {
 /// Parses a big-endian 16-bit count and as many RIB entries at the start of `octets` into
 /// announcements of `prefix`, and ignores the octets after them. The routes reuse memory of earlier
 /// records in `pool`. An entry whose peer index isn't in the table of `context` makes no
-/// announcement; the result has the first such index as `unknown`. Fails with `Malformed` if an
-/// entry is missing or malformed, or with `Memory` if memory allocation fails.
+/// announcement; the result has the first such index as `unknown`. Fails with `Malformed` if the
+/// count or an entry is missing or malformed, or with `Memory` if memory allocation fails.
 fn read_entries(
     alloc: Global,
     pool: &mut Pool,

@@ -72,11 +72,11 @@ fn read_rib_route(alloc: Global, raw: RawAttrs<'_>, time: u32) -> Result<Rc<Rout
     Ok(shared)
 }
 
-/// Parses `raw`, the path attributes of a table entry, into the route of `shared`, with the time
-/// `time`, in seconds since 1970. If the route has another owner, `shared` becomes a new route
-/// instead. Fails with `Malformed` if the attributes are malformed, or with `Memory` if memory
-/// allocation fails; then `shared` is unchanged if its route has another owner, and its route is
-/// unspecified if not.
+/// Parses `raw`, the path attributes of a table entry, into the route of `shared`, and sets its
+/// time to `time`, in seconds since 1970. If the route has another owner, sets `shared` to a new
+/// route instead. Fails with `Malformed` if the attributes are malformed, or with `Memory` if
+/// memory allocation fails; then `shared` is unchanged if its route has another owner, and holds an
+/// unspecified route if not.
 #[inline(always)]
 pub(crate) fn fill_or_replace(
     shared: &mut Rc<Route>,

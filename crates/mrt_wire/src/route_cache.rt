@@ -41,11 +41,11 @@ pub(crate) const LARGEST_SLOT: usize = 1344;
 /// with more entries whose routes have other owners allocates memory for the further ones.
 pub(crate) const MOST_SPARES: usize = 64;
 
-/// A ring of routes that take the place of cached routes with other owners, such as an event, since
-/// those can't be overwritten. A cached route with other owners is moved into the ring, and the
-/// route that has been there longest takes its place; while the ring has fewer than [`MOST_SPARES`]
-/// routes, a new one does. By then the other owners of the route from the ring have mostly dropped
-/// it. If they haven't, [`fill_or_replace`] makes a new one.
+/// A ring of up to [`MOST_SPARES`] routes that replace cached routes with other owners, such as an
+/// event, which can't be overwritten. A cached route with other owners goes into the ring. The
+/// oldest route of a full ring takes its place in the cache, or a new one if the ring isn't full.
+/// By then the other owners of the oldest route have mostly dropped it; if not, [`fill_or_replace`]
+/// makes a new one.
 #[derive(Drop)]
 struct ReplacementRoutes {
     /// The routes of the ring, at most [`MOST_SPARES`].
@@ -65,10 +65,10 @@ impl ReplacementRoutes {
         }
     }
 
-    /// Moves the route of `route` into the ring, and puts another into its place: a new one without
-    /// attributes while the ring has fewer than [`MOST_SPARES`] routes, or else the oldest of the
-    /// ring, which leaves it and may have other owners too. Fails if memory allocation fails;
-    /// `route` holds an unspecified route then.
+    /// Moves the route of `route` into the ring, and sets `route` to another one: to a new one
+    /// without attributes while the ring has fewer than [`MOST_SPARES`] routes, or else to the
+    /// oldest route of the ring, which is removed from it and may still have other owners. Fails if
+    /// memory allocation fails; `route` holds an unspecified route then.
     #[inline(always)]
     fn swap_route(&mut self, alloc: Global, route: &mut Rc<Route>) -> Result<(), AllocError> {
         match self.routes.get_mut(self.next) {
@@ -93,9 +93,8 @@ impl ReplacementRoutes {
     }
 }
 
-/// A route of a table entry, with the octets that its attributes were parsed from, so that the next
-/// entry with these octets needn't be parsed. In contracts, its value is the route; the rest
-/// doesn't show.
+/// A route of a table entry, with the octets that its attributes were parsed from, so that a later
+/// entry with equal octets needn't be parsed. In contracts, its value is the route alone.
 #[derive(Drop)]
 struct CachedRoute {
     /// The route, which events may share.
@@ -126,9 +125,8 @@ impl Model for CachedRoute {
 }
 
 impl CachedRoute {
-    /// Returns a cached route that serves no entry yet: it has no attributes, and
-    /// [`CachedRoute::was_read_from`] returns `false`, so that the first entry is parsed. Fails if
-    /// memory allocation fails.
+    /// Returns a cached route without attributes, which the first entry is to be parsed into:
+    /// [`CachedRoute::was_read_from`] returns `false` until then. Fails if memory allocation fails.
     fn new(alloc: Global) -> Result<CachedRoute, AllocError> {
         let route = new_route(alloc)?;
         Ok(CachedRoute {
@@ -154,9 +152,9 @@ impl CachedRoute {
             && self.octets.as_slice() == raw.octets
     }
 
-    /// Sets the time of the route to `time`, in seconds since 1970, and returns `true`. If that
-    /// would change a route that has another owner, returns `false` and leaves the route as it is.
-    /// A route that has this time already needs no change, so that the result is then `true`.
+    /// Sets the time of the route to `time`, in seconds since 1970, unless another owner has the
+    /// route too. Returns `true` if the route has this time afterwards, also if it had it before.
+    /// Returns `false` if the route has another time and another owner; it is unchanged then.
     #[inline(always)]
     fn try_set_time(&mut self, time: u32) -> bool
         ensures time { IsTrue result → self.new.time ≡ time }
@@ -174,12 +172,13 @@ impl CachedRoute {
         }
     }
 
-    /// Parses `raw`, the path attributes of a table entry, into the route, with the time `time`, in
-    /// seconds since 1970, and returns the route. `raw` is parsed even if the route was parsed from
-    /// equal octets: callers ask [`CachedRoute::was_read_from`] first. If the route has other
-    /// owners, one of `spares` or a new one takes its place, and is overwritten instead. Fails with
-    /// `Malformed` if the attributes are malformed, or with `Memory` if memory allocation fails;
-    /// [`CachedRoute::was_read_from`] then returns `false` until a call succeeds.
+    /// Parses `raw`, the path attributes of a table entry, into the route, sets its time to `time`,
+    /// in seconds since 1970, and returns it. Doesn't compare `raw` with the octets that the route
+    /// was parsed from: callers ask [`CachedRoute::was_read_from`] first. A route with other owners
+    /// isn't overwritten: it is moved into the ring `spares`, and a route of the ring or a new one
+    /// takes its place. Fails with `Malformed` if the attributes are malformed, or with `Memory` if
+    /// memory allocation fails; [`CachedRoute::was_read_from`] then returns `false` until a call
+    /// succeeds.
     #[inline(always)]
     fn parse(
         &mut self,
@@ -205,10 +204,11 @@ impl CachedRoute {
     }
 }
 
-/// Returns `true` if the path attributes `octets` begin as routers mostly send them, in the order
-/// of their types (RFC 4271, section 5): with ORIGIN, and then an AS_PATH of one segment, as far as
-/// its length tells, with AS numbers of `width`. Such a route takes bounded memory and is cached.
-/// Returns `false` otherwise, also for an empty AS_PATH.
+/// Returns `true` if the path attributes `octets` begin as most routers send them, with ORIGIN and
+/// then an AS_PATH of one segment, whose AS numbers are of `width` (RFC 4271, section 5). AS_PATH
+/// isn't parsed: its length is compared with the count of AS numbers in its first segment. A route
+/// of this layout takes bounded memory and is cached. Returns `false` otherwise, also for an empty
+/// AS_PATH.
 #[inline(always)]
 fn has_usual_layout(octets: &[u8], width: AsWidth) -> bool {
     let (size, count) = match octets {
@@ -231,9 +231,9 @@ fn has_usual_layout(octets: &[u8], width: AsWidth) -> bool {
 }
 
 /// Returns `true` if the path attributes `octets` begin with MP_REACH_NLRI, with its length in one
-/// octet, and go on in the usual layout ([`has_usual_layout`]): with ORIGIN, and then an AS_PATH of
-/// one segment, with AS numbers of `width`. Some routers send MP_REACH_NLRI first (RFC 7606,
-/// section 5.1). A route of this layout takes bounded memory too, and is cached. Returns `false`
+/// octet, and then as most routers send them: with ORIGIN and an AS_PATH of one segment, whose AS
+/// numbers are of `width` ([`has_usual_layout`]). Some routers send MP_REACH_NLRI first (RFC 7606,
+/// section 5.1). A route of this layout takes bounded memory and is cached. Returns `false`
 /// otherwise.
 #[inline(never)]
 fn has_usual_layout_after_mp_reach(octets: &[u8], width: AsWidth) -> bool {
@@ -245,10 +245,10 @@ fn has_usual_layout_after_mp_reach(octets: &[u8], width: AsWidth) -> bool {
     }
 }
 
-/// The last cached route of each peer of a table, so that a next entry of the peer with the same
-/// path attributes needn't be parsed. Each route is in a slot. The index of the slot is computed
-/// from the peer index for an entry of TABLE_DUMP_V2, and from the peer's address and AS number for
-/// one of TABLE_DUMP. Peers that share a slot overwrite each other's route.
+/// A cache of the last parsed route of each peer of a routing table, so that a later entry of the
+/// peer with the same path attributes needn't be parsed. Each peer has a slot, whose index is
+/// computed from its peer index for TABLE_DUMP_V2, and from its address and AS number for
+/// TABLE_DUMP. Peers with the same slot overwrite each other's route.
 #[derive(Drop)]
 pub(crate) struct RouteCache {
     /// The slots, up to the last that was needed. A slot without a route is `None`.
@@ -295,8 +295,8 @@ impl RouteCache {
     /// Parses `raw`, the path attributes of a table entry, into the slot with the index `slot`, and
     /// returns the route, with the time `time`, in seconds since 1970. Requires that the cache has
     /// a slot with this index. Fails with `Malformed` if the attributes are malformed, or with
-    /// `Memory` if memory allocation fails; the slot then serves no entry until attributes are
-    /// parsed into it.
+    /// `Memory` if memory allocation fails; the slot then has no route that a later entry could get
+    /// unparsed.
     #[inline(always)]
     fn parse_into_slot(
         &mut self,
@@ -321,13 +321,13 @@ impl RouteCache {
     }
 
     /// Returns a route with the path attributes `raw` of a table entry and the time `time`, in
-    /// seconds since 1970. `number` is the peer index of the entry, or a hash of its peer; modulo
-    /// [`PEER_SLOTS`], it is the index of the slot. If the slot's route was parsed from equal
-    /// octets, it is returned if its time is `time`, or if it has no other owner, so that its time
-    /// can be set to `time`. Otherwise `raw` is parsed into the slot. But if `raw` is longer than
-    /// [`LONGEST_CACHED`], or may make a large route, it is parsed into a route that isn't cached.
-    /// Fails with `Malformed` if the attributes are malformed, or with `Memory` if memory
-    /// allocation fails.
+    /// seconds since 1970: the cached one, or else a parsed one. The cached route is in the slot
+    /// with the index `number` modulo [`PEER_SLOTS`], where `number` is the peer index or a hash of
+    /// the peer. It is returned if it was parsed from equal octets, and if its time is `time`, or
+    /// can be set to `time` since it has no other owner. Otherwise `raw` is parsed into the slot,
+    /// or, if it is longer than [`LONGEST_CACHED`] or may make a large route, into a route that
+    /// isn't cached. Fails with `Malformed` if the attributes are malformed, or with `Memory` if
+    /// memory allocation fails.
     #[inline(always)]
     pub(crate) fn get_or_parse(
         &mut self,

@@ -53,8 +53,8 @@ pub(crate) const ELEMENT_OCTETS: u64 = 32;
 /// a larger record needed is freed later.
 const LOWERING_RATE: u64 = 4;
 
-/// Returns the number of octets of memory that are counted for the route: an upper estimate of what
-/// it takes, with the spare capacity of its lists and with its element in the pool's list.
+/// Returns an upper estimate of the number of octets of memory that the route takes in a pool: the
+/// route with the spare capacity of its lists, and its element in the pool's list of routes.
 #[inline]
 fn counted_room(route: &Route) -> u64 {
     max_route_size(route).saturating_add(ELEMENT_OCTETS)
@@ -85,10 +85,10 @@ impl PooledRoute {
     }
 }
 
-/// Routes whose memory later records reuse, in the order in which a record uses them. Each record
-/// begins with the first route again. The octets of memory of routes of table entries are counted,
-/// except for the first few routes if they are small, and their sum is bounded. The bound rises
-/// with a record that needs more, and falls again later.
+/// A list of routes whose memory each record reuses, from the first on, unless they have other
+/// owners. The octets of memory of routes of table entries are counted, except for the first few of
+/// a record if they are small, and their sum is bounded. A record that needs more raises the bound,
+/// which falls again later.
 #[derive(Drop)]
 pub(crate) struct RoutePool {
     /// The routes, at most [`MOST_ROUTES`].
@@ -142,10 +142,11 @@ impl RoutePool {
         }
     }
 
-    /// Begins a record, which may use all routes of the pool, from the first on. `octets` is the
-    /// length of its body. If an earlier record raised the bound of the pool (the octets of memory
-    /// that its counted routes may take) above [`MOST_ROOM`], the bound falls in proportion to the
-    /// length of the last record's body ([`RoutePool::lower_memory_bound`]).
+    /// Prepares the pool for the next record, whose body has `octets` octets and which may use all
+    /// routes of the pool, from the first on. If an earlier record raised the bound of the pool
+    /// (the octets of memory that its counted routes may take together) above [`MOST_ROOM`], lowers
+    /// it in proportion to the length of the previous record's body
+    /// ([`RoutePool::lower_memory_bound`]).
     #[inline(always)]
     pub(crate) fn begin_record(&mut self, octets: usize)
         ensures used { self.new.used ≡ 0 }
@@ -162,11 +163,11 @@ impl RoutePool {
         self.octets = octets as u64;
     }
 
-    /// Lowers the bound of the pool: the octets of memory that its counted routes may take
-    /// together. Routes of table entries are counted, except for the first ones of a record if they
-    /// are small. The bound falls by [`LOWERING_RATE`] octets for each octet of the last record's
-    /// body. It doesn't fall below what that record needed, nor below [`MOST_ROOM`], the bound of a
-    /// new pool. Drops routes, the last of the list first, until the others fit.
+    /// Lowers the bound of the pool, the octets of memory that its counted routes may take
+    /// together, by [`LOWERING_RATE`] octets for each octet of the last record's body. The bound
+    /// doesn't fall below what that record needed, nor below [`MOST_ROOM`], the bound of a new
+    /// pool. Drops routes, the last of the list first, until the counted octets of the others are
+    /// within the bound.
     #[inline(never)]
     fn lower_memory_bound(&mut self)
         ensures used { self.new.used ≡ self.old.used }
@@ -183,10 +184,10 @@ impl RoutePool {
         self.most = most;
     }
 
-    /// Drops routes that the current record hasn't used yet, the last of the list first, until the
-    /// octets of memory counted for the others are at most `most_octets`, or until only used ones
-    /// are left. `room`, the sum of the counted octets, is at most `most_octets` afterwards.
-    /// Callers pass at least what is counted for the used routes.
+    /// Drops routes that the current record hasn't used yet, the last of the list first, until at
+    /// most `most_octets` octets of memory are counted for the others, or until only used ones are
+    /// left. Then lowers `room`, the sum of the counted octets, to `most_octets` if it is greater;
+    /// that changes nothing if callers pass at least what is counted for the used routes.
     #[inline(never)]
     fn drop_unused(&mut self, most_octets: u64)
         ensures used { self.new.used ≡ self.old.used }
@@ -204,9 +205,9 @@ impl RoutePool {
         self.routes.shrink_to_fit();
     }
 
-    /// Drops the pool's own `Rc`s of routes that have other owners, if the last record needed more
-    /// octets than [`MOST_ROOM`]. So the memory of these routes is freed as soon as their other
-    /// owners drop them, and isn't kept for reuse.
+    /// Drops the pool's own `Rc`s of routes that have other owners, if the counted routes of the
+    /// last record took more than [`MOST_ROOM`] octets of memory. So the memory of these routes is
+    /// freed as soon as their other owners drop them, and isn't kept for reuse.
     #[inline(always)]
     pub(crate) fn drop_shared_after_large_record(&mut self)
         ensures most { self.new.most ≡ self.old.most }
@@ -256,11 +257,12 @@ impl RoutePool {
         Ok(index)
     }
 
-    /// Counts the octets of memory that the route at `index` takes, instead of those counted for it
-    /// before, and adds them to those that the current record needs. Raises the bound of the pool
-    /// to what the record needs, if that is more. If the octets counted for all routes would exceed
-    /// the bound, drops routes that the record hasn't used, the last of the list first, until they
-    /// don't. Requires that the pool has a route at `index`.
+    /// Counts the octets of memory that the route at `index` takes, in place of an earlier count
+    /// for it, and adds them to those that the current record needs. Raises the bound of the pool
+    /// (the octets that its counted routes may take together) to what the record needs, if that is
+    /// more. If all counts together would exceed the bound, drops routes that the record hasn't
+    /// used, the last of the list first, until they don't. Requires that the pool has a route at
+    /// `index`.
     #[inline(never)]
     fn count_memory(&mut self, index: usize)
         requires { index < vec_len self.old.routes }
@@ -280,10 +282,10 @@ impl RoutePool {
     }
 
     /// Counts the octets of memory of the route at `index` towards the bound of the pool
-    /// ([`RoutePool::count_memory`]), unless it is among the first and small: `index` is below
-    /// [`FIRST_ROUTES`], and `octets` is at most [`LONGEST_FIRST`]. `octets` is the number of
-    /// octets that its attributes were parsed from. A route that is counted already is always
-    /// counted anew. Requires that the pool has a route at `index`.
+    /// ([`RoutePool::count_memory`]), unless the route is among the first, small, and not counted
+    /// yet: `index` is below [`FIRST_ROUTES`], and `octets`, the number of octets that its
+    /// attributes were parsed from, is at most [`LONGEST_FIRST`]. Requires that the pool has a
+    /// route at `index`.
     #[inline(always)]
     fn count_memory_if_needed(&mut self, index: usize, octets: usize)
         requires { index < vec_len self.old.routes }

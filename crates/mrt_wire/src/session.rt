@@ -92,11 +92,12 @@ fn fill_session_peer<'a>(peer: &mut Peer, width: AsWidth, octets: &'a [u8]) -> O
     Some(rest)
 }
 
-/// Parses the session fields and the BGP message of a BGP4MP record into the withdrawals and
-/// announcements of the message if it is an UPDATE, or else into no items (RFC 6396, sections 4.4.2
-/// and 4.4.3). AS numbers have two or four octets, as `width` states. `seconds`, in seconds since
-/// 1970, becomes the time of the routes, which reuse memory of earlier records in `pool`. Fails
-/// with `Malformed` if the octets have another form, or with `Memory` if memory allocation fails.
+/// Parses the session fields (AS numbers and addresses) and the BGP message of a BGP4MP record into
+/// the withdrawals and announcements of the message if it is an UPDATE, or else into no items (RFC
+/// 6396, sections 4.4.2 and 4.4.3). AS numbers have two or four octets, as `width` states.
+/// `seconds`, in seconds since 1970, becomes the time of the routes, which reuse memory of earlier
+/// records in `pool`. Fails with `Malformed` if the octets have another form, or with `Memory` if
+/// memory allocation fails.
 #[inline(never)]
 fn read_peer_message(
     alloc: Global,
@@ -140,10 +141,10 @@ fn split_micros(timed: bool, octets: &[u8]) -> Option<ValueAndRest<'_, Option<u3
     })
 }
 
-/// Parses the session fields and the two states of a state change into one item, and ignores the
-/// octets after them (RFC 6396, sections 4.4.1 and 4.4.4). AS numbers have two or four octets, as
-/// `width` states. Fails with `Malformed` if a field is missing or the address family is unknown,
-/// or with `Memory` if memory allocation fails.
+/// Parses the session fields (AS numbers and addresses) and the two states of a state change into
+/// one item, and ignores the octets after them (RFC 6396, sections 4.4.1 and 4.4.4). AS numbers
+/// have two or four octets, as `width` states. Fails with `Malformed` if a field is missing or the
+/// address family is unknown, or with `Memory` if memory allocation fails.
 fn read_state_change(alloc: Global, width: AsWidth, octets: &[u8]) -> Result<Items, WireFault>
     ensures { (seconds : ℕ) → ParsesOrFails (SpellsMapped (SpellsSessionContent SessionKind.StateChange width)
         (session_items seconds)) octets.now result }
@@ -156,11 +157,11 @@ fn read_state_change(alloc: Global, width: AsWidth, octets: &[u8]) -> Result<Ite
     Ok(Items::from_vec(items))
 }
 
-/// Parses the body of a BGP4MP record, or that of a BGP4MP_ET record after its microseconds, into
-/// items: a state change, or the withdrawals and announcements of an UPDATE. `form` states which of
-/// the two it is, and the width of AS numbers. `seconds`, in seconds since 1970, becomes the time
-/// of the routes, which reuse memory of earlier records in `pool`. Fails with `Malformed` if the
-/// octets have another form, or with `Memory` if memory allocation fails.
+/// Parses the body of a BGP4MP record, or the octets after the microseconds in the body of a
+/// BGP4MP_ET record, into items: a state change, or the withdrawals and announcements of an UPDATE.
+/// `form` states which of the two it is, and the width of AS numbers. `seconds`, in seconds since
+/// 1970, becomes the time of the routes, which reuse memory of earlier records in `pool`. Fails
+/// with `Malformed` if the octets have another form, or with `Memory` if memory allocation fails.
 #[inline(always)]
 fn read_session_content(
     alloc: Global,

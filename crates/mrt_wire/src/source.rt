@@ -22,9 +22,9 @@ use std::marker::Model;
 
 /// A reader of the events in an input of MRT records (RFC 6396). It doesn't own the input: the
 /// caller passes the same one to each call of [`Source::next`]. In contracts, its value is a
-/// `SourceState`: the peers of the last peer index table, the number of records, the offset in the
-/// input and the limit of it, both in octets, which time routes of tables get, and the [`Phase`]:
-/// whether it reads, has ended, or has failed. Its other fields don't show.
+/// `SourceState`: the peers of the last peer index table, the number of records read, the offset in
+/// the input and its limit, both in octets, the choice of the time that routes of tables get
+/// ([`Stamp`]), and the [`Phase`]: reading, at the end, or failed.
 #[derive(Drop)]
 pub struct Source {
     alloc: Global,
@@ -93,8 +93,8 @@ impl Source {
         self.frames.taken()
     }
 
-    /// Returns `true` if the next call of [`Source::next`] may read from the input, so if the
-    /// source is in phase [`Phase::Reading`]. Returns `false` once it has met the end or has
+    /// Returns `true` if the source is in phase [`Phase::Reading`], in which the next call of
+    /// [`Source::next`] reads from the input. Returns `false` once it has met the end or has
     /// failed.
     #[inline]
     pub fn is_reading(&self) -> bool
@@ -158,10 +158,10 @@ impl Source {
     }
 
     /// Reads the next record from `input`, and returns its event or its fault, or [`Next::End`] at
-    /// the end of the input. The caller, [`Source::next`], calls it in phase `Reading` only. Fails
-    /// with `Read` if the input fails, with `InputTooLong` if the limit given to [`Source::new`] is
-    /// met, or with `Memory` if memory allocation fails; the phase is still `Reading` then, and the
-    /// caller sets it.
+    /// the end of the input. To be called in phase `Reading` only. Fails with `Read` if the input
+    /// fails, with `InputTooLong` if the limit given to [`Source::new`] is met, or with `Memory` if
+    /// memory allocation fails; the phase is still `Reading` then, and the caller,
+    /// [`Source::next`], sets it to `Spent`.
     #[inline(always)]
     fn read<I: Input>(&mut self, input: &mut I) -> Result<Next, SourceFault>
         ensures next { IsNextCall self.old (spent_state self.new result)

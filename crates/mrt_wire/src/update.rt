@@ -81,8 +81,8 @@ fn add_announcements(
     Ok(())
 }
 
-/// Returns the number of prefixes that `parts` withdraws and announces together, which is that of
-/// the items to be made, or `usize::MAX` if there are more.
+/// Returns the number of prefixes that `parts` withdraws and announces together, or `usize::MAX` if
+/// there are more. An event has one item for each of them.
 #[inline]
 fn prefix_count(parts: &UpdateBuffer) -> usize {
     let withdrawn = parts.withdrawn.as_slice().len();

@@ -9,11 +9,11 @@ pub record SpellsPair {A B : Type 0} (First : A → List ℕ → Type 0) (Second
   pub first : Begins First values.0 rest octets
   pub second : Second values.0 values.1 rest
 
--- for some value that isn't named, the octets are a spelling of it by `First`, and then one of `value` by
--- `Second`
+-- the octets spell some value, which may be any, by `First`, and then `value` by `Second`, a relation that
+-- may depend on the first value
 abbrev pub SpellsAfter : {A B : Type 0} → (A → List ℕ → Type 0) → (A → B → List ℕ → Type 0) → B → List ℕ → Type 0
 SpellsAfter {A} First Second value octets = (first : A) × SpellsPair First Second (first, value) octets
 
--- the octets begin with a spelling of the value, and any octets may follow it
+-- `octets` begin with a spelling of `value` by `Spells`; any octets may follow it, or none
 abbrev pub SpellsFront : {A : Type 0} → (A → List ℕ → Type 0) → A → List ℕ → Type 0
 SpellsFront Spells value octets = (more : List ℕ) × Begins Spells value more octets

@@ -3,12 +3,12 @@
 use Rattle.std.specs.Prelude.{◌≡◌, ℕ, List, []}
 use Rattle.octet_forms.specs.Sequences.{Begins}
 
--- the octets begin with a spelling of no value
+-- the octets don't begin with a spelling, by `Spells`, of any value
 abbrev pub BeginsWithNone : {A : Type 0} → (A → List ℕ → Type 0) → List ℕ → Type 0
 BeginsWithNone {A} Spells octets = (value : A) (rest : List ℕ) → Begins Spells value rest octets → ⊥
 
--- from octets that begin with a spelling, the value and the octets after the spelling can be told: if they
--- begin with spellings of `a`, which leaves `x`, and of `b`, which leaves `y`, both are equal
+-- octets begin with a spelling of at most one value, and with one spelling of it: if they are a spelling of
+-- `a` and then `x`, and also a spelling of `b` and then `y`, then `a` is `b`, and `x` is `y`
 abbrev pub HasOneFront : {A : Type 0} → (A → List ℕ → Type 0) → Type 0
 HasOneFront {A} Spells = (a b : A) (x y octets : List ℕ) → Begins Spells a x octets → Begins Spells b y octets → (a ≡ b) × (x ≡ y)
 
@@ -17,6 +17,6 @@ pub record IsSelfDelimiting {A : Type 0} (Spells : A → List ℕ → Type 0) : 
   pub some : (a : A) → Spells a [] → ⊥
   pub same : HasOneFront Spells
 
--- no octets (of any type `B`) spell two values
+-- no octets spell two different values by `Spells`; `B` is the type of octets, such as lists of numbers
 abbrev pub IsUnambiguous : {A B : Type 0} → (A → B → Type 0) → Type 0
 IsUnambiguous {A} {B} Spells = (value other : A) (octets : B) → Spells value octets → Spells other octets → value ≡ other

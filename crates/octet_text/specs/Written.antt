@@ -15,12 +15,13 @@ pub record IsWritten (old : List ℕ) (at : ℕ) (text new : List ℕ) (end : �
 abbrev pub ended_words : ℕ → List (List ℕ) → List ℕ
 ended_words separator words = flat_map (λ word. word ++ separator ∷ []) words
 
--- the last three decimal digits of a number in ASCII, with leading zeros; all of it if it is below 1,000
+-- the last three decimal digits of `n` in ASCII: if `n` is below 100, with leading zeros, and if it is above
+-- 999, without its higher digits
 abbrev pub three_digits : ℕ → List ℕ
 three_digits n = (48 + n / 100 % 10) ∷ (48 + n / 10 % 10) ∷ (48 + n % 10) ∷ []
 
--- the first three of the digits, padded on the right with spaces to three octets, and the ASCII digit of
--- their count, which must be below 10
+-- four octets: the first three of `digits`, with spaces after them if there are fewer, and then, as a digit
+-- in ASCII, how many `digits` has; there must be fewer than 10
 abbrev pub left_aligned_digits : List ℕ → List ℕ
 left_aligned_digits digits = take 3 (digits ++ SPACE ∷ SPACE ∷ SPACE ∷ []) ++ (48 + length digits) ∷ []
 

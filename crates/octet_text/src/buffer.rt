@@ -26,8 +26,8 @@ const MOST_KEPT: usize = 1 << 18;
 /// copied too, as far as they are needed to fill the number, but aren't in the text.
 const CHUNK: usize = 32;
 
-/// A growable string of octets, not necessarily UTF-8. Unlike `Vec<u8>`, it can write numbers right
-/// into its spare octets. Each method that appends returns `AllocError` if memory allocation fails.
+/// A growable string of octets, not necessarily UTF-8. Unlike `Vec<u8>`, it formats numbers right
+/// in its spare capacity. Each method that appends returns `AllocError` if memory allocation fails.
 /// In contracts, its value is the list of its octets; the capacity doesn't show.
 #[derive(Drop)]
 pub struct Text {
@@ -47,7 +47,8 @@ impl Model for Text {
 }
 
 impl Text {
-    /// Returns an empty text, without allocating memory. Appends allocate it with `alloc`.
+    /// Returns an empty text, without allocating memory. It allocates with `alloc` when octets are
+    /// appended.
     pub fn new(alloc: Global) -> Self
         ensures { result ≡ [] }
     {
@@ -206,9 +207,10 @@ impl Text {
         Ok(())
     }
 
-    /// Appends each of `numbers` in the format `W`, and the octet `end` after each, the last too:
-    /// `65000:1,no-export,` for communities and a comma. Appends nothing if `numbers` is empty.
-    /// Returns `AllocError` if memory allocation fails; the text is unchanged then.
+    /// Appends each of `numbers` in the format `W`, a [`WordFormat`], and the octet `end` after
+    /// each, the last too: `65000:1,no-export,` for communities and a comma. Appends nothing if
+    /// `numbers` is empty. Returns `AllocError` if memory allocation fails; the text is unchanged
+    /// then.
     #[inline]
     pub fn put_ended_words<W: WordFormat>(
         &mut self,
@@ -315,10 +317,10 @@ pub fn put_decimal(number: u64, text: &mut Vec<u8>) -> Result<(), AllocError>
     text.extend_from_slice(Buffer::new().format(number).as_bytes())
 }
 
-/// Ensures that `buffer` has at least `room` octets after its first `len`, so that they can be
-/// overwritten there, and resizes it if it has fewer. Its first `len` octets, which are the text,
-/// are unchanged, on error too; those after them are unspecified. Requires that `buffer` has at
-/// least `len` octets. Fails if memory allocation fails.
+/// Ensures that `buffer` has at least `room` octets after its first `len`, for text to be written
+/// there, and resizes it if it has fewer. Its first `len` octets, which are the text so far, are
+/// unchanged, on error too; those after them are unspecified. Requires that `buffer` has at least
+/// `len` octets. Fails if memory allocation fails.
 #[inline(always)]
 fn make_room(buffer: &mut Vec<u8>, len: usize, room: usize) -> Result<(), AllocError>
     requires { len ≤ length buffer.old.items }
@@ -355,8 +357,8 @@ fn make_room_for_each(
     Ok(())
 }
 
-/// Resizes `buffer` to `len + room` octets, or to `len + LEAST_ROOM` if that is more. Its first
-/// `len` octets are unchanged, on error too; those after them are unspecified. Requires that
+/// Resizes `buffer` to `len + room` octets, or to `len + 512` ([`LEAST_ROOM`]) if that is more. Its
+/// first `len` octets are unchanged, on error too; those after them are unspecified. Requires that
 /// `buffer` has at least `len` octets. Fails if memory allocation fails, and if the size exceeds
 /// `usize::MAX`.
 #[cold]
@@ -387,9 +389,9 @@ fn copy_within(octets: &mut [u8], start: usize, end: usize, at: usize)
 }
 
 /// Writes the first `len` octets of `octets` into `text` at offset `at`, and returns the offset of
-/// the octet after them. All of `octets` is copied, since a fixed number of octets is copied
-/// faster; what `text` has after the first `len` is then unspecified. Requires that `octets` has at
-/// least `len` octets, and that `text` has room for all of `octets` from `at` on.
+/// the octet after them. Requires that `octets` has at least `len` octets, and that `text` has room
+/// for all of `octets` from `at` on: all are copied, since a fixed number is copied faster. The
+/// octets of `text` from the returned offset on are then unspecified.
 #[inline(always)]
 fn put_first_octets(octets: &[u8], len: usize, text: &mut [u8], at: usize) -> usize
     requires within { len ≤ length octets.now }
@@ -402,8 +404,8 @@ fn put_first_octets(octets: &[u8], len: usize, text: &mut [u8], at: usize) -> us
 
 /// Writes a copy of a part of `octets`, from index `start` to before index `end`, into the same
 /// slice at offset `at`, and returns the offset of the octet after it. Requires that
-/// `start <= end <= at`, and that `octets` has room for the part, and for [`CHUNK`] octets, from
-/// `at` on. The octets after the copy are then unspecified.
+/// `start <= end <= at`, and that `octets` has room for the part, and for 32 octets ([`CHUNK`]),
+/// from `at` on. The octets after the copy are then unspecified.
 #[inline(always)]
 fn repeat_part(octets: &mut [u8], start: usize, end: usize, at: usize) -> usize
     requires order { (start ≤ end) × (end ≤ at) }
@@ -419,10 +421,10 @@ fn repeat_part(octets: &mut [u8], start: usize, end: usize, at: usize) -> usize
 }
 
 /// Writes a copy of a part of `octets`, from index `start` to before index `end`, into the same
-/// slice at offset `at`, and returns the offset of the octet after it. Copies [`CHUNK`] octets in
-/// any case, a fixed number, which takes less time; the octets after the copy are then unspecified.
-/// Requires that the part is at most [`CHUNK`] octets long and begins at least as many before `at`,
-/// and that `octets` has room for [`CHUNK`] octets from `at` on.
+/// slice at offset `at`, and returns the offset of the octet after it. Requires that
+/// `start <= end`, that the part has at most 32 octets ([`CHUNK`]), that `start + CHUNK <= at`, and
+/// that `octets` has room for [`CHUNK`] octets from `at` on: so many are copied in any case, since
+/// a fixed number is copied faster. The octets after the copy are then unspecified.
 #[inline(always)]
 fn repeat_short_part(octets: &mut [u8], start: usize, end: usize, at: usize) -> usize
     requires order { (start ≤ end) × (end ≤ start + CHUNK) × (start + CHUNK ≤ at) }

@@ -31,7 +31,8 @@ pub const HEX_PAIR: usize = 2;
 /// digits that have fewer than three of them.
 pub const SPACE: u8 = b' ';
 
-/// The ASCII code of the digit 0, which is subtracted from that of another digit to get its value.
+/// The ASCII code of the digit 0, which is subtracted from the code of another digit to get its
+/// value.
 const ZERO: usize = b'0' as usize;
 
 /// One thousand. Numbers below it have at most three digits.
@@ -197,8 +198,8 @@ pub trait WriteTextAt {
     const ROOM: usize;
 
     /// Writes the value's text into `text` at offset `at`, and returns the offset of the octet
-    /// after it. Requires that `text` has `ROOM` octets from `at` on, of which those after the
-    /// value's text are then unspecified.
+    /// after it. Requires that `text` has [`WriteTextAt::ROOM`] octets from `at` on, of which those
+    /// after the value's text are then unspecified.
     fn write_text_at(&self, text: &mut [u8], at: usize) -> usize
         requires { at + ROOM ≤ length text.old }
         ensures { IsWritten text.old at (shown self.now) text.new result };
@@ -208,8 +209,8 @@ pub trait WriteTextAt {
 /// many as two decimals, each followed by an octet.
 pub const WORD_ROOM: usize = 2 * ENDED_ROOM;
 
-/// A format of 32-bit numbers as text, such as that of BGP communities. The text of one number is
-/// its word. A type that stands for a format is the type parameter of
+/// A format of 32-bit numbers as text, such as the format of BGP communities. The text of one
+/// number is its word. A type that stands for a format is the type parameter of
 /// [`Text::put_ended_words`](crate::Text::put_ended_words).
 pub trait WordFormat {
     /// In contracts, the word of a number, as octets.

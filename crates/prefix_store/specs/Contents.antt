@@ -15,11 +15,13 @@ use Rattle.std.specs.FinSet as set
 
 -- ---- the prefixes that compact forms represent
 
--- the IPv4 prefix that a value of `V4Prefix` represents
+-- the prefix that `p`, a compact form of an IPv4 prefix, represents: the first `p.len` bits of its
+-- octets
 abbrev pub v4_network : V4Prefix → Network
 v4_network p = network_of (record { family = V4; bits = bits_of_octets p.octets }) p.len
 
--- the IPv6 prefix that a `Prefix` represents: itself
+-- the prefix that a key of an IPv6 tree represents: `n` itself, since IPv6 prefixes have no compact
+-- form
 abbrev pub v6_network : Network → Network
 v6_network n = n
 
@@ -30,7 +32,8 @@ pub record Contents (R : Type 0) : Type 0 where
   pub keys : Keys
   pub routes : Routes R
 
--- a code for the contents of a store, given a code for its routes
+-- a one-to-one encoding (`Coded`) of a store's contents as the pair of its set of keys and its map
+-- of routes, made from `route`, an encoding of routes
 abbrev pub coded_contents : {R : Type 0} → Coded R → Coded (Contents R)
 coded_contents {R} route =
     code_by (Keys × Routes R) (coded× (set.code coded_network) (finite.code coded_network route))

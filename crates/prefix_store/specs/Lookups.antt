@@ -7,9 +7,9 @@ use Rattle.std.specs.Ordering.{is_lt}
 use Rattle.ip_prefix.specs.Network.{Network, contains, Address, network_cmp}
 use Rattle.prefix_store.specs.Stored.{Routes}
 
--- `Some (n, r)`: n contains the address, r is the route at n, and no longer prefix that contains
--- the address has a route; `None`: no prefix that contains the address has a route. The routes are
--- given as a function of the prefix.
+-- the last argument is the longest match of the address, where `route` gives the route, if any, at
+-- each prefix: `Some (n, r)` if the prefix n contains the address, has the route r, and no longer
+-- prefix with a route contains it; `None` if no prefix with a route contains it
 abbrev pub IsLongestMatchOf : {R : Type 0} → (Network → Option R) → Address → Option (Network × R) → Type 0
 IsLongestMatchOf route address None = (n : Network) → contains n address ≡ true → route n ≡ None
 IsLongestMatchOf route address (Some found) =
@@ -17,8 +17,9 @@ IsLongestMatchOf route address (Some found) =
     × (route found.0 ≡ Some found.1)
     × ((n : Network) → contains n address ≡ true → is_some (route n) ≡ true → length n.bits ≤ length found.0.bits)
 
--- `Some (n, r)`: of the prefixes that have a route in the map and contain the address, n is the
--- longest, and r is its route; `None`: there is no such prefix
+-- the last argument is the longest match of the address in the map: `Some (n, r)` if n is the
+-- longest of the prefixes that have a route in the map and contain the address, and r is its route;
+-- `None` if there is no such prefix
 abbrev pub IsLongestMatch : {R : Type 0} → Routes R → Address → Option (Network × R) → Type 0
 IsLongestMatch routes = IsLongestMatchOf (get routes)
 

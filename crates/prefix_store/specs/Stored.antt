@@ -24,6 +24,7 @@ abbrev pub put : {K R : Type 0} {cmp : K → K → Ordering} → FinMap cmp R �
 put values key None = remove values key
 put values key (Some new) = insert values key new
 
--- the number that a count of this size returns: the size, or GREATEST_COUNT if that is less
+-- what a method that counts `size` things returns: `size`, or GREATEST_COUNT (`u64::MAX`) if there
+-- are more
 abbrev pub saturated_count : ℕ → ℕ
 saturated_count size = min size GREATEST_COUNT

@@ -12,7 +12,8 @@ ghost use Rattle.prefix_store.specs.Contents.{first_above, routes_above};
 ghost use Rattle.prefix_store.specs.Lookups.{IsLongestMatch};
 
 /// States that [`GREATEST_COUNT`](crate::GREATEST_COUNT) is `u64::MAX`. A store that has more keys
-/// or routes than this number returns this number as their count.
+/// (prefixes with memory for a route) or routes than this number returns this number as their
+/// count.
 pub fn law_greatest_count_is_u64_max()
     ensures { GREATEST_COUNT + 1 ≡ 2 ^ 64 }
 {}
@@ -36,11 +37,11 @@ pub fn law_one_longest<R>()
         → IsLongestMatch routes address one → IsLongestMatch routes address other → one ≡ other }
 {}
 
-/// States that a walk over a store, which goes from the least prefix with a route to the next
-/// greater one, and so on, meets every route:
+/// States that a walk over a store, from the least prefix with a route to the next greater one and
+/// so on, meets every route once:
 /// - Without a prefix to start after, the routes to come are all routes.
-/// - After a route was met, the routes to come are those at greater prefixes.
-/// - If no next route is found, there are no more routes.
+/// - If a next route is found, the routes to come are this one, and then those at greater prefixes.
+/// - If no next route is found, no routes are to come.
 /// - The prefixes ascend, so that no route is met twice.
 pub fn law_walk<R>()
     ensures all { (routes : Routes R)

@@ -21,7 +21,7 @@ pub trait PackedPrefix: Copy + Drop {
     /// The address family of all prefixes of this type.
     ghost family: { Family };
 
-    /// Returns the prefix that this value represents as a [`Prefix`].
+    /// Converts this value to the [`Prefix`] that it represents.
     fn unpack(&self) -> Prefix
         ensures { result ≡ network self.now };
 

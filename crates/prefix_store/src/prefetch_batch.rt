@@ -10,8 +10,8 @@ use std::mem;
 /// the next batch.
 pub const PREFETCH_BATCH_LEN: u8 = 8;
 
-/// One of the eight slots of a [`PrefetchBatch`]: a prefix whose memory in a store is to be
-/// prefetched, or nothing.
+/// One of the eight slots of a [`PrefetchBatch`]: nothing, or a prefix and the store whose memory
+/// for this prefix is to be prefetched (read early, so that it is in the processor's cache).
 #[derive(Drop)]
 pub enum PrefetchTarget<'a, S> {
     /// A slot without a prefix.
@@ -20,10 +20,10 @@ pub enum PrefetchTarget<'a, S> {
     At(&'a S, Prefix),
 }
 
-/// A batch of up to eight prefixes, each with the store that it will be looked up in, whose memory
-/// is read together beforehand ([`PrefixStore::prefetch`](crate::PrefixStore::prefetch)). The slots
-/// are in order: `first` has the prefix that was added last, and those after the oldest prefix are
-/// `Unused`.
+/// A batch of up to eight prefixes, each with the store that it will be looked up in.
+/// [`PrefixStore::prefetch`](crate::PrefixStore::prefetch) reads the memory for all of them
+/// together beforehand. `first` has the prefix that was added last, `second` the one before, and so
+/// on; the slots after the oldest prefix are `Unused`.
 #[derive(Drop)]
 pub struct PrefetchBatch<'a, S> {
     pub first: PrefetchTarget<'a, S>,
@@ -53,10 +53,10 @@ impl<'a, S> PrefetchBatch<'a, S> {
         }
     }
 
-    /// Adds `prefix`, which is to be prefetched in `store`, in the slot `first`, and moves the
-    /// others on by one slot. Returns `true` if the batch is full then, with [`PREFETCH_BATCH_LEN`]
-    /// prefixes. A full batch is to be taken out ([`PrefetchBatch::take_all`]) before the next
-    /// call, which would drop its oldest prefix.
+    /// Adds `prefix`, whose memory in `store` is to be prefetched, as `first`, and moves the other
+    /// prefixes on by one slot. Returns `true` if the batch is full then, with
+    /// [`PREFETCH_BATCH_LEN`] prefixes, and `false` if it has room for more. Take a full batch out
+    /// ([`PrefetchBatch::take_all`]) before the next call, which would drop its oldest prefix.
     pub fn add(&mut self, store: &'a S, prefix: Prefix) -> bool {
         let second = mem::replace(&mut self.first, PrefetchTarget::At(store, prefix));
         let third = mem::replace(&mut self.second, second);

@@ -33,9 +33,10 @@ pub trait PrefixStore<R: Drop>: Sized + Drop {
         ensures keys { keys result ≡ set.empty }
         ensures routes { routes result ≡ finite.empty };
 
-    /// Makes `prefix` a key, a prefix with memory for a route, but puts no route there. Returns
-    /// `true` if `prefix` wasn't a key before, and `false` if nothing changed. Fails if memory
-    /// allocation fails, which happens for new keys only; the store is unchanged then.
+    /// Makes `prefix` a key, a prefix with memory for a route, if it isn't one, and leaves all
+    /// routes as they are: a new key has none. Returns `true` if `prefix` wasn't a key before, and
+    /// `false` if nothing changed. Fails if memory allocation fails, which happens for new keys
+    /// only; the store is unchanged then.
     fn ensure(&mut self, prefix: Prefix) -> Result<bool, AllocError>
         ensures keys { OnOk result (keys self.new ≡ set.insert (keys self.old) prefix) }
         ensures made { IfOk result (λ made. made ≡ not (set.contains (keys self.old) prefix)) }
@@ -90,25 +91,25 @@ pub trait PrefixStore<R: Drop>: Sized + Drop {
     fn get(&self, prefix: &Prefix) -> Option<&R>
         ensures { option_copied result ≡ finite.get (routes self.now) prefix.now };
 
-    /// Returns the route at the longest prefix that contains `addr`, of those that have a route,
-    /// with that prefix. Returns `None` if no prefix with a route contains it. By this route a
-    /// router forwards (RFC 1812, section 5.2.4.3).
+    /// Returns the longest prefix that has a route and contains `addr`, with its route. Returns
+    /// `None` if no prefix with a route contains it. By this route a router forwards (RFC 1812,
+    /// section 5.2.4.3).
     fn longest(&self, addr: &Addr) -> Option<(Prefix, &R)>
         ensures { IsLongestMatch (routes self.now) addr.now (option_map (λ p. (p.0, p.1.now)) result) };
 
-    /// Returns the route at the least prefix that is greater than `prefix`, with that prefix, or at
-    /// the least prefix of all if `prefix` is `None`. Returns `None` if there is no such route.
+    /// Returns the least prefix greater than `prefix` that has a route, with its route, or the
+    /// least of all with a route if `prefix` is `None`. Returns `None` if there is no such prefix.
     /// Prefixes are ordered by family (IPv4 first), address and length. `prefix` needn't be in the
     /// store, so a walk over all routes needs no state but the last prefix.
     fn after(&self, prefix: Option<&Prefix>) -> Option<(Prefix, &R)>
         ensures { option_map (λ p. (p.0, p.1.now)) result ≡
             slice_get (above (option_copied prefix.entry) (finite.entries (routes self.now))) 0 };
 
-    /// Replaces the elements of `found` by the routes at the least prefixes that are greater than
-    /// `prefix`, each with its prefix, in ascending order (by family, address and length). If
+    /// Replaces the elements of `found` by the next prefixes after `prefix` that have a route, each
+    /// with its route, in ascending order (by family, IPv4 first, then address and length). If
     /// `prefix` is `None`, starts at the least prefix that has a route. `prefix` needn't be in the
-    /// store. Fills `found` up to its capacity; if it isn't full then, there are no more routes. A
-    /// walk so needs one call for many routes. Allocates no memory.
+    /// store. Fills `found` up to its capacity; if it isn't full then, there are no more routes.
+    /// Allocates no memory.
     fn next_routes<'a>(&'a self, prefix: Option<&Prefix>, found: &mut Vec<(Prefix, &'a R)>)
         ensures found { dereferenced found.new.items ≡ take (vec_capacity found.old)
             (above (option_copied prefix.entry) (finite.entries (routes self.now))) }
@@ -159,9 +160,9 @@ pub trait PrefixStore<R: Drop>: Sized + Drop {
         0
     }
 
-    /// Returns `true` if dropping a store of this type frees no memory, so that the operating
-    /// system takes it when the program ends. A program that ends then needn't free what it holds
-    /// beside such stores. The provided method returns `false`.
+    /// Returns `true` if dropping a store of this type doesn't free its memory, which the operating
+    /// system takes when the program ends. A program that ends then needn't free what else it holds
+    /// either. Returns `false` if dropping frees it, as the provided method does.
     fn leaks_on_drop() -> bool {
         false
     }

@@ -9,14 +9,14 @@ abbrev pub tables_along : List Event → List Event → List Routes
 tables_along past [] = table past ∷ []
 tables_along past (event ∷ events) = table past ∷ tables_along (past ++ event ∷ []) events
 
--- for each of `events`, in order, the pairs that it names (whose routes it sets or clears), played after
--- `past`, the first list, and the events before it
+-- for each of `events`, in order, which follow the events `past`, the pairs that it names: those whose route
+-- it sets or clears and that have a route before or after it
 abbrev pub steps_along : List Event → List Event → List Pairs
 steps_along past [] = []
 steps_along past (event ∷ events) = named_pairs (table past) event ∷ steps_along (past ++ event ∷ []) events
 
--- the pairs that the event at index `i` of `history` names (whose routes it sets or clears), played after the
--- events before it; `None` if there is no such index
+-- the pairs that the event at index `i` of `history` names, played after the events before it: those whose
+-- route it sets or clears and that have one before or after it; `None` if there is no such index
 abbrev pub named_pairs_at : List Event → ℕ → Option Pairs
 named_pairs_at history i = option_map (named_pairs (table (take i history))) (slice_get history i)
 
@@ -29,7 +29,7 @@ pub record StandsFor (t : Timeline) (history : List Event) : Type 0 where
   pub tables : t.tables ≡ tables_along (take t.floor history) (drop t.floor history)
   pub steps : t.steps ≡ steps_along (take t.floor history) (drop t.floor history)
 
--- a call of a player
+-- a call of a method of a player, with its arguments and, for `play`, whether it succeeds
 pub data Call : Type 0 where
   -- `play` of this event, which succeeds
   Play : Event → Call
@@ -52,7 +52,8 @@ play_undo_calls events = map Play events ++ replicate (length events) Undo
 abbrev pub play_undo_redo_calls : List Event → List Call
 play_undo_redo_calls events = map Play events ++ (replicate (length events) Undo ++ replicate (length events) Redo)
 
--- a player after one call
+-- player `t` after a call of `play`, `undo`, `redo` or `forget`; a `play` that fails, and a call that only
+-- looks, change nothing
 abbrev pub after_call : Timeline → Call → Timeline
 after_call t (Play event) = after_play t event
 after_call t Undo = after_undo t
@@ -60,8 +61,8 @@ after_call t Redo = after_redo t
 after_call t (Forget keep) = after_forget t keep
 after_call t other = t
 
--- the history that a player stands for after a call, given its cursor and its history before: playing drops
--- the events after the cursor and appends one
+-- the history, the events that a player has played, after a call, given its cursor and its history before: a
+-- `play` that succeeds drops the events after the cursor and appends one; other calls change nothing
 abbrev pub history_after : ℕ → List Event → Call → List Event
 history_after cursor history (Play event) = take cursor history ++ event ∷ []
 history_after cursor history other = history
@@ -71,7 +72,8 @@ abbrev pub after_calls : Timeline → List Call → Timeline
 after_calls t [] = t
 after_calls t (call ∷ calls) = after_calls (after_call t call) calls
 
--- the history that a player stands for after a list of calls, given the player and its history before them
+-- the history, the events that a player has played, after a list of calls, given the player and its history
+-- before them: each `play` that succeeds drops the events after the cursor and appends one
 abbrev pub history_after_calls : Timeline → List Event → List Call → List Event
 history_after_calls t history [] = history
 history_after_calls t history (call ∷ calls) = history_after_calls (after_call t call) (history_after t.cursor history call) calls

@@ -15,42 +15,46 @@ use Rattle.rib_player.specs.History.{pair_cmp, Effect, Clear, Set, effect_if, it
 use Rattle.rib_player.specs.Journal.{Side, sides_of}
 use Rattle.rib_player.specs.Tables.{Routes}
 
--- the route that the first side of a pair has, or that it has none; `None` if no side is of the pair
+-- the route or `None` that stands beside `pair` in the first of `sides` with this pair, in `Some`; `None` if
+-- no side has this pair
 abbrev pub found : List Side → Pair → Option (Option Route)
 found sides pair = lookup (eq_by_cmp pair_cmp pair) sides
 
--- whether the peer of a pair is among these
+-- whether the peer of a pair is in the list `peers`, whose sessions are lost
 abbrev pub is_lost : List Peer → Pair → Bool
 is_lost peers pair = list_any (eq_by_cmp peer_cmp pair.peer) peers
 
--- the effect on a pair, given the first side noted for it, if any, and whether its peer's session is lost:
--- the side decides, else a loss clears
+-- the effect on a pair, given what is noted for it: `Some` of a route sets it, and `Some None` clears it; for
+-- `None`, which is nothing noted, it is `Clear` if `lost` (the session of its peer is lost), and else `Keep`
 abbrev pub effect_of : Option (Option Route) → Bool → Effect
 effect_of (Some (Some route)) lost = Set route
 effect_of (Some None) lost = Clear
 effect_of None lost = effect_if lost Clear
 
--- the effect on the pair `q` of one noted side, of `pair` with a route or with none
+-- the effect on the pair `q` of a noted entry that gives `pair` the route `route`, or clears it for `None`;
+-- `Keep` if `q` is another pair
 abbrev pub effect_at : Pair → Option Route → Pair → Effect
 effect_at pair route q = effect_if (eq_by_cmp pair_cmp q pair) (effect_of (Some route) false)
 
--- the effect on a pair of all that is noted
+-- the effect on a pair of the changes noted for an event: the first entry of the pair sets or clears its
+-- route; without one, it is cleared if the session of its peer is lost, and else kept
 abbrev pub noted_effect : Changes → Pair → Effect
 noted_effect changes pair = effect_of (found (sides_of changes.entries.items) pair) (is_lost changes.lost.keys pair)
 
--- what is found for a pair, or, if nothing is found and the condition is true, a side without a route
+-- the first argument, or, if that is `None` and `absent` is true, `Some None`, which stands for a pair
+-- without a route
 abbrev pub or_absent : Option (Option Route) → Bool → Option (Option Route)
 or_absent (Some kept) absent = Some kept
 or_absent None true = Some None
 or_absent None false = None
 
--- what is found for a pair if the noted sides are followed by one without a route for each pair of a lost
--- peer that has a route in the table
+-- what the changes give the pair `q`: the route or `None` of its first entry, in `Some`; without an entry,
+-- `Some None` if the session of its peer is lost and it has a route in the table `routes`, and else `None`
 abbrev pub found_with_lost : Changes → Routes → Pair → Option (Option Route)
 found_with_lost changes routes q =
     or_absent (found (sides_of changes.entries.items) q) (is_lost changes.lost.keys q && is_some (get routes q))
 
--- the effect of items on a pair, one after the other
+-- the effect on a pair of items one after the other: that of the last one that sets or clears it, or `Keep`
 abbrev pub items_effect : Pair → List Item → Effect
 items_effect pair items = last_effect (map (λ item. item_effect pair (item_value item)) items)
 

@@ -29,7 +29,7 @@ use Rattle.std.specs.BTreeMap as tree
 
 -- ---- a player as plain data
 
--- timelines as plain data
+-- a one-to-one encoding (`Coded`) of timelines as tuples of floor, cursor, tables and steps
 abbrev pub coded_timeline : Coded Timeline
 coded_timeline =
     code_by (ℕ × (ℕ × (List Routes × List Pairs)))
@@ -57,35 +57,41 @@ brings pair before after = not (is_routed pair before) && is_routed pair after
 abbrev pub clears : Pair → Routes → Routes → Bool
 clears pair before after = is_routed pair before && not (is_routed pair after)
 
--- how many steps bring a pair, given the table before the first step and those after each step
+-- how many steps bring a pair, which has no route before and one after such a step, given `before`, the table
+-- before the first step, and the table after each step, in order
 abbrev pub brought_along : Pair → Routes → List Routes → ℕ
 brought_along pair before [] = 0
 brought_along pair before (after ∷ tables) = one_if (brings pair before after) + brought_along pair after tables
 
--- how many claims a pair has over the tables at consecutive positions: one if it has a route in the first
--- table, and one for each step that brings it
+-- how many claims (reasons to keep it as a key) a pair has, given the tables at consecutive positions: one if
+-- it has a route in the first, and one for each two neighbouring tables of which only the second has one; 0
+-- without tables
 abbrev pub claims_along : Pair → List Routes → ℕ
 claims_along pair [] = 0
 claims_along pair (first ∷ tables) = one_if (is_routed pair first) + brought_along pair first tables
 
--- how many claims of a pair a player makes, over all positions from the floor to the end; it has some exactly
--- if the pair is a key of the table
+-- how many claims a pair has in a player: one if it has a route at the floor, and one for each kept step
+-- before which it has no route and after which it has one. The pair is a key of the table exactly if it has
+-- some
 abbrev pub claims : Timeline → Pair → ℕ
 claims t pair = claims_along pair t.tables
 
--- whether the first kept step of a player clears a pair
+-- whether the first kept step of a player clears a pair, which has a route at the floor and none at the next
+-- position; without steps, whether it has a route at the floor
 abbrev pub first_clears : Timeline → Pair → Bool
 first_clears t pair = clears pair (table_at t t.floor) (table_at t (t.floor + 1))
 
--- whether the last step of a player brings a pair
+-- whether the last step of a player, applied or not, brings a pair, which has no route before the step and
+-- one after it; false without steps
 abbrev pub last_brings : Timeline → Pair → Bool
 last_brings t pair = brings pair (table_at t (end_of t - 1)) (table_at t (end_of t))
 
--- whether an event, played at the cursor, brings a pair
+-- whether an event, played at the cursor, brings a pair: the pair has no route in the table there, and one
+-- after the event
 abbrev pub event_brings : Timeline → Event → Pair → Bool
 event_brings t event pair = brings pair (current t) (table_after (current t) event)
 
--- a player whose last step is dropped
+-- player `t` without its last step and its last table; its floor and its cursor stay
 abbrev pub without_last : Timeline → Timeline
 without_last t = record t {
   tables = take (length t.tables - 1) t.tables;
@@ -101,27 +107,30 @@ abbrev pub by_family : {A : Type 0} → Family → A → A → A
 by_family V4 a b = a
 by_family V6 a b = b
 
--- how many claims of a prefix the counts of one peer have
+-- the count of the prefix `n` in the counts of one peer, which are apart for IPv4 prefixes, by their numbers
+-- (`v4_prefix_number`), and for IPv6 prefixes; 0 if it isn't counted
 abbrev pub count_of : ExtraClaimsOfPeer → Network → ℕ
 count_of counts n = by_family n.family (count_at nat_cmp counts.v4 (v4_prefix_number n)) (count_at network_cmp counts.v6 n)
 
--- how many claims of a prefix the counts of a peer have; none if the peer has no counts
+-- the count of a prefix in the counts of a peer; 0 if it isn't counted, or the peer has no counts (`None`)
 abbrev pub count_of_peer : Option (Box ExtraClaimsOfPeer Global) → Network → ℕ
 count_of_peer counts prefix = option_map_or (λ counts. count_of counts.value prefix) counts 0
 
--- how many claims of a pair are counted beyond the first, which is its key
+-- how many claims (reasons to keep it as a key) of a pair are counted in `claims`: all but the first, which
+-- is the key itself; 0 if it isn't counted
 abbrev pub claims_beyond : ExtraClaims → Pair → ℕ
 claims_beyond claims pair = count_of_peer (tree.get peer_cmp claims.peers pair.peer) pair.prefix
 
--- how many claims of a pair are held, given the keys and the number beyond the first: one if the pair is a
--- key, and those beyond
+-- how many claims (reasons to keep it as a key) of a pair are held: one if it is in `keys`, plus
+-- `beyond pair`, the number beyond the first
 abbrev pub held_claims : Pairs → (Pair → ℕ) → Pair → ℕ
 held_claims keys beyond pair = one_if (set.contains keys pair) + beyond pair
 
--- how many claims of a pair a table and the counts beside it hold
+-- how many claims (reasons to keep it as a key) of a pair are held: one if it is a key of `table`, and those
+-- beyond this that are counted in `claims`
 abbrev pub claims_in : Contents → ExtraClaims → Pair → ℕ
 claims_in table claims = held_claims table.keys (claims_beyond claims)
 
--- only keys have claims beyond the first
+-- a pair that isn't in `keys` has no claims beyond the first: `beyond`, which gives their number, is 0 there
 abbrev pub AreHeld : Pairs → (Pair → ℕ) → Type 0
 AreHeld keys beyond = (pair : Pair) → set.contains keys pair ≡ false → beyond pair ≡ 0

@@ -5,7 +5,8 @@ use Rattle.std.specs.declared.rc.Rc.{Rc}
 use Rattle.mrt_events.specs.declared.event.Route.{Route}
 use Rattle.rib_player.specs.declared.pair.Pair.{Pair}
 
--- what a step, the change by one event, has of one of its pairs of a peer and a prefix
+-- what a step (a played event) keeps of one pair of a peer and a prefix that it sets or clears: the route on
+-- the other side of the step, and whether the pair has one before and after the step
 pub record Entry : Type 0 where
   -- the pair
   pub pair : Pair

@@ -55,7 +55,8 @@ abbrev pub last_effect : List Effect → Effect
 last_effect [] = Keep
 last_effect (effect ∷ effects) = later effect (last_effect effects)
 
--- what an event does to the route at a pair: the last of its items that concerns the pair decides
+-- what an event does to the route at a pair: the last of its items that sets or clears it decides; `Keep` if
+-- none does
 abbrev pub effect : Pair → Event → Effect
 effect pair event = last_effect (map (item_effect pair) event.items)
 
@@ -65,7 +66,7 @@ route_after route Keep = route
 route_after route Clear = None
 route_after route (Set new) = Some new
 
--- the route at a pair after a history that began without routes: the last event that concerns the pair
--- decides
+-- the route at a pair after a history that began without routes: the last event that sets or clears it
+-- decides; `None` if none does
 abbrev pub route : Pair → List Event → Option Route
 route pair history = route_after None (last_effect (map (effect pair) history))

@@ -29,6 +29,6 @@ pub record IsSwapRemoved {X : Type 0} (old new : List X) (i : ℕ) : Type 0 wher
   pub last : i < length new → slice_get new i ≡ slice_get old (length new)
   pub others : (j : ℕ) → j ≢ i → j < length new → slice_get new j ≡ slice_get old j
 
--- the list contains all numbers that are members
+-- `numbers` contains each index at which `choices` has `true`
 abbrev pub ListsAll : List Bool → List ℕ → Type 0
 ListsAll choices numbers = (n : ℕ) → slice_get choices n ≡ Some true → Contains numbers n

@@ -62,10 +62,12 @@ timeline_of floor cursor steps routes = record {
   steps = map (λ sides. from_list (pairs_in sides)) steps;
 }
 
--- for each entry of a step, in order, its pair and the route that it holds
+-- for each entry of a step, in order, its pair and the route that it holds for it, if any: that on the other
+-- side of the step
 abbrev pub step_sides : Step → List Side
 step_sides step = sides_of step.entries.items
 
--- for each step, in order, the pairs of its entries and the routes that they hold
+-- for each step, in order, the list of the pairs of its entries, each with the route that the entry holds for
+-- it, if any
 abbrev pub steps_of : List Step → List (List Side)
 steps_of steps = map step_sides steps

@@ -42,8 +42,9 @@ pub record AreClaimed (steps : List (List Mark)) (held : Pair → ℕ) (tables :
   pub marked : AreMarked tables steps
   pub claimed : (q : Pair) → held q ≡ claims_along q tables + new q
 
--- if the claims that are held fit `steps`, then those held afterwards fit `steps'`, the steps before the
--- cursor; the steps after it were dropped with their claims
+-- if the marks of `steps` and the claims `held` are right for some tables and some claims of a new step
+-- (`AreClaimed`), then those of `steps'` and `held'` are right for the first `cursor + 1` of these tables and
+-- that step: the steps after the cursor were dropped with their claims
 abbrev pub StayClaimed : ℕ → List Step → (Pair → ℕ) → List Step → (Pair → ℕ) → Type 0
 StayClaimed cursor steps held steps' held' =
     (tables : List Routes) (new : Pair → ℕ) → AreClaimed (marks_by_step steps) held tables new → AreClaimed (marks_by_step steps') held' (take (cursor + 1) tables) new

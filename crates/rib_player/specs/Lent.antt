@@ -20,7 +20,7 @@ pub record IsUnchanged {S : Type 0} (old new : numbered.Stores S) : Type 0 where
   pub stores : stores_in new ≡ stores_in old
   pub routed : routed_in new ≡ routed_in old
 
--- if `r` is a reference, then once it ends the peer has the store last written through it, and all else is as
--- before; if it is none, nothing changes
+-- the stores `s` lend the store of `peer` as `r`: once this reference ends, the peer has the store last
+-- written through it, and all else in `s` is as before; if `r` is `None`, nothing changes
 abbrev pub lends_store : (S : RattleType) → MutBor (numbered.Stores S.Denot) → Peer → Option (MutBor S.Denot) → Fml
 lends_store S s peer r = LendsSo (the_row S) S s r (λ n w. OnSome r (IsLent s.now n peer w)) (λ n. IsUnchanged s.now n)

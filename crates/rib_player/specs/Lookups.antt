@@ -14,8 +14,8 @@ use Rattle.prefix_store.specs.Stored.{saturated_count}
 use Rattle.rib_player.specs.History.{pair_of}
 use Rattle.rib_player.specs.Tables.{Routes, peer_routes, routed_peers}
 
--- the route of a peer to the longest prefix that contains the address, with that prefix; `None` if the peer
--- has none
+-- the last argument is the best route of a peer for the address: of the prefixes that contain it and to which
+-- the peer has a route, the longest, with its route; `None` if there is none
 abbrev pub IsBest : Routes → Peer → Address → Option (Network × Route) → Type 0
 IsBest routes peer = lookups.IsLongestMatchOf (λ n. finite.get routes (pair_of peer n))
 
@@ -27,11 +27,12 @@ value_of shared = shared.value
 abbrev pub pointed_routes : List (Network × Bor (Rc Route Global)) → List (Network × Route)
 pointed_routes found = map (λ f. (f.0, f.1.now.value)) found
 
--- those of a list of peers that are greater than a peer; all of them for `None`
+-- those of `peers` that are greater than `low`, in the order of the list; all of them if `low` is `None`
 abbrev pub peers_above : Option Peer → List Peer → List Peer
 peers_above low peers = filter (lookups.is_above_bound peer_cmp low) peers
 
--- the peers that have a route and are greater than a peer, in order; all that have one for `None`
+-- the peers that have a route and are greater than `low`, in ascending order; all that have one if `low` is
+-- `None`
 abbrev pub routed_above : Routes → Option Peer → List Peer
 routed_above routes low = peers_above low (routed_peers routes)
 
@@ -39,6 +40,7 @@ routed_above routes low = peers_above low (routed_peers routes)
 abbrev pub counted_peers : Routes → List (Peer × ℕ)
 counted_peers routes = map (λ peer. (peer, saturated_count (finite.len (peer_routes routes peer)))) (routed_peers routes)
 
--- the routes of a peer to prefixes greater than a prefix, in order; all its routes for `None`
+-- the routes of a peer to prefixes greater than `low`, each with its prefix, in ascending order; all its
+-- routes if `low` is `None`
 abbrev pub routes_above : Routes → Peer → Option Network → List (Network × Route)
 routes_above routes peer low = lookups.above low (finite.entries (peer_routes routes peer))

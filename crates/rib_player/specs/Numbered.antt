@@ -21,6 +21,7 @@ pub record AreNumbered {S : Type 0} (held : List S) (names : List Peer) (order :
   pub back : (peer : Peer) (number : ℕ) → slice_get names number ≡ Some peer → lookup (eq_by_cmp peer_cmp peer) order ≡ Some number
   pub even : length names ≡ length held
 
--- whether a number was seen in the current round
+-- whether the round in which a number was last seen is the current one; a round begins when the set is
+-- cleared. False for a number past the end of the list of these rounds
 abbrev pub was_seen : SeenNumbers → ℕ → Bool
 was_seen marks number = option_map_or (λ seen. seen == marks.round) (slice_get marks.last_rounds.items number) false

@@ -27,25 +27,26 @@ use Rattle.prefix_store.specs.Stored as stored
 
 -- ---- the stores of a table in memory, and tables and pairs as plain data
 
--- a pair as plain data
+-- a one-to-one encoding (`Coded`) of pairs as tuples of peer and prefix
 abbrev pub coded_pair : Coded Pair
 coded_pair = code_by (Peer × Network) (coded× coded_peer coded_network) (λ p. (p.peer, p.prefix)) (λ p. record { peer = p.0; prefix = p.1 }) (λ _. refl)
 
--- the contents of a table as plain data
+-- a one-to-one encoding (`Coded`) of a table's contents as the tuple of its set of keys and its map of routes
 abbrev pub coded_contents : Coded Contents
 coded_contents =
     code_by (Pairs × Routes) (coded× (set.code coded_pair) (finite.code coded_pair coded_route))
     (λ s. (s.keys, s.routes)) (λ p. record { keys = p.0; routes = p.1 }) (λ _. refl)
 
--- the stores that have a route, each with its peer
+-- those of `stores`, each with its peer, that have a route, where `routes` gives the routes of a store
 abbrev pub routed_stores : {S : Type 0} → (S → stored.Routes (Rc Route Global)) → PeerStores S → PeerStores S
 routed_stores routes stores = filter (λ entry. nat_lt 0 (finite.len (routes entry.1))) stores
 
--- a peer, and the number of routes that its store returns
+-- the peer of `entry`, and the number of routes of its store, at most `u64::MAX`; `routes` gives the routes
+-- of a store
 abbrev pub peer_count : {S : Type 0} → (S → stored.Routes (Rc Route Global)) → Peer × S → Peer × ℕ
 peer_count routes entry = (entry.0, stored.saturated_count (finite.len (routes entry.1)))
 
--- each store has a key
+-- the store of each peer in `stores` has a key, where `keys` gives the set of keys of a store
 abbrev pub HaveKeys : {S : Type 0} → (S → stored.Keys) → PeerStores S → Type 0
 HaveKeys keys stores = (p : Peer) → IfSome (store_at stores p) (λ store. 0 < set.len (keys store))
 
@@ -65,25 +66,29 @@ pub record IsUpdatedAt {A : Type 0} (old new : List (Peer × A)) (peer : Peer) (
 
 -- ---- an entry in memory, and the entries of new steps
 
--- the entry of a step that isn't applied yet, which gives its pair this route, or clears it
+-- the entry of a new step, not yet applied, which will give `pair` the route `other`, or clear it for `None`;
+-- the marks `before` and `after` are false until then
 abbrev pub unapplied_entry : Pair → Option (Rc Route Global) → Entry
 unapplied_entry pair other = record { pair = pair; other = other; before = false; after = false }
 
--- the entry, as one of an applied step that clears its pair, which has this route before the step
+-- the entry once its step has cleared its pair: it holds `route`, the pair's route before the step, and is
+-- marked with a route before the step and none after it
 abbrev pub cleared_entry : Entry → Rc Route Global → Entry
 cleared_entry entry route = record { pair = entry.pair; other = Some route; before = true; after = false }
 
--- entries as those of an applied step that clears their pairs, which have these routes, in turn, before the
--- step
+-- the entries of a step once it has cleared their pairs, where `routes` has, in turn, the route of each pair
+-- before the step; entries past the end of `routes` are unchanged
 abbrev pub cleared_entries : List Entry → List (Rc Route Global) → List Entry
 cleared_entries (entry ∷ entries) (route ∷ routes) = cleared_entry entry route ∷ cleared_entries entries routes
 cleared_entries entries routes = entries
 
--- the entry of a pair with these marks and this route, if any
+-- the entry of `pair` that holds the route `other`, if any; `marks` has whether the pair has a route before
+-- and after the step
 abbrev pub entry_of : Pair → RoutePresence → Option (Rc Route Global) → Entry
 entry_of pair marks other = record { pair = pair; other = other; before = marks.before; after = marks.after }
 
--- the entry that its memory stands for; for memory without contents, an arbitrary entry
+-- the entry that is stored in this form: its pair, its marks, and its route, if any; for `Taken`, a form
+-- without contents, an arbitrary entry
 abbrev pub entry_of_repr : EntryRepr → Entry
 entry_of_repr (V4Absent marks prefix peer) = entry_of (pair_of peer.value (v4_network prefix)) marks None
 entry_of_repr (V4Present marks prefix peer route) = entry_of (pair_of peer.value (v4_network prefix)) marks (Some route)
@@ -91,7 +96,7 @@ entry_of_repr (V6Absent marks pair) = entry_of (pair_of pair.value.peer.value pa
 entry_of_repr (V6Present marks pair route) = entry_of (pair_of pair.value.peer.value pair.value.prefix) marks (Some route)
 entry_of_repr Taken = unapplied_entry (pair_of (record { addr = record { family = V4; bits = [] }; asn = 0 }) (record { family = V4; bits = [] })) None
 
--- the memory of an entry has contents
+-- the stored form of an entry has contents: it isn't `Taken`
 abbrev pub HasContents : EntryRepr → Type 0
 HasContents Taken = ⊥
 HasContents other = Unit {0}

@@ -20,17 +20,17 @@ use Rattle.rib_player.specs.Claims.{is_routed}
 
 -- ---- the sides of steps, what they must fulfil, and those that an event makes
 
--- the sides of a step after it is applied or undone, given the table before that: its pairs, with the routes
--- that the table had
+-- each pair of `sides`, in order, with the route that it has in `routes`, or none: if `routes` is the table
+-- before a step is applied or undone, these are the step's sides afterwards
 abbrev pub sides_across : Routes → List Side → List Side
 sides_across routes sides = map (λ side. (side.0, get routes side.0)) sides
 
--- the side of a pair without a route
+-- the pair of a peer and a prefix, with `None` for its route on the other side of a step
 abbrev pub cleared_side : Peer → Network → Side
 cleared_side peer prefix = (pair_of peer prefix, None)
 
--- the sides clear all routes of a peer: one for each pair of it that has a route, in order, without a route
--- on the other side
+-- the sides clear all routes that a peer has in `routes`: they are the pairs of the peer that have a route
+-- there, in ascending order of prefixes, each with `None` for its route on the other side
 abbrev pub ClearAllOf : Routes → Peer → List Side → Type 0
 ClearAllOf routes peer sides = sides ≡ map (cleared_side peer) (keys (peer_routes routes peer))
 
@@ -62,19 +62,20 @@ pub record Mark : Type 0 where
   pub before : Bool
   pub after : Bool
 
--- the mark of an entry
+-- the pair of an entry, and whether, by the entry, it has a route before the step and after it
 abbrev pub mark_of : Entry → Mark
 mark_of entry = record { pair = entry.pair; before = entry.before; after = entry.after }
 
--- the marks of entries, in order
+-- for each entry, in order, its pair, and whether that has a route before the step and after it
 abbrev pub marks_of : List Entry → List Mark
 marks_of entries = map mark_of entries
 
--- the marks of a step's entries
+-- for each entry of a step, in order, its pair, and whether that has a route before the step and after it
 abbrev pub step_marks : Step → List Mark
 step_marks step = marks_of step.entries.items
 
--- the marks of each step's entries, in order
+-- for each step, in order, the list of the pairs of its entries, each with whether it has a route before the
+-- step and after it
 abbrev pub marks_by_step : List Step → List (List Mark)
 marks_by_step steps = map step_marks steps
 
@@ -82,31 +83,34 @@ marks_by_step steps = map step_marks steps
 abbrev pub entry_count : Step → ℕ
 entry_count step = length step.entries.items
 
--- whether a pair is among those of the marks
+-- whether `q` is the pair of one of `marks`
 abbrev pub named_by : List Mark → Pair → Bool
 named_by marks q = list_any (eq_by_cmp pair_cmp q) (map (λ mark. mark.pair) marks)
 
--- whether removing a step at an end of the journal releases a claim of a pair, given whether the pair has a
--- route before and after the step: at the first end if the step clears it, at the last end if the step brings
--- it
+-- whether a pair loses a claim (a reason to keep it as a key) when a step is removed at an end of the
+-- journal, given whether it has a route before and after the step: at `First` if it has one only before, at
+-- `Last` if only after
 abbrev pub releases_at : JournalEnd → Bool → Bool → Bool
 releases_at First before after = before && not after
 releases_at Last before after = not before && after
 
--- whether removing a step at an end of the journal releases a claim of the pair of this mark
+-- whether the pair of a mark loses a claim (a reason to keep it as a key) when its step is removed at an end
+-- of the journal: at `First` if it has a route only before the step, at `Last` if only after it
 abbrev pub releases_claim : JournalEnd → Mark → Bool
 releases_claim end mark = releases_at end mark.before mark.after
 
--- whether removing a step at an end of the journal releases a claim of `q`, by this mark
+-- whether the mark is of the pair `q`, which loses a claim (a reason to keep it as a key) when the step of
+-- the mark is removed at this end of the journal
 abbrev pub releases_claim_of : JournalEnd → Mark → Pair → Bool
 releases_claim_of end mark q = releases_claim end mark && eq_by_cmp pair_cmp q mark.pair
 
--- whether removing a step with these marks at an end of the journal releases a claim of `q`
+-- whether the pair `q` loses a claim (a reason to keep it as a key) when a step with these marks is removed
+-- at this end of the journal: whether one of the marks is of `q` and takes a claim from it
 abbrev pub any_releases_claim_of : JournalEnd → List Mark → Pair → Bool
 any_releases_claim_of end marks q = list_any (λ mark. releases_claim_of end mark q) marks
 
--- the marks of a step that is being applied, given the table before it and its sides, which have the routes
--- after it
+-- for each of `sides`, in order, its pair, and whether this has a route before a step and after it: before it
+-- in the table `routes`, and after it in the side
 abbrev pub marks_across : Routes → List Side → List Mark
 marks_across routes sides = map (λ side. record { pair = side.0; before = is_routed side.0 routes; after = is_some side.1 }) sides
 
@@ -122,7 +126,9 @@ pub record AreMarksOf (before after : Routes) (marks : List Mark) : Type 0 where
   pub right : AllByRecursion (IsMarkOf before after) marks
   pub unnamed : (q : Pair) → named_by marks q ≡ false → is_routed q before ≡ is_routed q after
 
--- the marks of each step are right between the tables before and after it; there is one table more than steps
+-- for each step, its marks are right for the tables before and after it: each says in which of the two its
+-- pair has a route, at least one of them, and pairs without a mark have one in both or in neither. There is
+-- one table more than steps
 abbrev pub AreMarked : List Routes → List (List Mark) → Type 0
 AreMarked (last ∷ []) [] = Unit {0}
 AreMarked (before ∷ after ∷ tables) (marks ∷ steps) = AreMarksOf before after marks × AreMarked (after ∷ tables) steps

@@ -52,7 +52,7 @@ table history = tabulation (λ pair. route pair history) (flat_map announced_pai
 abbrev pub candidate_pairs : Routes → Event → List Pair
 candidate_pairs routes event = keys routes ++ announced_pairs event
 
--- the routes after an event on a table
+-- the table after an event is played on the table `routes`
 unfoldable pub table_after : Routes → Event → Routes
 table_after routes event = tabulation (λ pair. route_after (get routes pair) (effect pair event)) (candidate_pairs routes event)
 
@@ -73,14 +73,15 @@ named_pairs routes event = from_list (filter (λ pair. is_named (get routes pair
 
 -- ---- what a table contains: its keys, the routes that some of them have, and the store of each peer
 
--- a table as contracts see it
+-- a table as contracts see it: the pairs of a peer and a prefix that are its keys, and the routes at some of
+-- them
 pub record Contents : Type 0 where
   -- the pairs that have memory for a route
   pub keys : Pairs
   -- the routes, which only keys have
   pub routes : Routes
 
--- the route that an optional pointer points to
+-- the route that an optional pointer points to; `None` if there is no pointer
 abbrev pub route_in : Option (Rc Route Global) → Option Route
 route_in slot = option_map (λ shared. shared.value) slot
 

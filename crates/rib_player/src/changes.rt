@@ -25,10 +25,11 @@ use std::alloc::{AllocError, Global};
 use std::collections::BTreeSet;
 use std::rc::Rc;
 
-/// What the items of an event (announcements, withdrawals, changes of a session's state) do to a
-/// table: all routes of the lost peers are cleared, then each pair of a peer and a prefix in
-/// `entries` gets its route, or loses it. An announcement or withdrawal is left out if a later item
-/// of the event loses its peer's session, which clears the peer's routes anyway.
+/// The effect of the items of an event (announcements, withdrawals, changes of a session's state)
+/// on a table: all routes of the peers in `lost` are cleared, then the peer and prefix of each of
+/// `entries` get the entry's route, or none. Of several entries of one peer and prefix, the first
+/// counts. An announcement or withdrawal is left out if a later item of the event ends its peer's
+/// session, which clears the peer's routes anyway.
 #[derive(Drop)]
 pub(crate) struct Changes {
     // The last item of a pair decides, so items are noted from the last to the first, and those
@@ -44,8 +45,8 @@ pub(crate) struct Changes {
 }
 
 impl Changes {
-    /// Returns `true` if one of the items noted so far loses the session with `peer`: it changes
-    /// the session's state from Established to another one.
+    /// Returns `true` if one of the event's items noted so far ends the session with `peer`: it
+    /// changes the session's state from Established to another one.
     #[inline]
     fn is_peer_lost(&self, peer: &Peer) -> bool
         ensures { result ≡ list_any (eq_by_cmp peer_cmp peer.now) self.now.lost.keys }
@@ -53,11 +54,11 @@ impl Changes {
         !self.lost.is_empty() && self.lost.contains(peer)
     }
 
-    /// Notes one item of an event: `peer` announces `route` for `prefix`, or withdraws it if
-    /// `route` is `None`. Items are noted from the last to the first. If one noted before, which is
-    /// a later item of the event, loses the session with `peer`, this does nothing. `table` is
-    /// searched only for the number of the peer's store. Fails if memory allocation fails; nothing
-    /// is noted then.
+    /// Notes one item of an event: `peer` announces `route` for `prefix`, or withdraws its route if
+    /// `route` is `None`. Items are noted from the last to the first; if a later item, noted
+    /// before, ends the session with `peer`, this does nothing. `table` is searched only for the
+    /// index of the store with the peer's routes. Fails if memory allocation fails; nothing is
+    /// noted then.
     fn note_route<S: PrefixStore<Rc<Route>>>(
         &mut self,
         table: &Table<S>,
@@ -78,12 +79,13 @@ impl Changes {
         Ok(())
     }
 
-    /// Notes what `items` (announcements, withdrawals, changes of a session's state) do, from the
-    /// last to the first. They are taken to come before all items of the event noted so far; there
-    /// may be none. Each announced route is replaced by the equal one of `known`, the routes that
-    /// the player shares, or else added there; one that is long and has many owners stays as it is.
-    /// `table` is searched only for the numbers of the peers' stores. Fails if memory allocation
-    /// fails; some of the last items may have been noted then.
+    /// Notes `items` of an event (announcements, withdrawals, changes of a session's state), from
+    /// the last to the first, or does nothing if there are none. The items noted before have to be
+    /// those that follow them in the event. Each announced route is replaced by an equal one in
+    /// `known`, the routes that the player shares, or else added there; a long one with many owners
+    /// may stay as it is ([`RouteInterner::intern_if_cheap`]). `table` is searched only for the
+    /// indices of the peers' stores. Fails if memory allocation fails; some of the last items may
+    /// have been noted then, and some routes added to `known`.
     #[inline(always)]
     fn note_items_if_any<S: PrefixStore<Rc<Route>>>(
         &mut self,
@@ -102,13 +104,14 @@ impl Changes {
         self.note_items(table, items, known, None)
     }
 
-    /// Notes what `items` (announcements, withdrawals, changes of a session's state) do, from the
-    /// last to the first. They are taken to come before all items of the event noted so far. With
-    /// `shared`, uses this route for each item; requires that all are announcements of equal
-    /// routes. With `None`, replaces each announced route by the equal one of `known`, the routes
-    /// that the player shares, or else adds it there; one that is long and has many owners stays as
-    /// it is. `table` is searched only for the numbers of the peers' stores. Fails if memory
-    /// allocation fails; some of the last items may have been noted then.
+    /// Notes `items` of an event (announcements, withdrawals, changes of a session's state), from
+    /// the last to the first. The items noted before have to be those that follow them in the
+    /// event. If `shared` is a route, it is used for each item; requires that all are announcements
+    /// of routes equal to it. If it is `None`, each announced route is replaced by an equal one in
+    /// `known`, the routes that the player shares, or else added there; a long one with many owners
+    /// may stay as it is ([`RouteInterner::intern_if_cheap`]). `table` is searched only for the
+    /// indices of the peers' stores. Fails if memory allocation fails; some of the last items may
+    /// have been noted then, and some routes added to `known`.
     fn note_items<S: PrefixStore<Rc<Route>>>(
         &mut self,
         table: &Table<S>,
@@ -143,12 +146,12 @@ impl Changes {
         Ok(())
     }
 
-    /// Notes `items`, from the last to the first. Requires that all are announcements of one peer
-    /// with equal routes; there may be none. They are taken to come before all items of the event
-    /// noted so far. The route is looked up once in `known`, the routes that the player shares, or
-    /// else added there, and the one found or added is used for all prefixes. `table` is searched
-    /// only for the number of the peer's store. Fails if memory allocation fails; some of the last
-    /// items may have been noted then.
+    /// Notes `items` of an event, from the last to the first. Requires that all are announcements
+    /// by one peer of equal routes; there may be none. The items noted before have to be those that
+    /// follow them in the event. The route is looked up once in `known`, the routes that the player
+    /// shares, or else added there, and the one found or added is used for all prefixes. `table` is
+    /// searched only for the index of the store with the peer's routes. Fails if memory allocation
+    /// fails; some of the last items may have been noted then, and the route added to `known`.
     #[inline(always)]
     fn note_items_of_one_route<S: PrefixStore<Rc<Route>>>(
         &mut self,
@@ -169,10 +172,11 @@ impl Changes {
 }
 
 /// Returns what the items of `event` do: which peers and prefixes get or lose a route, and which
-/// peers lose their session. Each announced route is replaced by the equal one of `known`, the
+/// peers lose their session. Each announced route is replaced by an equal one in `known`, the
 /// routes that the player shares, or else added there; a long one with many owners may stay as it
-/// is. `table`, the one before the event, is searched only for the numbers of the peers' stores.
-/// Fails if memory allocation fails; some routes may have been added to `known` then.
+/// is ([`RouteInterner::intern_if_cheap`]). `table`, the one before the event, is searched only for
+/// the indices of the peers' stores. Fails if memory allocation fails; some routes may have been
+/// added to `known` then.
 pub(crate) fn changes_of<S: PrefixStore<Rc<Route>>>(
     alloc: Global,
     event: &Event,
@@ -198,12 +202,11 @@ pub(crate) fn changes_of<S: PrefixStore<Rc<Route>>>(
     Ok(changes)
 }
 
-/// Returns a shared pointer to `peer` and the number of its store, for an entry of a step. The
-/// number is the store's index in the table, a hint for a quick look-up. Fails if memory allocation
-/// fails. The pointer is
-/// - that of `last`, the entry made just before, if it is of this peer;
-/// - else that of `table`, if the peer has a store there;
-/// - else a new one, with [`NO_NUMBER`].
+/// Returns a shared pointer to `peer` and the index of its store in `table`, for a new [`Entry`].
+/// The index is a hint for a quick look-up. Fails if memory allocation fails. The pointer is
+/// - the one in `last`, the entry made just before, if its peer is `peer`;
+/// - else the one in `table`, if the peer has a store there;
+/// - else a new one, with [`NO_NUMBER`] in place of an index.
 pub(crate) fn share_numbered_peer<S: PrefixStore<Rc<Route>>>(
     alloc: Global,
     table: &Table<S>,

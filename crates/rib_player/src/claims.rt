@@ -35,11 +35,11 @@ use std::collections::BTreeMap;
 use std::mem::size_of;
 use std::rc::Rc;
 
-/// For each pair of a peer and a prefix, the number of its claims beyond the first. A claim is a
-/// reason to keep the pair as a key of the table, with memory for its route. A pair has one if it
-/// has a route before all kept steps (played events that undo or redo can go over), and one for
-/// each kept step that gives it a route when it has none. The first claim isn't counted, since it
-/// shows in that the pair is a key. So only pairs that lost their route and got one again in the
+/// The number of claims beyond the first of each pair of a peer and a prefix; a claim is a reason
+/// to keep the pair as a key of the table, with memory for its route. A pair has one if it has a
+/// route before all kept steps (played events that undo or redo can go over), and one for each kept
+/// step that gives it a route when it has none. The first claim isn't counted, since a pair is a
+/// key if, and only if, it has one. So only pairs that lost their route and got one again in the
 /// kept steps have a count above 0.
 #[derive(Drop)]
 pub(crate) struct ExtraClaims {
@@ -103,11 +103,11 @@ impl ExtraClaims {
     }
 }
 
-/// Applies one entry of a new step: what a played event does to the route of a pair of a peer and a
-/// prefix. Swaps the entry's route with that of the table; either may be absent. A pair that had no
-/// route and gets one also gets a claim, a reason to keep it as a key of the table (with memory for
-/// a route): it becomes a key or, if it is one already, is counted in `claims`. Requires that the
-/// pair has a route before or after, and that its count in `claims` is below `u64::MAX`. Fails if
+/// Applies one entry of a new step (a played event): swaps the entry's route with the table's route
+/// of the entry's peer and prefix (a pair); either may be absent. A pair that had no route and gets
+/// one also gets a claim, a reason to keep it as a key of the table (with memory for a route): it
+/// becomes a key or, if it is one already, is counted in `claims`. Requires that the pair has a
+/// route before or after the step, and that its count in `claims` is below `u64::MAX`. Fails if
 /// memory allocation fails; table and claims are unchanged then, and the entry is unspecified.
 pub(crate) fn apply_entry<S: PrefixStore<Rc<Route>>>(
     table: &mut Table<S>,
@@ -141,11 +141,12 @@ pub(crate) fn apply_entry<S: PrefixStore<Rc<Route>>>(
 }
 
 /// Releases the claims (reasons to keep a pair of a peer and a prefix as a key of the table) that
-/// end as a step is removed at `end` of the journal. `entries` are the entries of the step; each
-/// for which [`Entry::releases_claim`] returns `true` releases one claim of its pair. The pair's
-/// count in `claims`, of the claims beyond the first, goes down by one. If it is 0, the pair is
-/// removed from the keys of `table` instead. Requires that no two entries are of one pair, that
-/// each such pair is a key, and that one whose count is 0 has no route. Allocates no memory.
+/// end when a step is removed at `end` of the journal, the list of the steps (played events).
+/// `entries` are all entries of the step; each for which [`Entry::releases_claim`] returns `true`
+/// releases one claim of its pair. The pair's count in `claims`, of the claims beyond the first,
+/// goes down by one. If it is 0, the pair is removed from the keys of `table` instead. Requires
+/// that no two entries are of one pair, that each such pair is a key, and that one whose count is 0
+/// has no route. Allocates no memory.
 pub(crate) fn release_claims<S: PrefixStore<Rc<Route>>>(
     table: &mut Table<S>,
     claims: &mut ExtraClaims,
@@ -183,11 +184,11 @@ const ADDRESSES: u64 = 1 << 32;
 /// returns, which begin with the address.
 const BELOW: u32 = 32;
 
-/// For each prefix of one peer, the number of its claims beyond the first. A claim is a reason to
-/// keep the pair of the peer and the prefix as a key of the player's table, with memory for a
-/// route. The pair has a claim if it has a route before all kept steps (played events that undo or
-/// redo can go over), and one for each kept step that gives it a route when it has none. A prefix
-/// with one claim, or with none, has the count 0, and isn't stored.
+/// The number of claims beyond the first of each prefix of one peer; a claim is a reason to keep
+/// the peer and the prefix as a key of the player's table, with memory for a route. A prefix has a
+/// claim if the peer has a route to it before all kept steps (played events that undo or redo can
+/// go over), and one for each kept step that gives the peer a route to it when there is none. A
+/// prefix with one claim, or with none, has the count 0, and isn't stored.
 #[derive(Drop)]
 pub(crate) struct ExtraClaimsOfPeer {
     /// The counts of IPv4 prefixes, each prefix as a number ([`v4_prefix_number`]).
@@ -226,8 +227,8 @@ impl ExtraClaimsOfPeer {
         }
     }
 
-    /// Returns `true` if the count of each prefix, of its claims beyond the first, is 0, so that
-    /// nothing is lost if these counts are dropped.
+    /// Returns `true` if no prefix of the peer has a claim (a reason to keep it as a key of the
+    /// table) beyond its first, so that all counts are 0 and nothing is lost if they are dropped.
     fn is_empty(&self) -> bool
         ensures { result ≡ true → (n : Network) → count_of self.now n ≡ 0 }
     {

@@ -22,9 +22,9 @@ use std::mem::size_of;
 use std::rc::Rc;
 
 /// What a step (a played event, which undo and redo go over) keeps of one pair of a peer and a
-/// prefix: the pair, and its route on the other side of the step, if any. While the step is
-/// applied, that is the route before it, which undo puts back; while it isn't, the route after it.
-/// The table has the route on this side.
+/// prefix: the pair, and the route, if any, that undo or redo of the step will give it. While the
+/// step is applied, that is the pair's route before the step; while it isn't, the route after it.
+/// Undo and redo swap it with the table's route.
 #[derive(Drop)]
 pub(crate) struct Entry {
     kept: EntryRepr,
@@ -60,10 +60,10 @@ pub(crate) enum JournalEnd {
     Last,
 }
 
-/// The stored form of an [`Entry`]: a variant for each address family, with a route and without
-/// one. The route is the one that [`Entry::route`] returns. Each of these variants also has the
-/// prefix, a shared pointer to the peer, and two flags: whether the two have a route before the
-/// step, and whether after it. [`EntryRepr::Taken`] has nothing.
+/// The stored form of an [`Entry`]: one variant for each address family and for whether the entry
+/// keeps a route ([`Entry::route`]). Each of these also has the prefix, a shared pointer to the
+/// peer, and two flags: whether there is a route to the prefix before the entry's step (a played
+/// event), and whether after it. [`EntryRepr::Taken`] has nothing.
 #[derive(Drop)]
 enum EntryRepr {
     // An IPv4 prefix is stored beside the two flags, so that an entry takes three words; an IPv6
@@ -103,10 +103,10 @@ impl Model for Entry {
 }
 
 impl Entry {
-    /// Returns an entry for `peer` and `prefix`, of a step (played event) that isn't applied yet.
-    /// `other` is the route that they get by the step, or `None` if it clears their route. `peer`
-    /// also has the index of the peer's store, as a hint. Fails if memory allocation fails, which
-    /// can happen only for an IPv6 prefix.
+    /// Returns an entry for `peer` and `prefix`, of a step (a played event) that isn't applied yet.
+    /// `other` is the route that the step gives them, or `None` if it clears their route. `peer`
+    /// also has a hint of the index of the peer's store in the table. Fails if memory allocation
+    /// fails, which can happen only for an IPv6 prefix.
     pub(crate) fn unapplied(
         alloc: Global,
         peer: Rc<NumberedPeer>,
@@ -135,8 +135,9 @@ impl Entry {
         })
     }
 
-    /// Returns the peer and the prefix of the entry. The peer is the pointer that entries share;
-    /// with it is a hint of the index of the peer's store.
+    /// Returns the peer and the prefix whose route the entry sets or clears. The peer is a pointer
+    /// that entries share; it also has a hint of the index of the peer's store in the table
+    /// ([`NumberedPeer::number_hint`]).
     #[inline]
     fn peer_and_prefix(&self) -> (&Rc<NumberedPeer>, Prefix)
         ensures peer { result.0.now.value ≡ self.now.pair.peer }
@@ -163,9 +164,9 @@ impl Entry {
         }
     }
 
-    /// Returns the entry's peer as the pointer that the entries of a step share. With it is the
-    /// index of the peer's store in the table at the time when the entry was made, a hint for a
-    /// quick look-up.
+    /// Returns the peer whose route the entry sets or clears, as a pointer that entries share. It
+    /// also has the index that the peer's store had in the table when the pointer was made, a hint
+    /// for a quick look-up ([`NumberedPeer::number_hint`]).
     #[inline]
     pub(crate) fn shared_peer(&self) -> &Rc<NumberedPeer>
         ensures { result.now.value ≡ self.now.pair.peer }
@@ -204,10 +205,10 @@ impl Entry {
     }
 
     /// Returns `true` if the entry's peer and prefix lose a claim (a reason to keep them as a key
-    /// of the table, see `claims.rt`) when the entry's step is removed at `end` of the journal. For
-    /// [`JournalEnd::First`], that is if there is a route before the step and none after it; for
-    /// [`JournalEnd::Last`], if there is none before it and one after it. Returns `false` if the
-    /// step was never applied.
+    /// of the table, with memory for a route) when the entry's step (a played event) is removed at
+    /// `end` of the journal, the list of all steps. For [`JournalEnd::First`], that is if there is
+    /// a route before the step and none after it; for [`JournalEnd::Last`], if there is none before
+    /// it and one after it. Returns `false` otherwise, and if the step was never applied.
     #[inline]
     pub(crate) fn releases_claim(&self, end: JournalEnd) -> bool
         ensures { result ≡ releases_claim end (mark_of self.now) }
@@ -225,8 +226,8 @@ impl Entry {
         }
     }
 
-    /// Sets whether the entry's peer and prefix have a route before the step and after it. The
-    /// route that the entry keeps stays.
+    /// Records whether the entry's peer and prefix have a route before the entry's step (a played
+    /// event) and after it. The route that the entry keeps stays.
     #[inline]
     fn set_route_presence(&mut self, new: RoutePresence)
         ensures { self.new ≡ record {

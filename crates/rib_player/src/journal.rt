@@ -42,9 +42,9 @@ pub(crate) struct Journal {
 }
 
 /// Swaps the route of each entry with the table's route of the entry's peer and prefix; either may
-/// be absent. If `entries` are all of a step (a played event), this undoes the step if it is
-/// applied, and redoes it if it isn't. Requires that the entries' pairs of a peer and a prefix are
-/// distinct keys of `table` (have memory for a route). Allocates no memory.
+/// be absent. If `entries` are all entries of one step (a played event), this undoes the step if it
+/// is applied, and redoes it if it isn't. Requires that the entries' pairs of a peer and a prefix
+/// are distinct keys of `table` (have memory for a route). Allocates no memory.
 pub(crate) fn swap_routes<S: PrefixStore<Rc<Route>>>(table: &mut Table<S>, entries: &mut [Entry])
     requires { AreDistinctKeys table.old.keys (sides_of entries.old) }
     ensures keys { table.new.keys ≡ table.old.keys }
@@ -60,13 +60,13 @@ pub(crate) fn swap_routes<S: PrefixStore<Rc<Route>>>(table: &mut Table<S>, entri
     table.add_prefetched_nodes(visited);
 }
 
-/// Undoes the step (played event) `steps[index]` if it is applied, and redoes it otherwise, by
-/// swapping its routes with those of `table`. If it is the first step of its group of
-/// [`STEPS_TOGETHER`] that the caller comes to, also prefetches the memory of the group
-/// ([`prefetch_steps`]). This is the step with the index `first` in the group: 0 for a caller that
-/// goes forward, `STEPS_TOGETHER - 1` for one that goes back. `prefetched` has the groups
-/// prefetched last, and is updated. Requires that `index` is in range, and that the step's pairs of
-/// a peer and a prefix are distinct keys of `table`.
+/// Undoes the step (a played event) `steps[index]` if it is applied, and redoes it otherwise, by
+/// swapping its routes with those of `table`. Before that, prefetches the memory for its group of
+/// [`STEPS_TOGETHER`] steps, as [`prefetch_steps`] does: if `first` is the step's index in the
+/// group, and the group isn't in `prefetched` yet, to which it is added. `first` is 0 for a caller
+/// that redoes, `STEPS_TOGETHER - 1` for one that undoes. Requires that `index` is in range, and
+/// that the step's pairs of a peer and a prefix are distinct keys of `table` (have memory for a
+/// route).
 pub(crate) fn apply_or_undo_step<S: PrefixStore<Rc<Route>>>(
     table: &mut Table<S>,
     steps: &mut VecDeque<Step>,
@@ -84,10 +84,11 @@ pub(crate) fn apply_or_undo_step<S: PrefixStore<Rc<Route>>>(
     swap_routes(table, step.entries.as_mut_slice());
 }
 
-/// Applies a new step (played event) that does nothing but clear all routes of `peer`: moves them
-/// from the table to `entries`. Requires that these are one for each of the routes, in the order of
-/// prefixes. The keys stay: the pairs of peer and prefix keep memory for a route, so that undo
-/// needs none. Fails if memory allocation fails; table and entries are unchanged then.
+/// Applies a new step (a played event) that does nothing but clear all routes of `peer`: moves them
+/// from the table to `entries`. Requires that `entries` has one entry, without a route, for each of
+/// these routes, in ascending order of prefixes. The pairs of peer and prefix stay keys, which keep
+/// memory for a route, so that undo needs none. Fails if memory allocation fails; table and entries
+/// are unchanged then.
 pub(crate) fn apply_session_loss<S: PrefixStore<Rc<Route>>>(
     alloc: Global,
     table: &mut Table<S>,
@@ -112,15 +113,15 @@ pub(crate) fn apply_session_loss<S: PrefixStore<Rc<Route>>>(
     Ok(())
 }
 
-/// Applies a new step (a played event) to the table. Each of its `entries` is for one pair of a
-/// peer and a prefix. The entry's route, or none, is swapped with the table's, so that the entry
-/// then has what undoes it. The pair becomes a key of the table: it has memory for a route, also
-/// while it has none. A pair that had no route and gets one also gets a claim, a reason to keep it
-/// as a key, which is counted in `claims` if the pair was a key before. If `lost` is a peer,
-/// requires that the entries clear all routes of that peer, in the order of prefixes, and nothing
-/// else. Requires that no two entries are of one pair, that each pair has a route before or after,
-/// and that all counts in `claims` are below `u64::MAX`. Fails if memory allocation fails; table
-/// and claims are unchanged then, and the entries are unspecified.
+/// Applies a new step (a played event) to the table: swaps the route of each of `entries` with the
+/// table's route of the entry's peer and prefix (a pair); either may be absent. The entries then
+/// have the routes that undo puts back. Each pair becomes a key of the table: it has memory for a
+/// route, also while it has none. A pair that had no route and gets one also gets a claim, a reason
+/// to keep it as a key, which is counted in `claims` if the pair was a key before. If `lost` is a
+/// peer, requires that the entries clear all routes of that peer, in ascending order of prefixes,
+/// and nothing else. Requires that no two entries are of one pair, that each pair has a route
+/// before or after the step, and that all counts in `claims` are below `u64::MAX`. Fails if memory
+/// allocation fails; table and claims are unchanged then, and the entries are unspecified.
 pub(crate) fn apply_entries<S: PrefixStore<Rc<Route>>>(
     alloc: Global,
     table: &mut Table<S>,
@@ -165,9 +166,9 @@ pub(crate) fn apply_entries<S: PrefixStore<Rc<Route>>>(
     Ok(())
 }
 
-/// Drops `step` entry by entry. Before each entry with a route, tells `known`, the routes that the
-/// player shares, that the route is about to lose an owner, so that one without other owners is
-/// removed from there.
+/// Drops `step` (a played event) entry by entry. Before each entry with a route, calls
+/// [`RouteInterner::release`] on `known`, the routes that the player shares, so that a route with
+/// no other owner is removed from there.
 pub(crate) fn drop_step(known: &mut RouteInterner, step: Step) {
     // Each entry is dropped before the next is noted, since `known` looks at the number of owners,
     // and entries may share a route.
@@ -178,10 +179,10 @@ pub(crate) fn drop_step(known: &mut RouteInterner, step: Step) {
     }
 }
 
-/// Reserves capacity for one more step (played event). Before that, shrinks a capacity that is far
-/// too large: what the steps need is taken as their number, or as [`LEAST_ROOM`] if that is more,
-/// and if the capacity divided by [`MOST_TIMES`], rounded down, is above this number, it is shrunk
-/// to it. Fails if memory allocation fails; the steps are unchanged then.
+/// Reserves capacity for one more step (a played event) in `steps`. Before that, shrinks a capacity
+/// that is far too large: if the capacity divided by [`MOST_TIMES`], rounded down, is above the
+/// number of steps, or above [`LEAST_ROOM`] if that is more, it is shrunk to this number. Fails if
+/// memory allocation fails; the steps are unchanged then.
 pub(crate) fn reserve_step(steps: &mut VecDeque<Step>) -> Result<(), AllocError>
     ensures room { OnOk result (deque_len steps.new < deque_capacity steps.new) }
     ensures steps { steps.new.items ≡ steps.old.items }
@@ -193,12 +194,12 @@ pub(crate) fn reserve_step(steps: &mut VecDeque<Step>) -> Result<(), AllocError>
     steps.reserve(1)
 }
 
-/// Drops the undone steps (played events that redo would apply again), the last first, as a new
-/// event is played instead. `cursor` is the number of applied steps, which stay. The claims by the
-/// dropped steps (reasons to keep a pair of a peer and a prefix as a key of the table, see
-/// `claims.rt`) are taken off `claims`. A key that has no other claim is removed from `table`,
-/// whose routes stay. Routes that nothing else holds are removed from `known`, the routes that the
-/// player shares. Allocates no memory.
+/// Drops the undone steps (played events that redo would apply again), the last first, since a new
+/// event is played instead. `cursor` is the number of applied steps, which stay. The claims that
+/// the dropped steps make (reasons to keep a pair of a peer and a prefix as a key of the table,
+/// with memory for a route) end: they are subtracted in `claims`, and a key without another claim
+/// is removed from `table`. The routes in `table` stay. Dropped routes that have no other owner are
+/// removed from `known`, the routes that the player shares. Allocates no memory.
 pub(crate) fn drop_steps_ahead<S: PrefixStore<Rc<Route>>>(
     steps: &mut VecDeque<Step>,
     cursor: usize,

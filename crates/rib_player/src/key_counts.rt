@@ -19,10 +19,10 @@ use std::collections::BTreeMap;
 /// keys.
 const FEW: usize = 8;
 
-/// A multiset: for each key, a value of `K`, how often it is counted. The multiset itself has 32
-/// octets for keys that are numbers (`u64`), or 40 for prefixes, and takes no other memory for one
-/// key. Beside these, a list takes 16 octets, or 32, for each key, by the most keys that it ever
-/// had, and a map of several nodes at most 39, or 74, for each key.
+/// A multiset of keys: how often each value of `K` is counted. It takes 32 octets if keys are `u64`
+/// numbers, or 40 if they are prefixes, and no other memory for one key. Beside these, a list of a
+/// few keys takes 16 octets (or 32 for prefixes) for each key, by the most keys that it ever had,
+/// and a map of several nodes at most 39 octets (or 74) for each key.
 #[derive(Drop)]
 pub(crate) enum KeyCounts<K: Ord> {
     /// No key is counted.
@@ -70,10 +70,9 @@ fn increment_in_list<K: Ord + Copy>(counts: &mut Vec<(K, u64)>, key: K) -> Resul
 }
 
 /// Subtracts one from the count of `key` in `counts`, a list of keys with their counts, in any
-/// order. Of several elements with `key`, the count is that of the first. Returns `true` if the
-/// count was above 0, or `false` if it was 0 or `key` isn't in the list. If the count is 0
-/// afterwards, all elements with `key` are removed. The other elements keep their order, and the
-/// list its capacity.
+/// order. Of several elements with `key`, the first has the count. Returns `true` if the count was
+/// above 0, or `false` if it was 0 or `key` isn't in the list. If the count is 0 afterwards, all
+/// elements with `key` are removed. The other elements keep their order, and the list its capacity.
 fn try_decrement_in_list<K: Ord + Copy + Drop>(counts: &mut Vec<(K, u64)>, key: &K) -> bool
     ensures some { result ≡ nat_lt 0 (count_in K.cmp counts.old.items key.now) }
     ensures counted { (k : K) → count_in K.cmp counts.new.items k
@@ -91,8 +90,8 @@ fn try_decrement_in_list<K: Ord + Copy + Drop>(counts: &mut Vec<(K, u64)>, key: 
     count > 0
 }
 
-/// Returns a map with the keys and counts of the list. Of several elements with equal keys, the
-/// first is taken. Fails if memory allocation fails.
+/// Returns a map with the keys and counts of the list `counts`. Of several elements with equal
+/// keys, the first is taken. Fails if memory allocation fails.
 fn map_of_list<K: Ord + Copy + Drop>(
     alloc: Global,
     counts: &[(K, u64)],
@@ -110,9 +109,9 @@ fn map_of_list<K: Ord + Copy + Drop>(
     Ok(made)
 }
 
-/// Adds one to the count of `key` in the map, or inserts `key` with the count 1 if it isn't there.
-/// Requires that its count is below `u64::MAX`. Fails if memory allocation fails; the map is
-/// unchanged then.
+/// Adds one to the count of `key` in the map `counts`, or inserts `key` with the count 1 if it
+/// isn't there. Requires that its count is below `u64::MAX`. Fails if memory allocation fails; the
+/// map is unchanged then.
 fn increment_in_map<K: Ord + Copy + Drop>(
     counts: &mut BTreeMap<K, u64>,
     key: K,
@@ -128,8 +127,8 @@ fn increment_in_map<K: Ord + Copy + Drop>(
     Ok(())
 }
 
-/// Subtracts one from the count of `key` in the map. Returns `true` if it did, or `false` if `key`
-/// isn't there or its count is 0. A key whose count becomes 0 is removed.
+/// Subtracts one from the count of `key` in the map `counts`. Returns `true` if it did, or `false`
+/// if `key` isn't there or its count is 0. A key whose count is 0 afterwards is removed.
 fn decrement_in_map<K: Ord + Copy + Drop>(counts: &mut BTreeMap<K, u64>, key: &K) -> bool
     ensures some { result ≡ nat_lt 0 (count_in K.cmp counts.old.entries key.now) }
     ensures counted { (k : K) → count_in K.cmp counts.new.entries k
@@ -147,8 +146,9 @@ fn decrement_in_map<K: Ord + Copy + Drop>(counts: &mut BTreeMap<K, u64>, key: &K
     some
 }
 
-/// Returns a map with the keys and counts of the list, and with one more for `key`, which may be in
-/// the list or not. Requires that its count is below `u64::MAX`. Fails if memory allocation fails.
+/// Returns a map with the keys and counts of the list `counts`, and with one more for `key`, which
+/// may be in the list or not. Of several elements with equal keys, the first is taken. Requires
+/// that the count of `key` in the list is below `u64::MAX`. Fails if memory allocation fails.
 fn map_of_list_and_one<K: Ord + Copy + Drop>(
     alloc: Global,
     counts: &[(K, u64)],
@@ -163,10 +163,10 @@ fn map_of_list_and_one<K: Ord + Copy + Drop>(
     Ok(made)
 }
 
-/// Adds one to the count of `key` in the list, and returns `None`. If the list is full (has [`FEW`]
-/// keys), leaves it unchanged instead, and returns a map with its counts and one more for `key`,
-/// which the caller keeps in place of the list. Requires that the count is below `u64::MAX`. Fails
-/// if memory allocation fails; the list is unchanged then.
+/// Adds one to the count of `key` in the list `counts`, and returns `None`. If the list is full
+/// (has [`FEW`] keys), leaves it unchanged instead, and returns a map with its counts and one more
+/// for `key`, which the caller has to keep in place of the list. Requires that the count of `key`
+/// is below `u64::MAX`. Fails if memory allocation fails; the list is unchanged then.
 fn increment_or_move<K: Ord + Copy + Drop>(
     alloc: Global,
     counts: &mut Vec<(K, u64)>,

@@ -47,7 +47,7 @@ pub fn law_pair_order()
 /// - After one more event, the table has what that event sets or clears at the pair. If it does
 ///   neither, the table has the route before.
 /// - An event names a pair if it sets or clears it and the pair has a route before or after the
-///   event. A player keeps memory for the pairs that the events of its kept steps name
+///   event. A player keeps memory for these pairs as long as undo or redo can go over the event
 ///   ([`law_which_pairs_are_keys`]).
 pub fn law_last_event_decides_route()
     ensures table { (history : List Event) (pair : Pair) →
@@ -90,9 +90,10 @@ pub fn law_walk_over_peers()
 {}
 
 /// States which pairs of a peer and a prefix are the keys of a player's table, for which it keeps
-/// memory for a route: those that have a route at the cursor, and those that a kept step (a played
-/// event that undo or redo can go over) names, before or after the cursor; and no others. A step
-/// names a pair if its event sets or clears it and the pair has a route before or after the step.
+/// memory for a route: those that have a route at the cursor (in the table now), and those that a
+/// kept step (a played event that undo or redo can go over) names, before or after the cursor; and
+/// no others. A step names a pair if its event sets or clears it and the pair has a route before or
+/// after the step.
 pub fn law_which_pairs_are_keys()
     ensures { (t : Timeline) (pair : Pair) → set.contains (needed_keys t) pair
         ≡ (is_some (finite.get (current t) pair)
@@ -100,13 +101,14 @@ pub fn law_which_pairs_are_keys()
 {}
 
 /// States that a pair of a peer and a prefix is a key of a player's table (keeps memory for a
-/// route) if, and only if, it has a claim. Its claims are its route before the first kept step
-/// (played event that undo or redo can go over), if it has one there, and each kept step that gives
+/// route) if, and only if, it has a claim. Its claims are its route before the first kept step (a
+/// played event that undo or redo can go over), if it has one there, and each kept step that gives
 /// it a route when it has none. Their number changes so:
-/// - Forgetting the first step takes one if the pair has a route before that step and none after
-///   it.
-/// - Dropping the last step takes one if the pair has none before that step and one after it.
-/// - Playing an event at the end adds one if the pair has none before the event and one after it.
+/// - Forgetting the first kept step, so that it can't be undone any more, takes one if the pair has
+///   a route before that step and none after it.
+/// - Dropping the last kept step takes one if the pair has none before that step and one after it.
+/// - Playing an event when no step is undone adds one if the pair has none before the event and one
+///   after it.
 pub fn law_keys_and_claim_counts()
     ensures needed_keys { (t : Timeline) (history : List Event) (pair : Pair) → StandsFor t history →
         set.contains (needed_keys t) pair ≡ nat_lt 0 (claims t pair) }
@@ -128,16 +130,17 @@ pub fn law_table_after_one_more_event()
         table (history ++ event ∷ []) ≡ table_after (table history) event }
 {}
 
-/// States how what a player has follows from its history. The history is the list of the events
-/// that were played, in order. It has those that undo can't reach any more too, but not those that
-/// a play after an undo dropped. Each player has one ([`law_history_after_all_calls`]). A position
-/// is a number of events, from the start of the history.
+/// States that the tables and steps of a player are those that its history makes. The history is
+/// the list of the events that were played, in order. It has those that undo can't reach any more
+/// too, but not those that a play after an undo dropped. Each player has one
+/// ([`law_history_after_all_calls`]). A position is a number of events, from the start of the
+/// history.
 /// - At each position from the lowest that undo can reach, the table is the one that the events
 ///   before the position make.
 /// - For each event after that lowest position, the player keeps a step. The step names the pairs
 ///   (of a peer and a prefix) that the event sets or clears, except those that have no route before
 ///   it and none after it.
-/// - The last position is the length of the history.
+/// - The last position, the greatest that redo can reach, is the length of the history.
 /// - In the table at the cursor, the current position, the last event before the cursor that sets
 ///   or clears a pair decides the pair's route.
 pub fn law_player_follows_history()
@@ -153,22 +156,22 @@ pub fn law_player_follows_history()
 {}
 
 /// States how one call changes the history of a player: the list of the events that were played,
-/// forgotten ones too, without those dropped by a play after an undo. After a play that succeeds,
-/// it is the events before the cursor, and the new one. Any other call, and any that fails, leaves
-/// it as it was. A list of events is the history of a player if the cursor is at most its length
-/// and, from the lowest position that undo can reach, the tables and steps are those that the
-/// events make.
+/// including those that can't be undone any more, without those dropped by a play after an undo.
+/// After a play that succeeds, the history is the events before the cursor, and the new one. Any
+/// other call, and any that fails, leaves it as it was. A list of events is the history of a player
+/// if the cursor is at most its length and, from the lowest position that undo can reach, the
+/// tables and steps are those that the events make.
 pub fn law_history_after_one_call()
     ensures { (t : Timeline) (history : List Event) (call : Call) → StandsFor t history →
         StandsFor (after_call t call) (history_after t.cursor history call) }
 {}
 
-/// States that the calls made on a player, failed ones too, give its history: the list of the
-/// events that were played, forgotten ones too, without those dropped by a play after an undo. The
-/// history of a new player after the calls is what `history_after_calls` computes from them; that
-/// of another player is what it computes from them and the history before. A list of events is the
-/// history of a player if the cursor is at most its length and, from the lowest position that undo
-/// can reach, the tables and steps are those that the events make.
+/// States that the calls made on a player, failed ones too, determine its history: the list of the
+/// events that were played, including those that can't be undone any more, without those dropped by
+/// a play after an undo. The history is what `history_after_calls` (`specs/Calls.antt`) computes
+/// from the calls for a new player; for another one, from the calls and the history before them. A
+/// list of events is the history of a player if the cursor is at most its length and, from the
+/// lowest position that undo can reach, the tables and steps are those that the events make.
 pub fn law_history_after_all_calls()
     ensures new { (calls : List Call) →
         StandsFor (after_calls fresh calls) (history_after_calls fresh [] calls) }
@@ -176,10 +179,10 @@ pub fn law_history_after_all_calls()
         StandsFor (after_calls t calls) (history_after_calls t history calls) }
 {}
 
-/// States that a step back undoes a step forward, and the reverse. Playing an event and undoing it
-/// gives the table before the play. Undoing a step, if there is one to undo, and redoing it gives
-/// the whole player as before: table, steps and cursor. This holds of a player that has a history
-/// of events, as each player has ([`law_history_after_all_calls`]).
+/// States that undo takes back a play, and redo an undo. Playing an event and undoing it gives the
+/// table before the play. Undoing a step (a played event), if there is one to undo, and redoing it
+/// gives the whole player as before: table, steps and cursor. This holds of a player that has a
+/// history of events, as each player has ([`law_history_after_all_calls`]).
 pub fn law_one_step_back()
     ensures undo { (t : Timeline) (history : List Event) (event : Event) → StandsFor t history →
         current (after_undo (after_play t event)) ≡ current t }
@@ -187,10 +190,10 @@ pub fn law_one_step_back()
         t.floor < t.cursor → after_redo (after_undo t) ≡ t }
 {}
 
-/// States what forgetting steps (played events) does, after which at most a given number can still
-/// be undone:
-/// - The tables at the cursor and at each position that is left stay.
-/// - Nothing changes if no step is to be forgotten.
+/// States what [`Player::forget`](crate::Player::forget) does, which forgets steps (played events),
+/// so that at most a given number can still be undone:
+/// - The tables at the cursor and at each position that undo and redo can still reach stay.
+/// - Nothing changes if at most the given number can be undone anyway.
 /// - Forgetting twice is forgetting once with the smaller of the two numbers.
 pub fn law_forgetting_keeps_tables()
     ensures tables { (t : Timeline) (keep : ℕ) → (i : ℕ) → (after_forget t keep).floor ≤ i →
@@ -202,9 +205,9 @@ pub fn law_forgetting_keeps_tables()
         after_forget (after_forget t keep) less ≡ after_forget t (min keep less) }
 {}
 
-/// States that playing a list of events and undoing all of them gives the table before, and that
-/// redoing them after that gives the table of the events before the cursor followed by the list.
-/// This holds of a player that has a history of events, as each player has
+/// States that playing a list of events and undoing all of them gives the table before the first
+/// play, and that redoing them after that gives the table of the history up to the cursor followed
+/// by the list. This holds of a player that has a history of events, as each player has
 /// ([`law_history_after_all_calls`]).
 pub fn law_steps_back_and_forth()
     ensures back { (t : Timeline) (history events : List Event) → StandsFor t history →

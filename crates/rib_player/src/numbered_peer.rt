@@ -11,10 +11,10 @@ use std::marker::Model;
 /// none. It is never the number of a store, all of which are below it.
 pub(crate) const NO_NUMBER: usize = usize::MAX;
 
-/// A peer, and the number of its store (the store's index in the player's table) at the time when
-/// this value was made. The number is a hint: the store may have been removed or renumbered since,
-/// so a caller checks which peer has the number now. In contracts, the value stands for its peer
-/// alone, whatever its number.
+/// A peer, and its number: the index of its store (the one with its routes) in the player's table
+/// at the time when this value was made. The number is a hint: the store may have been removed or
+/// renumbered since, so a caller checks which peer has the number now. In contracts, the value
+/// stands for its peer alone, whatever its number.
 #[derive(Drop)]
 pub(crate) struct NumberedPeer {
     peer: Peer,
@@ -30,8 +30,8 @@ impl Model for NumberedPeer {
 }
 
 impl NumberedPeer {
-    /// Returns a value of `peer` and `number`, which is the index of its store in the player's
-    /// table, or [`NO_NUMBER`] if it has none.
+    /// Returns a value of `peer` and `number`, the index of the peer's store (the one with its
+    /// routes) in the player's table, or [`NO_NUMBER`] if the peer has no store.
     pub(crate) fn new(peer: Peer, number: usize) -> NumberedPeer
         ensures { result ≡ peer }
     {
@@ -46,9 +46,9 @@ impl NumberedPeer {
         &self.peer
     }
 
-    /// Returns the number of the peer's store at the time when this value was made, or
-    /// [`NO_NUMBER`] if it had none. By now it may be the number of another peer's store, or of
-    /// none.
+    /// Returns the index that the peer's store (the one with its routes) had in the player's table
+    /// when this value was made, or [`NO_NUMBER`] if the peer had no store. By now it may be the
+    /// index of another peer's store, or of none.
     #[inline]
     pub(crate) fn number_hint(&self) -> usize {
         self.number

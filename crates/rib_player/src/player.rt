@@ -26,7 +26,7 @@ use std::marker::Model;
 use std::rc::Rc;
 use thiserror::Error;
 
-/// Why [`Player::play`] failed.
+/// The error of [`Player::play`]: memory allocation failed.
 #[derive(Clone, Copy, Debug, PartialEq, Eq, Error)]
 pub enum PlayFault {
     /// Memory allocation failed. The player is unchanged, including the undone steps, which can
@@ -127,7 +127,7 @@ impl<S: PrefixStore<Rc<Route>>> Player<S> {
         self.journal.floor
     }
 
-    /// Returns the number of steps after the cursor: events that were played and undone, and that
+    /// Returns the number of steps after the cursor: events that were played and then undone, which
     /// [`redo`](Player::redo) would apply again.
     pub fn ahead(&self) -> u64
         ensures { result ≡ ahead_of self.now }
@@ -135,11 +135,11 @@ impl<S: PrefixStore<Rc<Route>>> Player<S> {
         (self.journal.steps.len() - self.journal.cursor) as u64
     }
 
-    /// Returns how many pairs of a peer and a prefix the kept steps name in total, or `u64::MAX` if
-    /// there are more. A kept step is a played event that undo or redo can go over. A step names
-    /// each pair that its event sets or clears and that has a route before or after it; a pair
-    /// counts once for each step that names it. The memory that the steps take grows with this
-    /// number. Takes time linear in the number of steps.
+    /// Returns how many pairs of a peer and a prefix all steps (played events) that undo or redo
+    /// can go over name in total, or `u64::MAX` if there are more. A step names each pair that its
+    /// event sets or clears and that has a route before or after it; a pair counts once for each
+    /// step that names it. The memory that the steps take grows with this number. Takes time linear
+    /// in the number of steps.
     pub fn named(&self) -> u64
         ensures { result ≡ saturated_count (sum_by set.len self.now.steps) }
     {
@@ -200,7 +200,7 @@ impl<S: PrefixStore<Rc<Route>>> Player<S> {
         Ok(())
     }
 
-    /// Applies the step after the cursor, an event that was undone, again, and moves the cursor
+    /// Redoes the step (played event) after the cursor, which was undone, and moves the cursor
     /// after it, without allocating. An error means that there is no such step; nothing changes
     /// then.
     pub fn redo(&mut self) -> Result<(), Nothing>
@@ -225,9 +225,9 @@ impl<S: PrefixStore<Rc<Route>>> Player<S> {
 impl<S: PrefixStore<Rc<Route>>> Player<S> {
     /// Plays `event` as the next step, drops the undone steps, and returns how many these were.
     /// Unlike [`Player::play`], doesn't free spare memory before. Requires that the position
-    /// ([`Player::at`]) is below `u64::MAX`. Fails if memory allocation fails; the player is
-    /// unchanged then, but routes of the event may be among those that it shares, and the caller
-    /// has to call [`RouteInterner::release_added`].
+    /// ([`Player::at`]) is below `u64::MAX`. Fails if memory allocation fails; table, steps and
+    /// cursor are unchanged then, but some routes of the event may have been added to `known`, the
+    /// routes that the player shares, and the caller has to call [`RouteInterner::release_added`].
     fn play_without_cleanup(&mut self, event: &Event) -> Result<u64, PlayFault>
         requires { self.old.cursor < GREATEST_COUNT }
         ensures after_play { OnOk result (self.new ≡ after_play self.old event.now) }
@@ -283,11 +283,11 @@ impl<S: PrefixStore<Rc<Route>>> Player<S> {
         }
     }
 
-    /// Drops the routes that nothing but the player's table of shared routes holds, if it pays: if
-    /// the routes that steps and events gave up since this was last done take more than 1 MiB plus
-    /// a quarter of the octets of all other routes. Changes no answer of the player. Call it after
-    /// dropping the event that was given to [`play`](Player::play); without this call, such routes
-    /// stay until the next play or [`forget`](Player::forget).
+    /// Drops the routes that the player holds only to share them with later events, if they may
+    /// take much memory: if the routes given up by steps and events since the last such drop take
+    /// more than 1 MiB plus a quarter of the octets of all other routes. Doesn't change what any
+    /// method returns. Call it after dropping the event that was given to [`play`](Player::play);
+    /// without this call, such routes stay until the next play or [`forget`](Player::forget).
     pub fn drop_unused_routes(&mut self)
         ensures { self.new ≡ self.old }
     {

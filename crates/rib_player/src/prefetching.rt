@@ -30,17 +30,19 @@ pub(crate) const STEPS_TOGETHER: usize = 8;
 /// prefetched. The nodes of fewer keys are in the processor's cache anyway.
 const LEAST_KEYS: u64 = 4096;
 
-/// Prefetches the nodes that look-ups of the prefixes in `batch` go through, empties `batch`, and
-/// returns the number of nodes visited, 0 for an empty batch. The caller has to use the number,
-/// since a compiler may remove the prefetches otherwise.
+/// Prefetches the memory that look-ups of the prefixes in `batch` will read, and empties `batch`.
+/// Returns what [`PrefixStore::prefetch`] does, such as the number of nodes visited. The caller has
+/// to use the number, since a compiler may remove the prefetches otherwise.
 fn prefetch_batch<S: PrefixStore<Rc<Route>>>(batch: &mut PrefetchBatch<'_, S>) -> u64 {
     let added = batch.take_all();
     S::prefetch(&added)
 }
 
 /// Adds the prefixes of `entries` (the routes that a step changed, all of one peer) to `batch`, to
-/// be looked up in `store`. Whenever the batch is full, prefetches their nodes and empties it;
-/// prefixes of the last batch may stay in it. Returns the number of nodes visited.
+/// be looked up in `store`. Whenever `batch` is full, prefetches the memory that look-ups of its
+/// prefixes will read, and empties it; it may have prefixes left at the end. Returns the number of
+/// nodes visited, which the caller has to use, since a compiler may remove the prefetches
+/// otherwise.
 fn prefetch_full_batches<'a, S: PrefixStore<Rc<Route>>>(
     batch: &mut PrefetchBatch<'a, S>,
     store: &'a S,
@@ -55,10 +57,10 @@ fn prefetch_full_batches<'a, S: PrefixStore<Rc<Route>>>(
     visited
 }
 
-/// Returns the store of the peer of `entries` (the routes that a step changed), or `None` if
-/// prefetching doesn't pay: if there are no entries, the first and the last are of different peers,
-/// the peer has no store, or its store has fewer than [`LEAST_KEYS`] keys (prefixes with memory for
-/// a route). Entries between the first and the last aren't looked at.
+/// Returns the store with the routes of the peer of `entries` (the routes that a step changed), or
+/// `None` if prefetching doesn't pay: if there are no entries, the first and the last are of
+/// different peers, the peer has no store, or its store has fewer than [`LEAST_KEYS`] keys
+/// (prefixes with memory for a route). Entries between the first and the last aren't looked at.
 fn store_worth_prefetching<'a, S: PrefixStore<Rc<Route>>>(
     table: &'a Table<S>,
     entries: &[Entry],
@@ -75,8 +77,9 @@ fn store_worth_prefetching<'a, S: PrefixStore<Rc<Route>>>(
     Some(store)
 }
 
-/// Prefetches the nodes for up to [`ENTRIES_AT_ONCE`] entries of a step (a played event), from the
-/// index `index` on, and returns the number of nodes visited. `entries` are all entries of the
+/// Prefetches the memory in `table` for up to [`ENTRIES_AT_ONCE`] entries of a step (a played
+/// event), from the index `index` on, and returns the number of nodes visited, which the caller has
+/// to use, since a compiler may remove the prefetches otherwise. `entries` are all entries of the
 /// step. Requires that `index` is at most their number. Does nothing and returns 0 unless
 /// - `index` is a multiple of [`ENTRIES_AT_ONCE`],
 /// - the step has at least so many entries, and
@@ -102,9 +105,9 @@ pub(crate) fn prefetch_next_entries<S: PrefixStore<Rc<Route>>>(
     visited.wrapping_add(prefetch_batch(&mut batch))
 }
 
-/// The two groups of [`STEPS_TOGETHER`] steps (played events) whose nodes were prefetched last, so
-/// that they aren't prefetched again. A group is given by the index of its first step in the
-/// journal, or `usize::MAX` for none.
+/// The two groups of [`STEPS_TOGETHER`] steps (played events) whose memory was prefetched last, so
+/// that it isn't prefetched again. A group is given by the index of its first step in the list of
+/// the steps that can be undone or redone, or is `usize::MAX` for none.
 #[derive(Clone, Copy)]
 pub(crate) struct PrefetchedGroups {
     // Two are kept, so that going back and forth over a position doesn't prefetch their nodes each
@@ -115,14 +118,14 @@ pub(crate) struct PrefetchedGroups {
     pub(crate) before: usize,
 }
 
-/// Prefetches the nodes for a group of [`STEPS_TOGETHER`] steps (played events), the one that
-/// `steps[next]` is in, adds the group to `prefetched`, and returns the number of nodes visited.
-/// The caller has to use the number, since a compiler may remove the prefetches otherwise. Steps of
-/// at least [`ENTRIES_AT_ONCE`] entries are left to [`prefetch_next_entries`]. `steps[next]` is the
-/// step that the caller comes to, and `first` is the index within each group of the step that it
-/// comes to first: 0 to go forward, the last to go back. Does nothing and returns 0 if
-/// `steps[next]` isn't at the index `first` of its group, if it has no entries, or if the group is
-/// in `prefetched` already. Requires that `next` is the index of a step.
+/// Prefetches the memory in `table` for the group of [`STEPS_TOGETHER`] steps (played events) that
+/// `steps[next]` is in, adds the group to `prefetched`, and returns the number of nodes visited,
+/// which the caller has to use, since a compiler may remove the prefetches otherwise. `steps[next]`
+/// is the step that the caller undoes or redoes next. Does nothing and returns 0 if its index in
+/// the group isn't `first` (0 for a caller that redoes, `STEPS_TOGETHER - 1` for one that undoes),
+/// if it has no entries, or if the group is in `prefetched` already. Steps of at least
+/// [`ENTRIES_AT_ONCE`] entries are left to [`prefetch_next_entries`]. Requires that `next` is the
+/// index of a step.
 pub(crate) fn prefetch_steps<S: PrefixStore<Rc<Route>>>(
     table: &Table<S>,
     steps: &VecDeque<Step>,

@@ -8,7 +8,7 @@ ghost use Rattle.rib_player.specs.Numbered.{was_seen};
 use crate::spare_capacity::shrink_if_oversized;
 use std::alloc::{AllocError, Global};
 
-/// A set of peers' numbers, the indices of their stores in the table: those seen in the current
+/// A set of peers' numbers (the indices of their stores in the table): those seen in the current
 /// round. A round begins with [`clear`](SeenNumbers::clear), and numbers are then added one by one.
 /// For each number, the last round in which it was seen is stored. So `clear` only has to count the
 /// rounds, and needn't change what is stored for each number.
@@ -30,10 +30,9 @@ impl SeenNumbers {
         }
     }
 
-    /// Removes all numbers from the set, before it is used for another list of numbers. `bound` is
-    /// one more than the greatest number expected in that list. Memory for greater ones is given
-    /// up, but they can still be added. Frees unused capacity of the set if [`shrink_if_oversized`]
-    /// finds it too large.
+    /// Removes all numbers from the set. `bound` is one more than the greatest number expected to
+    /// be added after this: what is stored for greater ones is dropped, but they can still be
+    /// added. Frees unused capacity of the set if [`shrink_if_oversized`] finds it too large.
     pub(crate) fn clear(&mut self, bound: usize) {
         self.round = self.round.wrapping_add(1);
         self.last_rounds.truncate(bound);

@@ -12,8 +12,8 @@ use std::alloc::{AllocError, Global};
 /// A set of numbers below a bound, the least number that can't be a member. Making a number a
 /// member, or no member, takes constant time and no memory ([`SparseSet::set_member`]); listing the
 /// members takes no time for the others. [`SparseSet::raise_bound`] raises the bound by one,
-/// without a new member. [`SparseSet::remove`] takes a number out of those below the bound, which
-/// gets lower by one, and renames the greatest of them to it.
+/// without a new member. [`SparseSet::remove`] lowers it by one: the greatest number below it is
+/// renamed to the removed one, as [`Vec::swap_remove`] does with indices.
 #[derive(Drop)]
 pub(crate) struct SparseSet {
     /// All numbers below the bound, the members first.
@@ -72,9 +72,9 @@ impl SparseSet {
         self.places.reserve(1)
     }
 
-    /// Raises the bound, below which all members are, by one. The number that this admits, the
-    /// bound before, isn't a member yet. Requires that there is capacity for it, as
-    /// [`SparseSet::reserve`] makes it, so that this can't fail.
+    /// Raises the set's bound, the least number that can't be a member, by one. The number that may
+    /// be a member from now on, the bound before, isn't one yet. Requires that there is capacity
+    /// for it, as [`SparseSet::reserve`] makes it, so that this can't fail.
     pub(crate) fn raise_bound(&mut self)
         requires { HasRoom self.old }
         ensures { choices self.new ≡ choices self.old ++ false ∷ [] }
@@ -98,8 +98,8 @@ impl SparseSet {
     }
 
     /// Makes `number` a member of the set if `is` is `true`, or no member if it is `false`.
-    /// Requires that it is below the set's bound, and that this is a change: it isn't a member yet
-    /// if `is` is `true`, and is one if `is` is `false`. Allocates no memory.
+    /// Requires that `number` is below the set's bound, and that this is a change: it isn't a
+    /// member yet if `is` is `true`, and is one if `is` is `false`. Allocates no memory.
     fn set_membership(&mut self, number: usize, is: bool)
         requires { slice_get (choices self.old) number ≡ Some (not is) }
         ensures { IsSetAt (choices self.old) (choices self.new) number is }
@@ -114,11 +114,10 @@ impl SparseSet {
         }
     }
 
-    /// Takes `number`, a member or not, out of the numbers below the set's bound, and lowers the
-    /// bound by one. The greatest of these numbers, if it is another one, is renamed to `number`,
-    /// and is a member then if it was one before. So the set follows the indices of a list of which
-    /// [`Vec::swap_remove`] removes an element. Requires that `number` is below the bound.
-    /// Allocates no memory.
+    /// Removes `number`, a member or not, from the numbers below the set's bound, and lowers the
+    /// bound by one, as [`Vec::swap_remove`] removes an index of a list. The greatest number below
+    /// the bound, if it isn't `number`, is renamed to `number`, which is a member afterwards if
+    /// that one was. Requires that `number` is below the bound. Allocates no memory.
     pub(crate) fn remove(&mut self, number: usize)
         requires { number < length (choices self.old) }
         ensures { IsSwapRemoved (choices self.old) (choices self.new) number }
@@ -139,8 +138,9 @@ impl SparseSet {
         &self.numbers[..self.count]
     }
 
-    /// Shrinks the capacity of each list of the set if [`shrink_if_oversized`] finds it too large
-    /// for its elements, one for each number below the set's bound. Bound and members stay.
+    /// Frees unused capacity of the set's lists, which have one element for each number below the
+    /// bound, where the function [`shrink_if_oversized`] finds it too large. Bound and members
+    /// stay.
     pub(crate) fn shrink_if_oversized(&mut self)
         ensures { choices self.new ≡ choices self.old }
     {

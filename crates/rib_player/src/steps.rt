@@ -26,9 +26,9 @@ use std::rc::Rc;
 /// The largest number of routes of a lost session that are read from the store in one call.
 const MANY: usize = 64;
 
-/// Appends to `entries`, for each prefix of `found`, an entry (what a step does to the route of a
-/// peer and a prefix) that clears the route of `peer` to it. The routes of `found` aren't used.
-/// Fails if memory allocation fails; some of the entries may have been appended then.
+/// Appends to `entries`, for each prefix of `found`, an [`Entry`] of a step (a played event) that
+/// clears the route of `peer` to this prefix. The routes of `found` aren't used. Fails if memory
+/// allocation fails; some of the entries may have been appended then.
 fn push_cleared_entries(
     alloc: Global,
     peer: &Rc<NumberedPeer>,
@@ -44,9 +44,10 @@ fn push_cleared_entries(
     Ok(())
 }
 
-/// Returns the entries that clear all routes of `peer`: one for each prefix to which it has a route
-/// in `table`, in the order of prefixes, or none if it has no route. They aren't applied: the table
-/// isn't changed. Fails if memory allocation fails.
+/// Returns the entries (routes that an event sets or clears) for the loss of the session with
+/// `peer`, which clears all its routes: one entry for each prefix to which it has a route in
+/// `table`, in ascending order of prefixes, or none if it has no route. They aren't applied: the
+/// table isn't changed. Fails if memory allocation fails.
 fn session_loss_entries<S: PrefixStore<Rc<Route>>>(
     alloc: Global,
     peer: &Peer,
@@ -73,10 +74,10 @@ fn session_loss_entries<S: PrefixStore<Rc<Route>>>(
     }
 }
 
-/// Returns all entries that an event makes: those of `changes`, for its announcements and
-/// withdrawals, followed by those that clear the routes in `table` of each peer of `changes.lost`,
-/// whose session the event ends. A pair of a peer and a prefix may have several entries, of which
-/// the first counts. Fails if memory allocation fails.
+/// Returns all entries (routes that an event sets or clears) of one event: those in `changes`, for
+/// its announcements and withdrawals, followed by those that clear the routes in `table` of each
+/// peer in `changes.lost`, whose session the event ends. A pair of a peer and a prefix may have
+/// several entries, of which the first counts. Fails if memory allocation fails.
 fn with_lost_entries<S: PrefixStore<Rc<Route>>>(
     changes: Changes,
     table: &Table<S>,
@@ -103,8 +104,8 @@ fn with_lost_entries<S: PrefixStore<Rc<Route>>>(
 /// each for equal pairs of a peer and a prefix. More are sorted.
 const FEW: usize = 8;
 
-/// Returns `true` if one of `entries` has both the peer and the prefix of `entry`, else `false`, as
-/// for no entries. Routes aren't compared.
+/// Returns `true` if one of `entries` has both the peer and the prefix of `entry`, else `false`,
+/// also if there are no entries. Routes aren't compared.
 fn contains_pair(entries: &[Entry], entry: &Entry) -> bool
     ensures { result ≡ false → AllByRecursion
         (λ side. eq_by_cmp pair_cmp side.0 entry.now.pair ≡ false) (sides_of entries.now) }
@@ -130,8 +131,9 @@ fn have_distinct_pairs(entries: &[Entry]) -> bool
     true
 }
 
-/// Returns `true` if all entries are of one peer, and the prefix of each is less than that of the
-/// one before it, so that no two are of one prefix. Returns `true` for no entries or one.
+/// Returns `true` if all entries are of one peer, and the prefix of each is less than the prefix of
+/// the entry before it, so that no two are of one prefix. Returns `true` for no entries or one, and
+/// `false` otherwise.
 fn are_one_peer_descending(entries: &[Entry]) -> bool
     ensures { IsTrue result → AreDistinct (sides_of entries.now) }
 {
@@ -151,8 +153,8 @@ fn are_one_peer_descending(entries: &[Entry]) -> bool
 
 /// Returns the first of the entries (routes that an event sets or clears) of each pair of a peer
 /// and a prefix, in unspecified order, and drops the others. `table` is searched only for the
-/// numbers of the peers' stores, to compare peers quickly. `marks` is scratch memory for these
-/// numbers; what it held is lost. Fails if memory allocation fails; the entries are dropped then.
+/// indices of the peers' stores, to compare peers quickly. `marks` is scratch memory for these
+/// indices; what it held is lost. Fails if memory allocation fails; the entries are dropped then.
 fn first_entry_per_pair<S: PrefixStore<Rc<Route>>>(
     entries: Vec<Entry>,
     table: &Table<S>,
@@ -181,12 +183,12 @@ fn first_entry_per_pair<S: PrefixStore<Rc<Route>>>(
 
 /// Returns the entries of the step that playing `event` on `table` makes: one for each pair of a
 /// peer and a prefix that the event sets or clears and that has a route before or after it, with
-/// the route that it gets. They aren't applied. If the second value is a peer, the step clears all
-/// routes of that peer, in the order of prefixes, and does nothing else. Each announced route is
-/// replaced by the equal one of `known`, the routes that the player shares, or else added there; a
-/// long one with many owners may stay as it is. `marks` is scratch memory for the peers seen; what
-/// it held is lost. Fails if memory allocation fails; some routes may have been added to `known`
-/// then.
+/// the route that the pair gets. They aren't applied. The second value is a peer if the event does
+/// nothing but end the session with that peer: the entries clear all its routes then, in ascending
+/// order of prefixes. It is `None` for other events. Each announced route is replaced by an equal
+/// one in `known`, the routes that the player shares, or else added there; a long one with many
+/// owners may stay as it is. `marks` is scratch memory for the peers seen; what it held is lost.
+/// Fails if memory allocation fails; some routes may have been added to `known` then.
 pub(crate) fn entries_for_event<S: PrefixStore<Rc<Route>>>(
     alloc: Global,
     event: &Event,

@@ -38,9 +38,9 @@ const PLACES: usize = 4096;
 /// 4,096 slots.
 const LOWEST_BITS: u32 = 52;
 
-/// A map from peers to stores `S`, each with the routes of one peer. Each peer with a store has a
-/// number, the index of its store, and is found by this number if a caller knows it, else by a hash
-/// of the peer, or in the order of peers.
+/// A map from peers to stores of type `S`, each with the routes of one peer. Each peer with a store
+/// has a number, the index of its store in a list. A store is found by this number if the caller
+/// knows it, else by a hash of the peer, or in an ordered map of the peers.
 #[derive(Drop)]
 pub(crate) struct Stores<S> {
     alloc: Global,
@@ -133,9 +133,9 @@ impl<S> Stores<S> {
         self.find_number(peer)
     }
 
-    /// Returns the peer with its number (the index of its store), as the pointer that the entries
-    /// of steps share, or `None` if it has no store. `hint` may be its number, and is tried first;
-    /// a wrong one takes only time.
+    /// Returns a shared pointer to `peer` and its number (the index of its store), or `None` if the
+    /// peer has no store. Entries of steps (played events) clone the pointer. `hint` may be the
+    /// number, and is tried first; a wrong one takes only time.
     #[inline]
     pub(crate) fn find_numbered_peer(&self, hint: usize, peer: &Peer) -> Option<&Rc<NumberedPeer>>
         ensures { IfSome result (λ shared. shared.now.value ≡ peer.now) }
@@ -145,8 +145,8 @@ impl<S> Stores<S> {
 
     /// Returns `true` if the peers of all entries (the routes that an event sets or clears) have
     /// stores and no two entries are of one peer, also if there are no entries; else `false`.
-    /// `marks` is scratch memory for the numbers seen; what it held is lost. Fails if memory
-    /// allocation fails.
+    /// `marks` is scratch memory for the indices of the stores seen; what it held is lost. Fails if
+    /// memory allocation fails.
     pub(crate) fn have_distinct_stores(
         &self,
         entries: &[Entry],
@@ -200,8 +200,9 @@ impl<S> Stores<S> {
     }
 
     /// Returns a mutable reference to the store with the routes of `peer`, or `None` if it has
-    /// none. `number` is a hint of the store's index, tried first; it is set to the index if there
-    /// is a store, and unchanged otherwise.
+    /// none. A caller that gives the store its first route or takes its last one has to call
+    /// [`Stores::set_routed`] then. `number` is a hint of the store's index, tried first; it is set
+    /// to the index if there is a store, and unchanged otherwise.
     #[inline]
     pub(crate) fn get_mut(&mut self, number: &mut usize, peer: &Peer) -> Option<&mut S>
         ensures* writes_back { sem 𝓛 (lends_store S.row self.entry peer.now result) }
@@ -229,11 +230,11 @@ impl<S> Stores<S> {
         self.routed.set_member(number, has);
     }
 
-    /// Brings the set of the stores that have a route up to date, after at most one route was set
-    /// or cleared in the store with the index `number`, which now has `count` routes. Removes the
-    /// store if `count` is 0, and adds it if `count` is 1. A larger count changes nothing, since
-    /// the store had a route before too. Requires that `number` is the index of a store, and that
-    /// this store is in the set already if `count` is two or more. Allocates no memory.
+    /// Updates the set of the stores that have a route, after at most one route was set or cleared
+    /// in the store with the index `number`, which now has `count` routes. Takes the store out of
+    /// the set if `count` is 0, and puts it in if `count` is 1. A larger count changes nothing,
+    /// since the store had a route before too. Requires that `number` is the index of a store, and
+    /// that this store is in the set already if `count` is two or more. Allocates no memory.
     #[inline]
     pub(crate) fn update_routed(&mut self, number: usize, count: u64)
         requires within { number < length self.old.held.items }
@@ -249,9 +250,9 @@ impl<S> Stores<S> {
         self.set_routed(number, count > 0);
     }
 
-    /// Shrinks the capacity of the list of stores, of that of their peers, and of the set of the
-    /// stores that have a route, each if [`shrink_if_oversized`] finds it too large for its
-    /// elements. Stores and their indices stay.
+    /// Shrinks the capacity of the list of stores, of the list of their peers, and of the set of
+    /// the stores that have a route, each if the function [`shrink_if_oversized`] finds it too
+    /// large for its elements. Stores and their indices stay.
     pub(crate) fn shrink_if_oversized(&mut self)
         ensures stores { stores_in self.new ≡ stores_in self.old }
         ensures routed { routed_in self.new ≡ routed_in self.old }
@@ -266,9 +267,9 @@ impl<S: Drop> Stores<S> {
     ghost use Rattle.rib_player.specs.StoresByPeer.{stores_in};
     ghost use Rattle.rib_player.specs.Noted.{routed_in};
 
-    /// Adds `store`, which is taken to have no route yet, for `peer`. Its index, by which it is
-    /// found, is the number of stores before the call. Requires that `peer` has no store. Fails if
-    /// memory allocation fails; nothing is added then, and `store` is dropped.
+    /// Adds `store`, which is taken to have no route yet, for `peer`. The store gets the next
+    /// index, which is the number of stores before the call. Requires that `peer` has no store.
+    /// Fails if memory allocation fails; nothing is added then, and `store` is dropped.
     pub(crate) fn insert(&mut self, peer: Peer, store: S) -> Result<(), AllocError>
         requires { store_at (stores_in self.old) peer ≡ None }
         ensures added { OnOk result
@@ -314,8 +315,8 @@ impl<S: Drop> Stores<S> {
     }
 }
 
-/// Sets the number that `order`, the map from peers to the indices of their stores, has for `peer`
-/// to `number`. Requires that `peer` is in `order`.
+/// Sets the number (the index of the store) that `order` has for `peer` to `number`. `order` is the
+/// map from peers to the indices of their stores. Requires that `peer` is in `order`.
 fn renumber(order: &mut BTreeMap<Peer, usize>, peer: &Peer, number: usize)
     requires { IsSome (lookup (eq_by_cmp peer_cmp peer.now) order.old.entries) }
     ensures { IsUpdatedAt order.old.entries order.new.entries peer.now (Some number) }
@@ -325,10 +326,11 @@ fn renumber(order: &mut BTreeMap<Peer, usize>, peer: &Peer, number: usize)
     }
 }
 
-/// Notes in `places`, a hash table of the numbers of peers, that `peer` has the number `number`:
-/// sets the element at [`slot_of`], and so replaces what another peer may have there. A number
-/// above `u32::MAX` is noted as `u32::MAX`. Readers don't rely on an element: they check whether
-/// the store with that number is the peer's. Does nothing if `places` is empty.
+/// Stores in `places`, a small hash table from peers to the indices of their stores, that the store
+/// of `peer` has the index `number`. Sets the element at [`slot_of`], and so replaces what another
+/// peer may have there. A number above `u32::MAX` is stored as `u32::MAX`. Readers don't rely on an
+/// element: they check whether the store with that index is the peer's. Does nothing if `places` is
+/// empty.
 fn set_slot(places: &mut Vec<u32>, peer: &Peer, number: usize)
     requires { vec_len places.old ≤ PLACES }
     ensures { vec_len places.new ≤ PLACES }

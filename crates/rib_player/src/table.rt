@@ -81,8 +81,8 @@ impl<S: PrefixStore<Rc<Route>>> Table<S> {
         }
     }
 
-    /// Adds `visited`, a number of nodes that a prefetch visited, to a count that nobody reads, so
-    /// that a compiler can't remove the prefetch. Keys and routes stay.
+    /// Adds `visited`, the number of nodes that a prefetch visited, to a count that nobody reads,
+    /// so that a compiler can't remove the prefetch. The count wraps around. Keys and routes stay.
     pub(crate) fn add_prefetched_nodes(&mut self, visited: u64)
         ensures { self.new ≡ self.old }
     {
@@ -100,7 +100,8 @@ impl<S: PrefixStore<Rc<Route>>> Table<S> {
 
     /// Swaps the table's route of `pair`, a peer and a prefix, with `route`; either may be `None`.
     /// Requires that the pair is a key (has memory for a route). `hint` may be the index of the
-    /// peer's store, or [`NO_NUMBER`]; a wrong one takes only time. Allocates no memory.
+    /// peer's store, and is tried first; a wrong one, such as [`NO_NUMBER`], takes only time.
+    /// Allocates no memory.
     pub(crate) fn exchange(&mut self, pair: &Pair, hint: usize, route: &mut Option<Rc<Route>>)
         requires { set.contains self.old.keys pair.now ≡ true }
         ensures keys { self.new.keys ≡ self.old.keys }
@@ -118,9 +119,9 @@ impl<S: PrefixStore<Rc<Route>>> Table<S> {
 
     /// Swaps the table's route of `pair`, a peer and a prefix, with `route`, either of which may be
     /// `None`, and makes the pair a key, which has memory for a route. Returns `true` if it wasn't
-    /// a key before, `false` if it was. `hint` may be the index of the peer's store, or
-    /// [`NO_NUMBER`]; a wrong one takes only time. Fails if memory allocation fails; table and
-    /// `route` are unchanged then.
+    /// a key before, `false` if it was. `hint` may be the index of the peer's store, and is tried
+    /// first; a wrong one, such as [`NO_NUMBER`], takes only time. Fails if memory allocation
+    /// fails; table and `route` are unchanged then.
     pub(crate) fn put(
         &mut self,
         pair: &Pair,
@@ -201,7 +202,8 @@ impl<S: PrefixStore<Rc<Route>>> Table<S> {
     }
 
     /// Returns the route of the peer to exactly this prefix, or `None` if it has none. `hint` may
-    /// be the index of the peer's store, or [`NO_NUMBER`]; a wrong one takes only time.
+    /// be the index of the peer's store, and is tried first; a wrong one, such as [`NO_NUMBER`],
+    /// takes only time.
     #[inline]
     pub(crate) fn find_route(&self, hint: usize, peer: &Peer, prefix: &Prefix) -> Option<&Rc<Route>>
         ensures { option_map (λ route. route.now.value) result ≡
@@ -231,11 +233,11 @@ impl<S: PrefixStore<Rc<Route>>> Table<S> {
         self.store(peer)?.after(prefix)
     }
 
-    /// Replaces the elements of `found` by the peer's routes to the prefixes that follow `prefix`,
-    /// or to its first prefixes if that is `None`. Each route is with its prefix, in ascending
-    /// order of prefixes. There are as many as `found` has capacity for, or fewer if the peer has
-    /// no more; none if the capacity is 0. The capacity stays, and no memory is allocated. A walk
-    /// over all routes needs fewer calls of this than of [`Table::after`].
+    /// Replaces the elements of `found` by the peer's routes to the next prefixes greater than
+    /// `prefix`, or to its first prefixes if that is `None`. Each route is with its prefix, in
+    /// ascending order of prefixes. There are as many as `found` has capacity for, or fewer if the
+    /// peer has no more; none if the capacity is 0. The capacity stays, and no memory is allocated.
+    /// A walk over all routes needs fewer calls of this than of [`Table::after`].
     pub fn next_routes<'a>(
         &'a self,
         peer: &Peer,
@@ -324,8 +326,8 @@ impl<S: PrefixStore<Rc<Route>>> Table<S> {
     }
 
     /// Returns the store with the peer's prefixes and routes, or `None` if the peer has no key: no
-    /// prefix with memory for a route, with or without one. `hint` may be the store's
-    /// index, or [`NO_NUMBER`]; a wrong one takes only time.
+    /// prefix with memory for a route, with or without one. `hint` may be the store's index, and is
+    /// tried first; a wrong one, such as [`NO_NUMBER`], takes only time.
     #[inline]
     fn find_store(&self, hint: usize, peer: &Peer) -> Option<&S>
         ensures keys { IfSome result (λ store. (n : Network) →

@@ -19,11 +19,12 @@ pub record Trees (R : Type 0) : Type 0 where
   pub v4 : Shape R
   pub v6 : Shape R
 
--- the shapes of an IPv4 and an IPv6 tree
+-- an IPv4 and an IPv6 tree as `Trees`: each by the prefixes, the slots and the children of its
+-- nodes, however they lie in memory
 abbrev pub trees_of : {R : Type 0} → Tree V4Prefix R → Tree Network R → Trees R
 trees_of v4 v6 = record { v4 = shape_of v4_network v4; v6 = shape_of v6_network v6 }
 
--- the shape of the family's tree
+-- the IPv4 or the IPv6 tree of `trees`, by the family
 abbrev pub tree_of : {R : Type 0} → Family → Trees R → Shape R
 tree_of V4 trees = trees.v4
 tree_of V6 trees = trees.v6
@@ -33,7 +34,8 @@ abbrev pub with_tree : {R : Type 0} → Family → Shape R → Trees R → Trees
 with_tree V4 tree trees = record { v4 = tree; v6 = trees.v6 }
 with_tree V6 tree trees = record { v4 = trees.v4; v6 = tree }
 
--- the keys of both trees with their routes, in ascending order, IPv4 first
+-- the keys of both trees, each with its route or `None`: the IPv4 keys first, and those of each
+-- tree in pre-order, which in a radix tree is ascending
 abbrev pub slots_in : {R : Type 0} → Trees R → Slots R
 slots_in trees = slots_of trees.v4 ++ slots_of trees.v6
 
@@ -44,7 +46,8 @@ pub record AreRadixTrees {R : Type 0} (trees : Trees R) : Type 0 where
   pub v4 : IsRadixTree trees.v4
   pub v6 : IsRadixTree trees.v6
 
--- the prefix has the slot `slot` in `new`, and every other prefix has the slot that it has in `old`
+-- the prefix has the slot `slot` in the list `new` (`None` if it is no key, `Some None` if it is a
+-- key without a route), and every other prefix has the slot there that it has in `old`
 abbrev pub ChangesAt : {R : Type 0} → Slots R → Network → Option (Option R) → Slots R → Type 0
 ChangesAt old prefix slot new = (q : Network) → slot_at new q ≡ cond (eq_by_cmp network_cmp prefix q) slot (slot_at old q)
 

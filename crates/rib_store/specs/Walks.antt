@@ -17,8 +17,9 @@ abbrev pub first_some : {A : Type 0} → Option A → Option A → Option A
 first_some None other = other
 first_some (Some x) other = Some x
 
--- the deepest route on the path of the tree along the way `key`, with its prefix; this is the
--- longest prefix with a route that covers the key. `None` if there is no such route
+-- the prefix and the route of the deepest node with a route that a descent along the way `key` (the
+-- bit of a family, then those of a prefix) meets, the node at `key` included; `None` if none has a
+-- route. In a radix tree, this is the longest prefix with a route that covers the key
 abbrev pub deepest_route : {R : Type 0} → Shape R → List Bool → Option (Network × R)
 deepest_route Empty key = None
 deepest_route (Rooted prefix slot left right) key =
@@ -26,8 +27,8 @@ deepest_route (Rooted prefix slot left right) key =
     (first_some (deepest_route left key) (routed_at prefix (slot_of slot)))
     (first_some (deepest_route right key) (routed_at prefix (slot_of slot)))
 
--- the number of nodes that a descent along the way `key` visits, with the one at which it leaves
--- the tree
+-- the number of nodes that a descent from the root along the way `key` visits; it ends with the
+-- node at `key`, or the first off this way, both of which count, or where a child is empty
 abbrev pub visit_count : {R : Type 0} → Shape R → List Bool → ℕ
 visit_count Empty key = 0
 visit_count (Rooted prefix slot left right) key =
@@ -40,8 +41,9 @@ first Empty = None
 first (Rooted prefix slot left right) =
     first_some (routed_at prefix (slot_of slot)) (first_some (first left) (first right))
 
--- the entry with the least prefix that is greater than `low` and has a route; `None` if there is
--- none. It holds in radix trees only, where pre-order is the order of prefixes
+-- in a radix tree, the entry with the least prefix that is greater than `low` and has a route;
+-- `None` if there is none. It is found by a descent, which relies on pre-order being the order of
+-- prefixes
 abbrev pub first_after : {R : Type 0} → Shape R → Network → Option (Network × R)
 first_after Empty low = None
 first_after (Rooted prefix slot left right) low =
@@ -59,7 +61,8 @@ all_routes Empty = []
 all_routes (Rooted prefix slot left right) =
     option_to_list (routed_at prefix (slot_of slot)) ++ (all_routes left ++ all_routes right)
 
--- all entries with a route whose prefix is greater than `low`, in pre-order, in a radix tree
+-- in a radix tree, all entries with a route whose prefix is greater than `low`, in ascending order.
+-- They are found by a descent, which relies on pre-order being the order of prefixes
 abbrev pub all_after : {R : Type 0} → Shape R → Network → List (Network × R)
 all_after Empty low = []
 all_after (Rooted prefix slot left right) low =
@@ -70,7 +73,8 @@ all_after (Rooted prefix slot left right) low =
     (all_after left low ++ all_routes right)
     (all_after right low)
 
--- the list `old` after the elements of `new` were appended to it until it has `room` elements
+-- the list `old`, followed by the first elements of `new`, until it has `room` elements or `new`
+-- ends; `old` alone if it has as many already
 abbrev pub filled : {A : Type 0} → ℕ → List A → List A → List A
 filled room old new = old ++ take (room - length old) new
 

@@ -96,8 +96,9 @@ impl<R: Drop, S: PrefixStore<R>> PrefixStore<R> for LeakingStore<S> {
     }
 }
 
-/// Returns the target of a prefetch in the wrapped store: the prefix of `place` with the store that
-/// is inside its [`LeakingStore`], or `Unused` if `place` is `Unused`.
+/// Converts a prefetch target (a store and a prefix whose memory there is to be read in advance) to
+/// one for the wrapped store, with the prefix of `place` and the store inside its [`LeakingStore`].
+/// `Unused`, an empty target, stays `Unused`.
 fn inner_target<'a, S>(place: &PrefetchTarget<'a, LeakingStore<S>>) -> PrefetchTarget<'a, S> {
     match place {
         PrefetchTarget::Unused => PrefetchTarget::Unused,

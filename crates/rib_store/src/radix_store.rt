@@ -80,8 +80,8 @@ impl<R: Drop> RadixStore<R> {
         }
     }
 
-    /// Looks up `prefix` itself. Returns `None` if it isn't a key (a prefix that the store keeps,
-    /// with or without a route), `Some(None)` if it is a key without a route, and
+    /// Returns what the store has at exactly `prefix`: `None` if it isn't a key (a prefix that the
+    /// store keeps, with or without a route), `Some(None)` if it is a key without a route, and
     /// `Some(Some(route))` if it has one.
     #[inline]
     fn slot(&self, prefix: &Prefix) -> Option<Option<&R>>
@@ -238,10 +238,10 @@ impl<R: Drop> PrefixStore<R> for RadixStore<R> {
     }
 }
 
-/// Returns a descent to the prefix of `place`: a walk down a tree that only reads its nodes, so
-/// that they are in the processor's cache. It starts at the root of a tree of the store of `place`,
-/// the tree of the prefix's family. If `place` is `Unused`, a slot of a batch without a prefix, the
-/// descent has ended already and reads nothing.
+/// Returns a descent to the prefix of `place`: a walk down a tree that only reads nodes, so that
+/// they are in the processor's cache for a later look-up. The tree is the one for the prefix's
+/// address family in the store of `place`. If `place` is `Unused`, an empty target, the descent is
+/// at its end already, and reads nothing.
 fn descent_to<'a, R: Drop>(place: &PrefetchTarget<'a, RadixStore<R>>) -> PrefetchDescent<'a, R> {
     let PrefetchTarget::At(store, prefix) = place else {
         return PrefetchDescent::ended();
@@ -254,10 +254,11 @@ fn descent_to<'a, R: Drop>(place: &PrefetchTarget<'a, RadixStore<R>>) -> Prefetc
     PrefetchDescent::new(root, prefix)
 }
 
-/// Returns the number of routes of a store after a route was swapped in or out, or `u64::MAX` if
-/// there are more. `count` is the number before, or `u64::MAX` if there were more; `brought` is
-/// `true` if a route was put into the store, and `taken_out` if one was taken out of it. If `count`
-/// is `u64::MAX` and a route is gone, the routes of the trees `v4` and `v6` are counted anew.
+/// Returns the number of routes of a store after a change at one prefix, or `u64::MAX` if there are
+/// more. `count` is the number before, or `u64::MAX` if there were more. `brought` is `true` if the
+/// prefix has a route now, and `taken_out` if it had one before. `v4` and `v6` are the store's
+/// trees after the change; their routes are counted anew if `count` is `u64::MAX` and there is one
+/// route less.
 fn route_count_after<R: Drop>(
     count: u64,
     brought: bool,

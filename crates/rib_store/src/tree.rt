@@ -23,10 +23,11 @@ use prefix_store::V4Prefix;
 use std::mem::size_of;
 use std::rc::Rc;
 
-/// A path-compressed radix tree, or a subtree, of keys: prefixes that it keeps, with or without a
-/// route. A child on the left covers prefixes whose bit after those of its parent's prefix is 0,
-/// one on the right those where it is 1. A key without keys below it is stored in its parent; every
-/// other node is on the heap. `K` is a prefix of one family, and `R` a route.
+/// A path-compressed radix tree, or a subtree of one, of keys: prefixes that it keeps, with or
+/// without a route. A prefix below a node is in its left child if the first bit after the node's
+/// own prefix is 0, and in its right child if that bit is 1. A key without keys below it is stored
+/// in its parent; every other node is on the heap. `K` is the type of the prefixes, of one address
+/// family, and `R` the type of the routes.
 #[cycle(tree)]
 #[derive(Drop)]
 pub(crate) enum Tree<K, R> {
@@ -46,8 +47,8 @@ pub(crate) enum Tree<K, R> {
     Rooted(bool, K, Box<Node<K, R>>),
 }
 
-/// The children of a fork: a node whose prefix isn't a key (a prefix that the tree keeps), but
-/// covers keys on both sides.
+/// The two children of a fork: a node whose prefix isn't a key (a prefix that the tree keeps), but
+/// covers keys on both sides. The prefix itself is in [`Tree::Forked`].
 #[cycle(tree)]
 #[derive(Drop)]
 pub(crate) struct Fork<K, R> {
@@ -55,9 +56,9 @@ pub(crate) struct Fork<K, R> {
     right: Tree<K, R>,
 }
 
-/// The slot and the children of a node that may be a key: a prefix that the tree keeps, with or
-/// without a route. The slot tells whether the node's prefix is a key, and holds its route. The
-/// prefix itself is beside this in [`Tree::Rooted`]. A node that has never been a key has a
+/// The slot and the two children of a node whose prefix is a key (a prefix that the tree keeps,
+/// with or without a route), or was one before. The slot tells whether it is a key, and holds its
+/// route. The prefix itself is in [`Tree::Rooted`]. A node whose prefix never was a key has a
 /// [`Fork`] instead.
 #[cycle(tree)]
 #[derive(Drop)]
@@ -104,8 +105,8 @@ pub(crate) enum KeySlot<R> {
 }
 
 impl<K, R> Tree<K, R> {
-    /// Returns `true` if some key of the tree has a route, and `false` if none has. Visits the root
-    /// only, whose mark tells it for the keys below.
+    /// Returns `true` if the tree has at least one route. Visits the root only, which has a mark
+    /// that tells it for the whole tree.
     fn has_routes(&self) -> bool
         ensures { result ≡ has_routes self.now }
     {
@@ -120,8 +121,8 @@ impl<K, R> Tree<K, R> {
 }
 
 impl<K, R> Fork<K, R> {
-    /// Returns `true` if some key below the fork has a route. Reads it from the marks of the two
-    /// children (each tells whether a key in that subtree has a route), and visits nothing below
+    /// Returns `true` if at least one prefix below the fork has a route. Reads it from the marks of
+    /// the two children (each tells whether that subtree has a route), and visits nothing below
     /// them.
     fn has_routes(&self) -> bool
         ensures { result ≡ any_has_routes NoKey self.now.left self.now.right }
@@ -129,10 +130,10 @@ impl<K, R> Fork<K, R> {
         self.left.has_routes() || self.right.has_routes()
     }
 
-    /// Returns `true` if some key below the fork, but not in the child on the side `turn`, has a
-    /// route: in the right child if `turn` is `Left`, in the left one if it is `Right`, or in
-    /// either if it is `Here` or `Outside`. Reads it from the marks of the two children (each tells
-    /// whether a key in that subtree has a route), and visits nothing below them.
+    /// Returns `true` if a subtree below the fork other than the child on the side `turn` has a
+    /// route: the right child if `turn` is `Left`, the left one if it is `Right`, or either if it
+    /// is `Here` or `Outside`. Reads it from the marks of the two children (each tells whether that
+    /// subtree has a route), and visits nothing below them.
     fn has_routes_elsewhere(&self, turn: Turn) -> bool
         ensures { result ≡ any_routes_elsewhere turn NoKey self.now.left self.now.right }
     {
@@ -143,11 +144,11 @@ impl<K, R> Fork<K, R> {
         }
     }
 
-    /// Returns `true` if the mark of the fork, which tells whether some key below it has a route,
-    /// is `true` and stays so after a change in the child on the side `turn`. `routed` is the mark
-    /// before the change. `adds_route` is `true` if the change puts a route, and `false` if it may
-    /// take one away. Returns `false` if the mark may change; then the other child has no route,
-    /// and the mark is to become that of the changed child.
+    /// Returns `true` if the fork's mark (whether some prefix below it has a route) is `true` and
+    /// surely stays so after a change in the child on the side `turn`, `Left` or `Right`. `routed`
+    /// is the mark before the change. `adds_route` is `true` if the change puts a route there, and
+    /// `false` if it may take one away. If `false` is returned, the other child has no route, and
+    /// the caller sets the mark to whether the changed child has one.
     #[inline]
     #[tactic(auto, using(crate::proofs::MarkLaws::none_beside))]
     fn keeps_mark(&self, routed: bool, adds_route: bool, turn: Turn) -> bool
@@ -166,8 +167,8 @@ impl<K, R> Fork<K, R> {
 }
 
 impl<K, R> Node<K, R> {
-    /// Returns `true` if the node's prefix or some key below it has a route. Reads it from the slot
-    /// and the marks of the two children (each tells whether a key in that subtree has a route),
+    /// Returns `true` if the node's own prefix or some prefix below it has a route. Reads it from
+    /// the slot and the marks of the two children (each tells whether that subtree has a route),
     /// and visits nothing below them.
     fn has_routes(&self) -> bool
         ensures { result ≡ any_has_routes self.now.slot self.now.left self.now.right }
@@ -175,11 +176,10 @@ impl<K, R> Node<K, R> {
         self.left.has_routes() || self.right.has_routes() || self.slot.is_filled()
     }
 
-    /// Returns `true` if the node's prefix or some key below it has a route, leaving out one part:
-    /// the child on the side `turn` if that is `Left` or `Right`, or the node's own slot if it is
-    /// `Here` or `Outside`. Reads it from the slot and the marks of the children, and visits
-    /// nothing below them. The mark of a child, whether a key in that subtree has a route, lies
-    /// here beside the pointer to the child.
+    /// Returns `true` if the node's own prefix or some prefix below it has a route, leaving out one
+    /// part: the child on the side `turn` if that is `Left` or `Right`, or the node's own prefix if
+    /// it is `Here` or `Outside`. Reads it from the slot and the marks of the two children (each
+    /// tells whether that subtree has a route), and visits nothing below them.
     fn has_routes_elsewhere(&self, turn: Turn) -> bool
         ensures { result ≡
             any_routes_elsewhere turn self.now.slot self.now.left self.now.right }
@@ -191,11 +191,12 @@ impl<K, R> Node<K, R> {
         }
     }
 
-    /// Returns `true` if the mark of the node, which tells whether it or some key below it has a
-    /// route, is `true` and stays so after a change in one part: the child on the side `turn`, or
-    /// the node's own slot if `turn` is neither side. `routed` is the mark before the change.
-    /// `adds_route` is `true` if the change puts a route, and `false` if it may take one away.
-    /// Returns `false` if the mark may change; then the other parts have no route.
+    /// Returns `true` if the node's mark (whether its own prefix or some prefix below it has a
+    /// route) is `true` and surely stays so after a change in one part: the child on the side
+    /// `turn`, or the node's own slot if that is neither `Left` nor `Right`. `routed` is the mark
+    /// before the change. `adds_route` is `true` if the change puts a route there, and `false` if
+    /// it may take one away. If `false` is returned, the other parts have no route, and the caller
+    /// sets the mark to whether the changed part has one.
     #[inline]
     #[tactic(auto, using(crate::proofs::MarkLaws::none_beside))]
     fn keeps_mark(&self, routed: bool, adds_route: bool, turn: Turn) -> bool
@@ -214,16 +215,17 @@ impl<K, R> Node<K, R> {
 }
 
 impl<R> KeySlot<R> {
-    /// Returns `true` if the slot has a route: if the node's prefix is a key (a prefix that the
-    /// tree keeps) with a route.
+    /// Returns `true` if the slot has a route, and `false` if the node's prefix has none, whether
+    /// or not it is a key (a prefix that the tree keeps).
     fn is_filled(&self) -> bool
         ensures { result ≡ is_filled self.now }
     {
         matches!(self, KeySlot::Filled(_))
     }
 
-    /// Returns `None` if the node's prefix isn't a key (a prefix that the tree keeps), `Some(None)`
-    /// if it is a key without a route, or else `Some` of its route.
+    /// Returns what the slot tells of the node's prefix: `None` if it isn't a key (a prefix that
+    /// the tree keeps, with or without a route), `Some(None)` if it is a key without a route, and
+    /// `Some(Some(route))` if it has one.
     pub(crate) fn route_if_key(&self) -> Option<Option<&R>>
         ensures { option_map (λ slot. option_copied slot) result ≡ slot_of self.now }
     {
@@ -234,7 +236,7 @@ impl<R> KeySlot<R> {
         }
     }
 
-    /// Returns `prefix`, which is that of the node, with the route in the node's slot, or `None` if
+    /// Returns the route in the slot together with `prefix`, the prefix of the node, or `None` if
     /// there is no route.
     fn route_with_prefix(&self, prefix: Prefix) -> Option<(Prefix, &R)>
         ensures { MatchOption result (routed_at prefix (slot_of self.now) ≡ None)
@@ -246,7 +248,7 @@ impl<R> KeySlot<R> {
         }
     }
 
-    /// Appends `prefix`, which is that of the node, with the route in the node's slot to `found`.
+    /// Appends the route in the slot, together with `prefix`, the prefix of the node, to `found`.
     /// Does nothing if there is no route, or if `found` has no spare capacity; so it allocates no
     /// memory.
     fn add_route_if_any<'a>(&'a self, prefix: Prefix, found: &mut Vec<(Prefix, &'a R)>)

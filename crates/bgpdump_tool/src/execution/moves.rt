@@ -25,14 +25,15 @@ use std::rc::Rc;
 /// The number of the BGP session state Idle (RFC 6396, section 4.4.1): 1.
 const IDLE: u16 = 1;
 
-/// Executes `next`: moves the player `count` steps forward, or as far as the input goes, and writes
-/// its position to `out`, such as `at 5`, or `at 5 end` if the input came to its end. A step redoes
-/// an undone event, or else plays the next one from `input`; each faulty record is reported to
-/// `err` and counts as one of the `count` steps. Requires, so that no count overflows, that at most
-/// 2^40 octets were taken from `input`, and that the number of events played exceeds the number of
-/// these octets by at most 2^20 ([`LONGEST_SCRIPT`](crate::LONGEST_SCRIPT)). Fails with the
-/// [`Outcome`] that ends the program: a failed read or write, an input that is too long, or a lack
-/// of memory.
+/// Executes the command `next`: moves the player of `session` forward by `count` steps (played
+/// events), or as far as the input goes. Writes the position reached, the number of steps before
+/// the player's cursor, to `out`: `at 5`, or `at 5 end` if the input ended first. A step redoes an
+/// undone event, or else plays the next one from `input`; each faulty record is reported to `err`
+/// and counts as one of the `count` steps. Fails with the [`Outcome`] that ends the program: a
+/// failed read or write, an input that is too long, or a lack of memory; how far the player has
+/// moved is unspecified then. Requires, so that no count overflows, that at most 2^40 octets were
+/// taken from `input`, and that the player has at most 2^20
+/// ([`LONGEST_SCRIPT`](crate::LONGEST_SCRIPT)) more steps (played events) than octets were taken.
 pub(crate) fn next<S: PrefixStore<Rc<Route>>, I: Input, O: Output, E: Output>(
     session: &mut Session<S>,
     input: &mut I,
@@ -61,14 +62,15 @@ pub(crate) fn next<S: PrefixStore<Rc<Route>>, I: Input, O: Output, E: Output>(
     replied(write_position(session.player.at(), false, out, &mut session.text))
 }
 
-/// Executes `goto`: undoes, redoes or plays events until `position` events are before the player's
-/// cursor, and writes the position reached to `out`, such as `at 5`. A move back ends early at the
-/// oldest event that can be undone, and a move forward at the end of the input (`at 5 end`). Each
-/// faulty record is reported to `err` and counts as no event. So that no count overflows, requires
-/// that at most 2^40 octets were taken from `input`, and that the number of events played exceeds
-/// the number of these octets by at most 2^20 ([`LONGEST_SCRIPT`](crate::LONGEST_SCRIPT)). Fails
+/// Executes the command `goto`: undoes, redoes or plays events until `position` events are before
+/// the cursor of the player in `session`, and writes the position reached to `out`, such as `at 5`.
+/// A move back ends early at the oldest event that can be undone, and a move forward at the end of
+/// the input (`at 5 end`). Each faulty record is reported to `err` and counts as no event. Fails
 /// with the [`Outcome`] that ends the program: a failed read or write, an input that is too long,
-/// or a lack of memory.
+/// or a lack of memory; how far the player has moved is unspecified then. Requires, so that no
+/// count overflows, that at most 2^40 octets were taken from `input`, and that the player has at
+/// most 2^20 ([`LONGEST_SCRIPT`](crate::LONGEST_SCRIPT)) more steps (played events) than octets
+/// were taken.
 pub(crate) fn goto<S: PrefixStore<Rc<Route>>, I: Input, O: Output, E: Output>(
     session: &mut Session<S>,
     input: &mut I,
@@ -101,8 +103,8 @@ pub(crate) fn goto<S: PrefixStore<Rc<Route>>, I: Input, O: Output, E: Output>(
     replied(write_position(session.player.at(), false, out, &mut session.text))
 }
 
-/// Undoes `count` steps, that is played events, or all that can be undone if there are fewer: those
-/// before the cursor that aren't forgotten.
+/// Undoes the last `count` steps (played events) before the player's cursor, or all that can be
+/// undone if these are fewer: steps that were forgotten ([`Player::forget`]) can't be.
 fn undo_steps<S: PrefixStore<Rc<Route>>>(player: &mut Player<S>, count: u64)
     ensures { player.new ≡
         at_cursor (player.old.cursor - min count (undoable player.old)) player.old }
@@ -114,10 +116,11 @@ fn undo_steps<S: PrefixStore<Rc<Route>>>(player: &mut Player<S>, count: u64)
     }
 }
 
-/// Executes `back`: undoes `count` steps, that is played events, or all that can be undone if there
-/// are fewer, and writes the position of the player to `out`, such as `at 5`. Overwrites `text`, a
-/// buffer. Fails if memory allocation or `out` fails; some of the reply's first octets may have
-/// been written then. The steps are undone even so.
+/// Executes the command `back`: undoes the last `count` steps (played events) before the player's
+/// cursor, or all that can be undone if these are fewer. Writes the position reached, the number of
+/// steps before the cursor, to `out`, such as `at 5`. Overwrites `text`, a buffer. Fails if memory
+/// allocation or `out` fails; some of the reply's first octets may have been written then, and the
+/// steps are undone even so.
 pub(crate) fn back<S: PrefixStore<Rc<Route>>, O: Output>(
     player: &mut Player<S>,
     count: u64,
@@ -134,10 +137,12 @@ pub(crate) fn back<S: PrefixStore<Rc<Route>>, O: Output>(
     write_position(player.at(), false, out, text)
 }
 
-/// Executes `lose`: plays the loss of the session with `peer` as a step, a change of its state from
-/// Established to Idle at time 0. Returns the number of undone steps that redo would have applied
-/// again, and that this drops. Requires that the player's position is below `u64::MAX`. Fails if
-/// memory allocation fails; `player` is unchanged then.
+/// Plays the loss of the session with `peer` as the next step, for the command `lose`: a change of
+/// the session's state from Established to Idle at time 0, which removes the peer's routes. Drops
+/// the steps (played events) after the player's cursor, which were undone and can't be redone any
+/// more, and returns how many these were. Requires that the player's position, the number of steps
+/// before its cursor, is below `u64::MAX`. Fails if memory allocation fails; `player` is unchanged
+/// then.
 pub(crate) fn play_session_loss<S: PrefixStore<Rc<Route>>>(
     player: &mut Player<S>,
     alloc: Global,

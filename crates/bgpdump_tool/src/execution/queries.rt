@@ -23,10 +23,10 @@ use std::rc::Rc;
 /// copied at once.
 const MANY: usize = 64;
 
-/// Executes `peers`: writes to `out` a line for each peer that has a route, with the number of its
-/// routes, such as `PEER|192.0.2.1|65000|12`, or `none` if there is no such peer. Overwrites
-/// `text`, a buffer. Fails if memory allocation or `out` fails; some of the reply's first octets
-/// may have been written then.
+/// Executes the command `peers`: writes to `out` a line for each peer that has a route in `table`,
+/// with the number of its routes, such as `PEER|192.0.2.1|65000|12`, or `none` if there is no such
+/// peer. Overwrites `text`, a buffer. Fails if memory allocation or `out` fails; some of the
+/// reply's first octets may have been written then.
 pub(crate) fn peers<S: PrefixStore<Rc<Route>>, O: Output>(
     table: &Table<S>,
     out: &mut O,
@@ -110,10 +110,10 @@ fn write_peer_line<O: Output>(
     Ok(())
 }
 
-/// Executes `table`: writes all routes of `peer` to `out`, each on a line that begins with `RIB`,
-/// in the order of their prefixes, and then their number, such as `routes 12`. A peer without
-/// routes gets `routes 0`. Overwrites `text`, a buffer. Fails if memory allocation or `out` fails;
-/// some of the reply's first octets may have been written then.
+/// Executes the command `table`: writes all routes of `peer` to `out`, each on a line that begins
+/// with `RIB`, in the order of their prefixes, and then their number, such as `routes 12`. A peer
+/// without routes gets `routes 0`. Overwrites `text`, a buffer. Fails if memory allocation or `out`
+/// fails; some of the reply's first octets may have been written then.
 pub(crate) fn table<S: PrefixStore<Rc<Route>>, O: Output>(
     table: &Table<S>,
     alloc: Global,
@@ -141,8 +141,9 @@ pub(crate) fn table<S: PrefixStore<Rc<Route>>, O: Output>(
 }
 
 /// Writes to `out` the route of `peer` to `prefix`, or `none` if it has none. Overwrites `text`.
-/// Executes the command `route`; the route's line begins with `RIB`. `text` is a buffer. Fails if
-/// memory allocation or `out` fails; some of the reply's first octets may have been written then.
+/// This executes the command `route`. The route is written on a line that begins with `RIB`, for
+/// which `text` is a buffer. Fails if memory allocation or `out` fails; some of the reply's first
+/// octets may have been written then.
 pub(crate) fn route<S: PrefixStore<Rc<Route>>, O: Output>(
     table: &Table<S>,
     peer: &Peer,
@@ -160,10 +161,10 @@ pub(crate) fn route<S: PrefixStore<Rc<Route>>, O: Output>(
     }
 }
 
-/// Executes `lookup`: writes to `out` the line of the route of `peer` whose prefix is the longest
-/// match for `addr`, which begins with `RIB`, or `none` if no prefix that `peer` has a route to
-/// contains `addr`. Overwrites `text`, a buffer. Fails if memory allocation or `out` fails; some of
-/// the reply's first octets may have been written then.
+/// Executes the command `lookup`: writes to `out` the route of `peer` to the longest prefix that
+/// contains `addr`, on a line that begins with `RIB`, or `none` if the peer has no route to a
+/// prefix that contains it. Overwrites `text`, a buffer. Fails if memory allocation or `out` fails;
+/// some of the reply's first octets may have been written then.
 pub(crate) fn lookup<S: PrefixStore<Rc<Route>>, O: Output>(
     table: &Table<S>,
     peer: &Peer,

@@ -31,9 +31,9 @@ impl Entry {
 
     /// Swaps the route that the entry keeps with the table's route of the entry's peer and prefix;
     /// either may be absent, so that the other is moved. This undoes what the entry's step (a
-    /// played event) did there if it is applied, and redoes it if it is undone; doing it twice
-    /// changes nothing. Requires that peer and prefix are a key of the table (have memory for a
-    /// route). Allocates no memory.
+    /// played event) did to the pair if the step is applied, and redoes it if it is undone. Doing
+    /// it twice changes nothing. Requires that peer and prefix are a key of the table (have memory
+    /// for a route). Allocates no memory.
     #[inline(always)]
     pub(crate) fn exchange<S: PrefixStore<Rc<Route>>>(&mut self, table: &mut Table<S>)
         requires { set.contains table.old.keys self.old.pair ≡ true }
@@ -52,9 +52,9 @@ impl Entry {
         self.kept = absent.with_route(other);
     }
 
-    /// Marks the entry as applied by a step that clears the route of its peer and prefix: the entry
-    /// keeps `route`, the one before the step, for undo. Doesn't change the table, from which the
-    /// caller took `route` before.
+    /// Records in the entry that its step (a played event) cleared the route of its peer and
+    /// prefix: the entry keeps `route`, the one before the step, for undo. Doesn't change the
+    /// table; the caller has to take `route` out of it.
     #[inline]
     pub(crate) fn set_cleared(&mut self, route: Rc<Route>)
         ensures { self.new ≡ cleared_entry self.old route }
@@ -67,11 +67,11 @@ impl Entry {
         });
     }
 
-    /// Applies the entry, of a new step (played event): makes its peer and prefix a key of the
-    /// table (which has memory for a route), swaps the entry's route with the table's, and sets
-    /// whether there is a route before and after the step. Returns `true` if the pair of peer and
-    /// prefix wasn't a key before, `false` if it was. Fails if memory allocation fails; entry and
-    /// table are unchanged then.
+    /// Applies the entry of a new step (a played event) to the table: makes the entry's peer and
+    /// prefix a key, with memory for a route, swaps the entry's route with the table's, and records
+    /// in the entry whether there is a route before the step and after it. Returns `true` if peer
+    /// and prefix weren't a key before, `false` if they were. Fails if memory allocation fails;
+    /// entry and table are unchanged then.
     #[inline]
     pub(crate) fn put<S: PrefixStore<Rc<Route>>>(
         &mut self,

@@ -12,8 +12,9 @@ use crate::tree::{KeySlot, Tree};
 use prefix_store::PackedPrefix;
 
 impl<K: PackedPrefix, R> Tree<K, R> {
-    /// Returns the number of nodes, or `u64::MAX` if there are more: one for each key (a prefix
-    /// that the tree keeps), and one for each branch whose prefix isn't a key. Visits all nodes.
+    /// Returns the number of nodes of the tree, or `u64::MAX` if there are more: one for each key
+    /// (a prefix that the tree keeps, with or without a route), and one for each branch whose
+    /// prefix isn't a key. Visits all nodes.
     pub(crate) fn count_nodes(&self) -> u64
         ensures { result ≡ saturated_count (node_count (shape_of K.network self.now)) }
     {
@@ -33,7 +34,7 @@ impl<K: PackedPrefix, R> Tree<K, R> {
         }
     }
 
-    /// Returns the number of keys (prefixes that the tree keeps, with or without a route), or
+    /// Returns the number of keys of the tree (prefixes that it keeps, with or without a route), or
     /// `u64::MAX` if there are more. Visits all nodes.
     pub(crate) fn count_keys(&self) -> u64
         ensures { result ≡ saturated_count (length (slots_of (shape_of K.network self.now))) }
@@ -58,7 +59,7 @@ impl<K: PackedPrefix, R> Tree<K, R> {
         }
     }
 
-    /// Returns the number of routes, which is that of the prefixes with a route, or `u64::MAX` if
+    /// Returns the number of routes in the tree, at most one for each prefix, or `u64::MAX` if
     /// there are more. Visits all nodes.
     #[tactic(auto, using(crate::proofs::FillLaws::count_rooted))]
     pub(crate) fn count_routes(&self) -> u64

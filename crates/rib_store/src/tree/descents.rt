@@ -16,10 +16,10 @@ const MOST_BITS: u8 = 64;
 /// in advance, and the call after the descent waits for it.
 const MOST_NODES: u8 = 32;
 
-/// A walk down a tree towards a prefix, which reads nodes so that they are in the processor's
-/// cache, and finds out nothing. At each node it goes left or right by one bit of the prefix, and
-/// compares no prefixes. It ends at a node without children, or at one whose own prefix has at
-/// least as many bits as the prefix that it goes to, or as [`MOST_BITS`].
+/// A walk down a tree towards a prefix that only reads nodes, so that they are in the processor's
+/// cache for a later look-up. At each node, one bit of the prefix selects the left or the right
+/// child; prefixes aren't compared. It ends at a node without children, or at one whose own prefix
+/// is at least as long as the prefix of the walk or has at least [`MOST_BITS`] bits.
 #[derive(Drop)]
 pub(crate) struct PrefetchDescent<'a, R> {
     /// The subtree that the descent has come to.
@@ -31,8 +31,8 @@ pub(crate) struct PrefetchDescent<'a, R> {
     usable_bits: u8,
 }
 
-/// The subtree that a descent (a walk that reads nodes into the processor's cache) has come to, or
-/// its end.
+/// The place that a [`PrefetchDescent`], a walk that reads nodes into the processor's cache, has
+/// come to: a subtree whose root it reads next, or its end.
 #[derive(Drop)]
 pub(crate) enum DescentNode<'a, R> {
     /// No subtree: the descent reads nothing.
@@ -44,7 +44,8 @@ pub(crate) enum DescentNode<'a, R> {
 }
 
 impl<'a, R> PrefetchDescent<'a, R> {
-    /// Returns a descent that has ended before it began, and reads no node.
+    /// Returns a descent (a walk that reads nodes into the processor's cache) that is at its end
+    /// already, and reads no node.
     pub(crate) fn ended() -> Self {
         PrefetchDescent {
             root: DescentNode::Ended,
@@ -53,9 +54,10 @@ impl<'a, R> PrefetchDescent<'a, R> {
         }
     }
 
-    /// Returns a descent that starts at `root`, the root of a tree, and goes towards `prefix`.
-    /// Expects the tree to be of the prefix's family; otherwise the descent only reads nodes that
-    /// don't help.
+    /// Returns a descent (a walk that reads nodes into the processor's cache) that starts at
+    /// `root`, the root of a tree, and goes towards `prefix`. Expects the tree to be for the
+    /// prefix's address family; otherwise the nodes that it reads are of no use for a look-up of
+    /// `prefix`.
     pub(crate) fn new(root: DescentNode<'a, R>, prefix: &Prefix) -> Self {
         PrefetchDescent {
             root,
@@ -64,11 +66,11 @@ impl<'a, R> PrefetchDescent<'a, R> {
         }
     }
 
-    /// Goes on from the current node to a child, and returns `true`. If the node's own prefix has n
-    /// bits, bit n, counted from 0, of the prefix that the descent goes to selects the child: the
+    /// Moves the descent from its node to a child, and returns `true`. If the node's own prefix has
+    /// n bits, bit n (counted from 0) of the prefix that the descent goes to selects the child: the
     /// left one if it is 0, the right one if it is 1. Returns `false`, and stays, if the node has
-    /// no children, if its own prefix has `usable_bits` bits (the number that may be read) or more,
-    /// or if the descent has ended.
+    /// no children, if its own prefix has as many bits as may be read (`usable_bits`) or more, or
+    /// if the descent is at its end.
     #[inline]
     fn advance(&mut self) -> bool {
         let next = match &self.root {
@@ -87,12 +89,12 @@ impl<'a, R> PrefetchDescent<'a, R> {
     }
 }
 
-/// Returns the child of the root of `tree` that a descent (a walk that reads nodes into the
-/// processor's cache) goes on to, or `None` if it ends at the root. `bits` has the first 64 bits of
-/// the prefix that it goes to. The bit after as many bits as the root's own prefix has selects the
-/// child: the left one if it is 0, the right one if it is 1. `usable_bits`, at most 64, is the
-/// number of bits that may be read. The descent ends if the root has no children, or if its own
-/// prefix has `usable_bits` bits or more.
+/// Returns the child of the root of `tree` on the way to a prefix, or `None` if a descent (a walk
+/// that reads nodes into the processor's cache) ends at the root. `bits` has the first 64 bits of
+/// the prefix, the first one highest. If the root's own prefix has n bits, bit n (counted from 0)
+/// selects the child: the left one if it is 0, the right one if it is 1. `usable_bits`, at most 64,
+/// is the number of bits that may be read: the descent ends if n isn't less, or if the root has no
+/// children.
 #[inline]
 fn child_towards<'a, K: PackedPrefix, R>(
     tree: &'a Tree<K, R>,
@@ -111,8 +113,8 @@ fn child_towards<'a, K: PackedPrefix, R>(
     Some(if is_right { right } else { left })
 }
 
-/// Eight walks down trees, each towards a prefix of its own, that advance together, so that the
-/// processor waits for their nodes at the same time.
+/// Eight walks down trees, each towards a prefix of its own, which read nodes into the processor's
+/// cache. They advance together, so that the processor fetches their nodes at the same time.
 #[derive(Drop)]
 pub(crate) struct PrefetchDescents<'a, R> {
     pub(crate) first: PrefetchDescent<'a, R>,
@@ -126,9 +128,10 @@ pub(crate) struct PrefetchDescents<'a, R> {
 }
 
 impl<'a, R> PrefetchDescents<'a, R> {
-    /// Advances the eight descents by one node each, again and again, until none can go on, but at
-    /// most [`MOST_NODES`] times. Returns the number of nodes that the longest descent passed. A
-    /// caller that uses this number keeps the compiler from removing the reads.
+    /// Advances the eight descents (walks that read nodes into the processor's cache) by one node
+    /// each, again and again, until none can go on, but at most [`MOST_NODES`] times. Returns the
+    /// number of nodes by which the longest one advanced. Callers use that number, since the
+    /// compiler may otherwise remove the reads.
     pub(crate) fn run(&mut self) -> u64 {
         'nodes: for passed in 0..MOST_NODES {
             if !self.advance_all() {
@@ -138,8 +141,9 @@ impl<'a, R> PrefetchDescents<'a, R> {
         u64::from(MOST_NODES)
     }
 
-    /// Advances each of the eight descents by one node. Returns `true` if at least one of them
-    /// advanced, and `false` if none can.
+    /// Moves each of the eight descents (walks that read nodes into the processor's cache) from its
+    /// node to a child, if it can go on. Returns `true` if at least one of them moved, and `false`
+    /// if none can.
     #[inline]
     fn advance_all(&mut self) -> bool {
         let first_four = self.first.advance()

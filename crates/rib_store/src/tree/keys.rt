@@ -61,8 +61,9 @@ impl<K: PackedPrefix, R: Drop> Tree<K, R> {
     }
 }
 
-/// Makes the tree empty if `prefix`, the only prefix that it keeps, is `key`, and drops the route
-/// there; otherwise does nothing. Requires that the tree has no node but that of `prefix`.
+/// Makes a tree of one node empty, and drops the route there, if the node's prefix is `key`.
+/// Otherwise does nothing. `prefix` is the node's prefix; requires that the tree has this node
+/// only.
 fn discard_leaf<K: PackedPrefix, R: Drop>(tree: &mut Tree<K, R>, prefix: K, key: &Prefix)
     requires { IsLeaf prefix tree.old }
     ensures shaped { IsRadixTree (shape_of K.network tree.new) }
@@ -77,9 +78,9 @@ fn discard_leaf<K: PackedPrefix, R: Drop>(tree: &mut Tree<K, R>, prefix: K, key:
     }
 }
 
-/// Replaces the root of a tree by its only child, after the child on the other side was removed.
-/// Does nothing if the root's prefix is a key (one that the tree keeps), or if the root has no
-/// children or two.
+/// Removes the root if its prefix isn't a key (a prefix that the tree keeps) and it has fewer than
+/// two children: its only child becomes the root, or the tree becomes empty. Otherwise does
+/// nothing. Keys and routes stay as they are.
 fn replace_by_only_child<K: PackedPrefix, R: Drop>(tree: &mut Tree<K, R>)
     requires shaped { IsRadixTreeBelowRoot (shape_of K.network tree.old) }
     requires marked { HasCorrectMarks tree.old }
@@ -115,9 +116,9 @@ fn replace_by_only_child<K: PackedPrefix, R: Drop>(tree: &mut Tree<K, R>)
     }
 }
 
-/// Moves the root out of its heap node, and frees that node, if the root's prefix is a key (one
-/// that the tree keeps) and has no keys below it any more. Otherwise does nothing. Keys and routes
-/// stay as they are.
+/// Moves the root out of its heap node, and frees that node, if the root's prefix is a key (a
+/// prefix that the tree keeps) and has no keys below it any more. Otherwise does nothing. Keys and
+/// routes stay as they are.
 fn unbox_leaf<K: PackedPrefix, R: Drop>(tree: &mut Tree<K, R>)
     requires { HasCorrectMarks tree.old }
     ensures marked { HasCorrectMarks tree.new }

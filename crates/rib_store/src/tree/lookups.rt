@@ -13,8 +13,9 @@ use ip_prefix::{Prefix, Turn};
 use prefix_store::PackedPrefix;
 
 impl<K: PackedPrefix, R> Tree<K, R> {
-    /// Looks up the prefix `key` itself. Returns `None` if the tree doesn't keep it, `Some(None)`
-    /// if the tree keeps it without a route, and `Some(Some(route))` if it has one.
+    /// Returns what the tree has at exactly the prefix `key`: `None` if it doesn't keep that
+    /// prefix, `Some(None)` if it keeps it without a route, and `Some(Some(route))` if it has a
+    /// route there.
     #[tactic(auto, using(crate::proofs::TreeLaws::at_left_under, crate::proofs::TreeLaws::at_right_under))]
     pub(crate) fn slot(&self, key: &Prefix) -> Option<Option<&R>>
         requires { IsRadixTree (shape_of K.network self.now) }
@@ -96,9 +97,9 @@ impl<K: PackedPrefix, R> Tree<K, R> {
         }
     }
 
-    /// Returns the route at the least prefix of those that have one, with that prefix, or `None` if
-    /// the tree has no routes. A prefix is less than those it covers, and those on the left of a
-    /// node are less than those on its right. Skips subtrees without a route.
+    /// Returns the first route in the order of prefixes, with its prefix, or `None` if the tree has
+    /// no routes. Prefixes are ordered by address and then by length. Skips subtrees without a
+    /// route.
     pub(crate) fn first(&self) -> Option<(Prefix, &R)>
         requires { HasCorrectMarks self.now }
         ensures { MatchOption result (first (shape_of K.network self.now) ≡ None)
@@ -177,9 +178,9 @@ impl<K: PackedPrefix, R> Tree<K, R> {
         }
     }
 
-    /// Appends all routes with their prefixes to `found`, in ascending order of prefixes, and stops
-    /// when the capacity of `found` is used up. So it allocates no memory. Skips subtrees without a
-    /// route.
+    /// Appends all routes with their prefixes to `found`, in ascending order of prefixes (by
+    /// address and then by length), and stops when the capacity of `found` is used up. So it
+    /// allocates no memory. Skips subtrees without a route.
     pub(crate) fn fill_with_routes<'a>(&'a self, found: &mut Vec<(Prefix, &'a R)>)
         requires { HasCorrectMarks self.now }
         ensures found { dereferenced found.new.items ≡
@@ -215,8 +216,8 @@ impl<K: PackedPrefix, R> Tree<K, R> {
     }
 
     /// Appends the routes at prefixes greater than `low`, with these prefixes, to `found`, in
-    /// ascending order of prefixes, and stops when the capacity of `found` is used up. So it
-    /// allocates no memory. `low` needn't be in the tree.
+    /// ascending order of prefixes (by address and then by length), and stops when the capacity of
+    /// `found` is used up. So it allocates no memory. `low` needn't be in the tree.
     pub(crate) fn fill_with_routes_after<'a>(
         &'a self,
         low: &Prefix,

@@ -28,8 +28,8 @@ pub(crate) fn new_leaf<K: PackedPrefix, R: Drop>(prefix: K, route: &mut Option<R
     }
 }
 
-/// Takes apart a tree that keeps one prefix, and returns the route there, or `None` if it has none.
-/// A tree of any other form gives `None`.
+/// Returns the route of a tree that keeps one prefix, or `None` if it has none. Any other tree than
+/// [`Tree::Leaf`] and [`Tree::Bare`] gives `None`, and is dropped.
 pub(crate) fn leaf_to_route<K: PackedPrefix, R: Drop>(tree: Tree<K, R>) -> Option<R>
     ensures { result ≡ leaf_route tree }
 {
@@ -39,9 +39,9 @@ pub(crate) fn leaf_to_route<K: PackedPrefix, R: Drop>(tree: Tree<K, R>) -> Optio
     }
 }
 
-/// Converts a tree that keeps one prefix to a slot, which is what a heap node holds of its prefix:
-/// `Filled` with the route of the tree, or `Vacant` if it has none. The slot doesn't hold the
-/// prefix, which is dropped. A tree of any other form gives `Vacant`.
+/// Converts a tree that keeps one prefix to the slot of a heap node for that prefix: `Filled` with
+/// the route of the tree, or `Vacant` if it has none. The prefix itself isn't in the slot. Any
+/// other tree than [`Tree::Leaf`] and [`Tree::Bare`] gives `Vacant`, and is dropped.
 pub(crate) fn leaf_to_slot<K: PackedPrefix, R: Drop>(tree: Tree<K, R>) -> KeySlot<R>
     ensures slot { slot_of result ≡ Some (leaf_route tree) }
     ensures filled { is_filled result ≡ is_some (leaf_route tree) }
@@ -52,8 +52,8 @@ pub(crate) fn leaf_to_slot<K: PackedPrefix, R: Drop>(tree: Tree<K, R>) -> KeySlo
     }
 }
 
-/// Allocates a heap node whose prefix isn't a key (one that the tree keeps), without children, for
-/// the caller to fill. Fails if memory allocation fails.
+/// Allocates a heap node without children whose prefix isn't a key (a prefix that the tree keeps),
+/// for the caller to fill. Fails if memory allocation fails.
 pub(crate) fn new_node<K: PackedPrefix, R: Drop>(
     alloc: Global,
 ) -> Result<Box<Node<K, R>>, AllocError>
@@ -71,10 +71,10 @@ pub(crate) fn new_node<K: PackedPrefix, R: Drop>(
     Ok(node)
 }
 
-/// Puts a new fork (a node whose prefix isn't a key, one that the tree keeps) with the prefix
-/// `prefix` above the root. The old tree becomes its child on the side `tree_side`, which is `Left`
-/// or `Right`, and `leaf`, a tree of one prefix, the child on the other side. On error, which means
-/// that memory allocation fails, the tree is unchanged, and `leaf` is returned with the error.
+/// Puts a fork (a node whose prefix the tree doesn't keep) with the prefix `prefix` above the root.
+/// The old tree becomes its child on the side `tree_side`, which is `Left` or `Right`, and `leaf`,
+/// a tree of one prefix, its child on the other side. If memory allocation fails, the tree is
+/// unchanged, and `leaf` is returned with the error.
 pub(crate) fn insert_fork_above<K: PackedPrefix, R: Drop>(
     tree: &mut Tree<K, R>,
     prefix: K,
@@ -121,7 +121,7 @@ pub(crate) fn insert_fork_above<K: PackedPrefix, R: Drop>(
 
 /// Replaces the tree by `node` with the prefix `prefix`, and with `below` as its only child, on the
 /// side `side`: left if that is `Left`, and otherwise right. The old tree, and children that `node`
-/// had, are dropped; the slot of `node` is kept.
+/// had, are dropped. The slot of `node`, which holds its route, is kept.
 pub(crate) fn set_root_with_child<K: PackedPrefix, R: Drop>(
     tree: &mut Tree<K, R>,
     prefix: K,

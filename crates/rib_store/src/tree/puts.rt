@@ -19,9 +19,9 @@ use std::mem;
 
 impl<K: PackedPrefix, R: Drop> Tree<K, R> {
     /// Swaps the route at the prefix `key` and `route`, either of which may be `None`: `route`
-    /// holds the old route afterwards. The tree keeps `key` from then on, even without a route.
-    /// Returns `true` if it didn't keep it before. Fails if memory allocation fails; the tree and
-    /// `route` are unchanged then.
+    /// holds the old route afterwards. The tree keeps `key` after this, even without a route.
+    /// Returns `true` if it didn't keep `key` before, and `false` if it did. Fails if memory
+    /// allocation fails; the tree and `route` are unchanged then.
     #[cycle(put)]
     pub(crate) fn put(
         &mut self,
@@ -89,12 +89,11 @@ impl<K: PackedPrefix, R: Drop> Tree<K, R> {
     }
 }
 
-/// Puts a route into `below`, a child of some node, and sets `routed` to `true` if `below` then has
-/// a route, or else to `false`. `routed` is the mark of that node, which tells whether any key in
-/// the node's subtree has a route. So callers make sure that the node's keys outside `below` have
-/// no routes. The route at the prefix `key` and `route` are swapped, as [`Tree::put`] does. Returns
-/// `true` if the tree didn't keep `key` before. Fails if memory allocation fails; `routed`, `below`
-/// and `route` are unchanged then.
+/// Swaps the route at the prefix `key` in `below` and `route`, as [`Tree::put`] does, and sets
+/// `routed` to `true` if `below` then has a route, or else to `false`. `below` is a child of some
+/// node, and `routed` the node's mark: whether its subtree has a route. So callers make sure that
+/// this subtree has no routes outside `below`. Returns `true` if `below` didn't keep `key` before.
+/// Fails if memory allocation fails; `routed`, `below` and `route` are unchanged then.
 #[cycle(put)]
 #[inline(never)]
 fn put_and_update_mark<K: PackedPrefix, R: Drop>(
@@ -129,9 +128,8 @@ fn put_and_update_mark<K: PackedPrefix, R: Drop>(
 
 /// Swaps the route at the prefix `key` and `route`, as [`Tree::put`] does, without going down to a
 /// child of the root. Requires that the root has no children, or that its prefix is `key` or
-/// doesn't cover `key`. Makes the nodes that a new key needs, if any. Returns `true` if the tree
-/// didn't keep `key` before. Fails if memory allocation fails; the tree and `route` are unchanged
-/// then.
+/// doesn't cover `key`. Makes the nodes that a new prefix needs. Returns `true` if the tree didn't
+/// keep `key` before. Fails if memory allocation fails; the tree and `route` are unchanged then.
 #[inline(never)]
 fn put_at_root<K: PackedPrefix, R: Drop>(
     tree: &mut Tree<K, R>,
@@ -195,11 +193,12 @@ fn put_at_root<K: PackedPrefix, R: Drop>(
     }
 }
 
-/// Adds the prefix `key`, which the tree doesn't keep, with the route of `route` or without one: as
-/// a new root if `key` covers `prefix`, or else beside the old root under a new fork. `prefix` is
-/// that of the root; requires that it doesn't cover `key`. Leaves `None` in `route`, and returns
-/// `true`, which means that `key` is new, for callers that return it. Fails if memory allocation
-/// fails; the tree and `route` are unchanged then.
+/// Adds the prefix `key`, which the tree doesn't keep, with the route in `route`, or without one if
+/// that is `None`. `prefix` is the prefix of the root; requires that it doesn't cover `key`. If
+/// `key` covers `prefix`, its node becomes the root; otherwise the new root is a fork (a node whose
+/// prefix the tree doesn't keep) above both. Leaves `None` in `route`, and returns `true`, for
+/// callers that return whether `key` is new. Fails if memory allocation fails; the tree and `route`
+/// are unchanged then.
 fn insert_outside<K: PackedPrefix, R: Drop>(
     tree: &mut Tree<K, R>,
     prefix: &Prefix,
@@ -242,10 +241,10 @@ fn insert_outside<K: PackedPrefix, R: Drop>(
     }
 }
 
-/// Makes the tree keep `prefix`, with the route of `route` or without one. `prefix` is that of the
-/// tree's root, a fork: a node whose prefix the tree doesn't keep. Leaves `None` in `route`, and
-/// returns `true`, as [`Tree::put`] does for a new prefix. Fails if memory allocation fails; the
-/// tree and `route` are unchanged then.
+/// Makes the tree keep `prefix`, the prefix of its root, with the route in `route`, or without one
+/// if that is `None`. Requires that the root is a fork: a node whose prefix the tree doesn't keep.
+/// Leaves `None` in `route`, and returns `true`, for callers that return whether the tree keeps a
+/// new prefix. Fails if memory allocation fails; the tree and `route` are unchanged then.
 fn make_fork_a_key<K: PackedPrefix, R: Drop>(
     tree: &mut Tree<K, R>,
     prefix: K,

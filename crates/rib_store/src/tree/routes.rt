@@ -132,10 +132,11 @@ impl<K: PackedPrefix, R: Drop> Tree<K, R> {
     }
 }
 
-/// Swaps a route in `below`, a child of a node whose other keys have no routes, and updates the
-/// node's mark `routed`. The mark tells whether a key in the node's subtree has a route, and so
-/// becomes that of the child. The route at the prefix `key` and `route` are swapped, as
-/// [`Tree::exchange`] does. Requires that `below` keeps `key`, with or without a route.
+/// Swaps the route at the prefix `key` in `below` and `route`, as [`Tree::exchange`] does, and sets
+/// `routed` to `true` if `below` then has a route, or else to `false`. `below` is a child of some
+/// node, and `routed` the node's mark: whether its subtree has a route. So callers make sure that
+/// this subtree has no routes outside `below`. Requires that `below` keeps `key`, with or without a
+/// route.
 #[cycle(exchange)]
 #[inline(never)]
 fn exchange_and_update_mark<K: PackedPrefix, R: Drop>(
@@ -181,7 +182,8 @@ pub(crate) fn exchange_leaf<K: PackedPrefix, R: Drop>(
 
 impl<R: Drop> KeySlot<R> {
     /// Swaps the route in the slot and `route`, either of which may be `None`: `route` holds the
-    /// old route afterwards. Requires that the node's prefix is a key (one that the tree keeps).
+    /// old route afterwards. Requires that the node's prefix is a key (a prefix that the tree
+    /// keeps).
     pub(crate) fn exchange(&mut self, route: &mut Option<R>)
         requires { IsSome (slot_of self.old) }
         ensures slot { slot_of self.new ≡ Some route.old }
@@ -197,8 +199,8 @@ impl<R: Drop> KeySlot<R> {
     }
 
     /// Swaps the route in the slot and `route`, either of which may be `None`, and makes the node's
-    /// prefix a key (one that the tree keeps). Returns `true` if it wasn't a key before; `route` is
-    /// `None` then. Otherwise `route` holds the old route.
+    /// prefix a key (a prefix that the tree keeps). Returns `true` if it wasn't a key before;
+    /// `route` is `None` then. Otherwise returns `false`, and `route` holds the old route, if any.
     pub(crate) fn put(&mut self, route: &mut Option<R>) -> bool
         ensures slot { slot_of self.new ≡ Some route.old }
         ensures taken_out { route.new ≡ route_of_slot (slot_of self.old) }
