@@ -28,7 +28,7 @@ MET = {
     },
     'bgpdump_lines/src/write.rt': {'LONG_TEXT': ['lines of 210,000 octets']},
     'known_routes/src/ordered_routes.rt': {'LONGEST_RUN': ['routes of one hash, played']},
-    'known_routes/src/slot.rt': {'ROW': ['routes of one hash, played']},
+    'known_routes/src/slot.rt': {'SLOTS_PER_BUCKET': ['routes of one hash, played']},
     'known_routes/src/slots.rt': {
         'MIN_SLOTS': ['places at first'],
         'MOST_TIMES': ['places of known routes'],
@@ -101,7 +101,7 @@ NOT_MET = {
         'MOST_TIMES': 'a list of what went is shorter than the routes that made it',
     },
     'known_routes/src/slot.rt': {
-        'BEFORE_ROWS': 'the layout of a block', 'SECOND_ROW': 'a factor', 'HASH_BITS': 'the width of a hash',
+        'BEFORE_BUCKETS': 'the layout of a block', 'SECOND_BUCKET': 'a factor', 'HASH_BITS': 'the width of a hash',
         'FREE': 'stands for no route',
     },
     'known_routes/src/slots.rt': {

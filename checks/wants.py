@@ -24,7 +24,7 @@ KNOWN = {
     # Of that, and of the fault of what a record's body holds.
     ('mrt_wire/src/decoding.rt', 'from'): 2,
     # Of a refusal of what judging a record asked for.
-    ('mrt_wire/src/source.rt', 'record_answer'): 1,
+    ('mrt_wire/src/source.rt', 'next_of_record'): 1,
     # Of std's refusal, of a source's fault or one that is spent, which no run asks again, and of that of writing.
     ('bgpdump_lines/src/fault.rt', 'from'): 3,
     # Of the only fault that an event which is played may have.

@@ -13,6 +13,6 @@ held_numbers (Listed numbers) = numbers.items
 
 -- AS numbers held in an array are at most 7, the array's length (`MOST_IN_PLACE`); of those in a vector this
 -- holds always
-abbrev pub IsHeld : HeldNumbers → Type 0
-IsHeld (Few count places) = (count ≤ MOST_IN_PLACE) × (length places ≡ MOST_IN_PLACE)
-IsHeld (Listed numbers) = Unit {0}
+abbrev pub FitsArray : HeldNumbers → Type 0
+FitsArray (Few count places) = (count ≤ MOST_IN_PLACE) × (length places ≡ MOST_IN_PLACE)
+FitsArray (Listed numbers) = Unit {0}

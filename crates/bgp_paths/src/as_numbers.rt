@@ -5,7 +5,7 @@ ghost use Rattle.std.specs.Prelude.{◌≡◌, ◌≤◌, ◌/◌, ◌%◌, [], 
 ghost use Rattle.ip_prefix.specs.Sequences.{SpellsAll};
 ghost use Rattle.bgp_paths.specs.Path.{SpellsAsn, asn_size};
 ghost use Rattle.bgp_paths.specs.Readers.{Refuses};
-ghost use Rattle.bgp_paths.specs.Numbers.{held_numbers, IsHeld};
+ghost use Rattle.bgp_paths.specs.Numbers.{held_numbers, FitsArray};
 ghost use Rattle.bgp_paths.specs.declared.as_numbers.TheConstants.{MOST_IN_PLACE};
 
 use crate::fault::WireFault;
@@ -52,13 +52,13 @@ const _: () = prove!(size_of::<AsNumbers>() <= NUMBERS_OCTETS);
 
 impl Model for AsNumbers {
     ghost use Rattle.std.specs.Prelude.{ℕ, List};
-    ghost use Rattle.bgp_paths.specs.Numbers.{held_numbers, IsHeld};
+    ghost use Rattle.bgp_paths.specs.Numbers.{held_numbers, FitsArray};
 
     ghost Value = { List ℕ };
 
     ghost view = { λ a. held_numbers a.held };
 
-    ghost invariant = { λ a. IsHeld a.held };
+    ghost invariant = { λ a. FitsArray a.held };
 }
 
 impl AsNumbers {
@@ -98,7 +98,7 @@ impl AsNumbers {
     /// Returns the AS numbers as they are held, in an array or in a vector.
     #[inline]
     fn into_held(self) -> HeldNumbers
-        ensures held { IsHeld result }
+        ensures held { FitsArray result }
         ensures numbers { held_numbers result ≡ self }
     {
         let AsNumbers { held: kept } = self;
@@ -197,7 +197,7 @@ impl AsNumbers {
             *held_count = count as u8;
             // A pattern borrows one field to write to, so there are two.
             if let HeldNumbers::Few(_, places) = &mut self.held {
-                write_numbers(width, octets, places);
+                parse_numbers_into(width, octets, places);
                 return true;
             }
         }
@@ -271,7 +271,7 @@ impl Clone for AsNumbers {
 /// `places`. The other elements are unchanged. Requires that `octets` doesn't end inside a number,
 /// and has at most seven ([`MOST_IN_PLACE`]) of them.
 #[inline(always)]
-fn write_numbers(width: AsWidth, octets: &[u8], places: &mut [u32; MOST_IN_PLACE])
+fn parse_numbers_into(width: AsWidth, octets: &[u8], places: &mut [u32; MOST_IN_PLACE])
     requires whole { length octets.now % asn_size width ≡ 0 }
     requires room { length octets.now / asn_size width ≤ MOST_IN_PLACE }
     ensures numbers { SpellsAll (SpellsAsn width)

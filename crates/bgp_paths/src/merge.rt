@@ -80,7 +80,8 @@ fn push_leading_segments(
     path: &mut Vec<Segment>,
 ) -> Result<(), AllocError>
     requires { weight ≤ sum_by segment_weight segments.now }
-    ensures { OnOk result ((front : List PathUnit) × IsLongest weight (units_from 0 segments.now) front
+    ensures { OnOk result ((front : List PathUnit) ×
+        IsLongest weight (units_from 0 segments.now) front
         × (path.new.items ≡ path.old.items ++ segments_of front)) }
 {
     let mut left = weight;
@@ -110,7 +111,8 @@ fn push_segment(
     numbers: &[u32],
     path: &mut Vec<Segment>,
 ) -> Result<(), AllocError>
-    ensures { OnOk result (path.new.items ≡ path.old.items ++ segment_unless_empty kind numbers.now) }
+    ensures { OnOk result (path.new.items ≡ path.old.items
+        ++ segment_unless_empty kind numbers.now) }
 {
     if kind == SegmentKind::AsSequence && numbers.is_empty() {
         return Ok(());

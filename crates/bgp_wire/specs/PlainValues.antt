@@ -108,7 +108,7 @@ HoldsWithValue kind octets Old New = (first : FirstValues) → (kind < KINDS →
 -- `new` is the content, before AS4_PATH and AS4_AGGREGATOR are merged, of any list with these types of which
 -- `old` is the content but for a path or communities left over where the list has no AS_PATH or COMMUNITIES;
 -- `new` has none there
-abbrev pub AreCleared : SeenFlags → Attrs → Attrs → Type 0
-AreCleared types old new =
+abbrev pub ClearsAbsentLists : SeenFlags → Attrs → Attrs → Type 0
+ClearsAbsentLists types old new =
     (width : AsWidth) (later : DeferredValues) (list : List Attribute) → AreTypesOf types list
     → ReadSoFar width old later (first_values list) → AreUnmergedAttrsOf width new (first_values list)

@@ -33,7 +33,8 @@ pub(crate) fn merge_as4(
     later: &DeferredValues,
 ) -> Result<(), WireFault>
     ensures said { OnOk result ((list : List Attribute) →
-        AreUnmergedAttrsOf width attrs.old (first_values list) → AreDeferredValuesOf later.now (first_values list) →
+        AreUnmergedAttrsOf width attrs.old (first_values list) →
+        AreDeferredValuesOf later.now (first_values list) →
         AreAttrsOf width attrs.new list) }
     ensures refused { IfErr result (λ fault. fault ≡ Memory) }
     ensures kept { attrs.new.next_hop ≡ attrs.old.next_hop }
@@ -59,7 +60,8 @@ fn merge_present_as4(
     later: &DeferredValues,
 ) -> Result<(), WireFault>
     ensures said { OnOk result ((list : List Attribute) →
-        AreUnmergedAttrsOf Two attrs.old (first_values list) → AreDeferredValuesOf later.now (first_values list) →
+        AreUnmergedAttrsOf Two attrs.old (first_values list) →
+        AreDeferredValuesOf later.now (first_values list) →
         AreAttrsOf Two attrs.new list) }
     ensures refused { IfErr result (λ fault. fault ≡ Memory) }
     ensures kept { attrs.new.next_hop ≡ attrs.old.next_hop }

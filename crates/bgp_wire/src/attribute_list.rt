@@ -4,7 +4,7 @@
 
 ghost use Rattle.std.specs.Prelude.{◌≡◌, ◌<◌, [], Some, OnOk, OnErr, IfErr};
 ghost use Rattle.bgp_wire.specs.declared.framing.TheConstants.{KINDS};
-ghost use Rattle.bgp_wire.specs.PlainValues.{HoldsWithValue, AreCleared, AreDeferredValuesOf, ReadSoFar, AreUnmergedAttrsOf, SpellsUnmergedAttrs, ReadsList, AreTypesOf};
+ghost use Rattle.bgp_wire.specs.PlainValues.{HoldsWithValue, ClearsAbsentLists, AreDeferredValuesOf, ReadSoFar, AreUnmergedAttrsOf, SpellsUnmergedAttrs, ReadsList, AreTypesOf};
 ghost use Rattle.bgp_wire.specs.Content.{FirstValues, first_values};
 ghost use Rattle.bgp_paths.specs.Readers.{Refuses};
 
@@ -95,7 +95,7 @@ fn read_attribute<'a>(
 /// is freed if it has capacity for more than [`MOST_SPARE`] of them, or else kept.
 #[inline(always)]
 fn clear_absent_lists(alloc: Global, attrs: &mut Attrs, types: &SeenTypes)
-    ensures { AreCleared types.now attrs.old attrs.new }
+    ensures { ClearsAbsentLists types.now attrs.old attrs.new }
 {
     if !types.has(AS_PATH) {
         attrs.path.clear(alloc);

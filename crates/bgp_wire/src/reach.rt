@@ -87,7 +87,8 @@ pub(crate) fn fill_mp_reach(
     prefixes: &mut Prefixes,
     value: Option<&[u8]>,
 ) -> Result<(), WireFault>
-    ensures filled { OnOk result ((reach : Option Reach) × SpellsMpReach reach (lent_octets value.entry)
+    ensures filled { OnOk result ((reach : Option Reach) ×
+        SpellsMpReach reach (lent_octets value.entry)
         × (next_hop.new ≡ reach_hop reach) × (prefixes.new ≡ reach_prefixes reach)) }
     ensures refused { IfErr result (Refuses SpellsMpReach (lent_octets value.entry)) }
 {

@@ -122,7 +122,8 @@ pub(crate) fn set_atomic_if_empty(atomic: &mut bool, value: &[u8]) -> Result<(),
 /// (RFC 6793, section 3). Returns `None` if it is `None`, since the attribute is absent, or doesn't
 /// have exactly eight octets.
 pub(crate) fn read_as4_aggregator(value: Option<&[u8]>) -> Option<Aggregator>
-    ensures { SpellsIfWellFormed (SpellsAggregatorAt AsWidth.Four) result (lent_octets value.entry) }
+    ensures { SpellsIfWellFormed (SpellsAggregatorAt AsWidth.Four) result
+        (lent_octets value.entry) }
 {
     match value {
         Some(octets) if octets.len() == AS4_AGGREGATOR_SIZE => {

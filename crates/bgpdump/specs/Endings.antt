@@ -15,7 +15,7 @@ use Rattle.bgpdump.specs.declared.run.BufferedStreams.{BufferedStreams}
 use Rattle.bgpdump_tool.specs.WrittenSoFar.{exit_status}
 use Rattle.bgpdump_tool.specs.declared.Outcome.{Outcome}
 use Rattle.bgpdump_tool.specs.declared.Outcome.TheVariants.{ReadFault, WriteFault, InputTooLong, ScriptTooLong, Memory}
-use Rattle.bgpdump.specs.declared.ending.UnreadableText.{UnreadableText}
+use Rattle.bgpdump.specs.declared.ending.InstructionText.{InstructionText}
 use Rattle.bgpdump.specs.declared.ending.Ending.{Ending}
 use Rattle.bgpdump.specs.declared.ending.Ending.TheVariants.{Usage, NotOpened, NotRead, Ran}
 use Rattle.bgpdump_tool.specs.declared.UsageFault.TheVariants as usage
@@ -80,7 +80,7 @@ WritersHoldTexts contents contents' stamp texts octets ended =
 abbrev pub LeavesWholeRecords : {R O E : Type 0} → (R → Option (List ℕ)) → (O → Option (List ℕ)) → (E → Option (List ℕ)) → Stamp → (List RecordResult → Texts) → Devices R O E → FinishedRun R O E → Type 0
 LeavesWholeRecords remaining contents contents' stamp texts devices ended =
     EndedByInputFault ended.outcome
-    → HoldsForInput remaining (λ left left'. HoldsForTaken stamp left left' (λ frames rest. Leaves contents contents' (Writes (texts (all_results stamp frames []))) devices ended))
+    → HoldsForInput remaining (λ left left_after. HoldsForTaken stamp left left_after (λ frames rest. Leaves contents contents' (Writes (texts (all_results stamp frames []))) devices ended))
     devices.reader ended.input
 
 -- If `script` has at most `LONGEST_SCRIPT` octets, writers that had got nothing before the run hold what the script's
@@ -90,9 +90,9 @@ abbrev pub WritersHoldReplies : {R O E : Type 0} → (O → Option (List ℕ)) �
 WritersHoldReplies contents contents' stamp script octets ended =
     length script ≤ LONGEST_SCRIPT → HoldsForLines script (λ lines. WritersHoldTexts contents contents' stamp (play_texts lines) octets ended)
 
--- Exactly 2^40 octets were taken from an input that had `left` left before and `left'` after, where both are known.
+-- Exactly 2^40 octets were taken from an input that had `left` left before and `left_after` after, where both are known.
 abbrev pub TookInputLimit : Option (List ℕ) → Option (List ℕ) → Type 0
-TookInputLimit left left' = (taken after : List ℕ) → TakesFront left left' taken after → length taken ≡ 2 ^ 40
+TookInputLimit left left_after = (taken after : List ℕ) → TakesFront left left_after taken after → length taken ≡ 2 ^ 40
 
 -- ---- how the program ends: its exit status, and its last message
 
@@ -114,7 +114,7 @@ IsOutcomeOfReadError outcome = (outcome ≡ ReadFault) ⊎ (outcome ≡ Memory)
 
 -- The program may end so after reading `text` (the command line or the script) failed: with `NotRead` of `text` and
 -- any error, or with the outcome Memory, and in no other way.
-abbrev pub IsEndingOfReadError : UnreadableText → Ending → Type 0
+abbrev pub IsEndingOfReadError : InstructionText → Ending → Type 0
 IsEndingOfReadError text (Ran outcome) = outcome ≡ Memory
 IsEndingOfReadError text (NotRead others error) = others ≡ text
 IsEndingOfReadError text other = ⊥

@@ -22,7 +22,7 @@ pub enum OpenFailure {
 /// Which text the program couldn't read: the arguments of its command line, or the script that it
 /// executes. Part of [`Ending::NotRead`].
 #[derive(Clone, Copy, PartialEq, Eq)]
-pub enum UnreadableText {
+pub enum InstructionText {
     /// The arguments of the command line.
     Words,
     /// The script whose commands are executed (`--play`).
@@ -38,7 +38,7 @@ pub enum Ending<'a> {
     NotOpened(&'a str, OpenFailure),
     /// The command line or the script can't be read: an argument isn't UTF-8 text, or the system failed
     /// with this error.
-    NotRead(UnreadableText, io::Error),
+    NotRead(InstructionText, io::Error),
     /// The program's work over the input ended with this outcome, or memory allocation failed before it
     /// began.
     Ran(Outcome),

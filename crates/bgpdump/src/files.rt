@@ -5,7 +5,7 @@ ghost use Rattle.std.specs.Prelude.{◌≡◌, ◌≢◌, ◌↔◌, ◌+◌, �
 ghost use Rattle.std.specs.IoError.{error_kind};
 ghost use Rattle.bgpdump.specs.Endings.{IsOutcomeOfReadError, IsEndingOfReadError};
 
-use crate::ending::{Ending, OpenFailure, UnreadableText};
+use crate::ending::{Ending, InstructionText, OpenFailure};
 use bgpdump_tool::{LONGEST_SCRIPT, Mode, Outcome, STANDARD_INPUT, Settings};
 use std::alloc::Global;
 use std::fs::{self, File, Metadata};
@@ -58,7 +58,7 @@ fn ending_of_open_error<'a>(name: &'a str, error: &io::Error) -> Ending<'a>
 
 /// Returns the [`Ending`] of the program after reading the command line or the script (`text`)
 /// failed with `error`: the outcome `Memory` for `ErrorKind::OutOfMemory`, or else [`Ending::NotRead`].
-pub fn ending_of_read_error<'a>(text: UnreadableText, error: &io::Error) -> Ending<'a>
+pub fn ending_of_read_error<'a>(text: InstructionText, error: &io::Error) -> Ending<'a>
     ensures memory { error_kind error.now ≡ ErrorKind.OutOfMemory →
         result ≡ Ending.Ran Outcome.Memory }
     ensures other { error_kind error.now ≢ ErrorKind.OutOfMemory →
@@ -187,12 +187,12 @@ fn is_same_identity(one: FileIdentity, other: FileIdentity) -> bool
 pub fn read_script<'a, R: Read + Drop>(alloc: Global, reader: R) -> Result<Vec<u8>, Ending<'a>>
     ensures octets { IfOk result (λ script. (octets : List ℕ) → R.remaining reader ≡ Some octets →
         script.items ≡ take (LONGEST_SCRIPT + 1) octets) }
-    ensures fault { IfErr result (IsEndingOfReadError UnreadableText.Script) }
+    ensures fault { IfErr result (IsEndingOfReadError InstructionText.Script) }
 {
     let mut script = Vec::new(alloc);
     let mut front = reader.take(LONGEST_SCRIPT as u64 + 1);
     match front.read_to_end(&mut script) {
         Ok(_) => Ok(script),
-        Err(error) => Err(ending_of_read_error(UnreadableText::Script, &error)),
+        Err(error) => Err(ending_of_read_error(InstructionText::Script, &error)),
     }
 }

@@ -13,7 +13,7 @@ mod run_hints;
 mod script_hints;
 
 use bgpdump_tool::{LONGEST_SCRIPT, Mode, Outcome, STANDARD_INPUT, Settings, settings};
-use ending::{Ending, UnreadableText};
+use ending::{Ending, InstructionText};
 use files::{create, ending_of_read_error, open, read_script, reserve_standard_descriptors};
 use hints::{DevicesAndInputNotes, InputNotes, are_hints_wanted};
 use run::{Devices, dump, play};
@@ -47,7 +47,7 @@ fn main(rt: HostRuntime) -> ExitCode {
 /// allocation fails.
 fn read_settings<'a>(rt: &HostRuntime) -> Result<Settings, Ending<'a>> {
     let words = read_words(rt).map_err(|error| ending_of_read_error(
-        UnreadableText::Words,
+        InstructionText::Words,
         &error,
     ))?;
     settings(rt.alloc(), words).map_err(|fault| Ending::Usage(fault))

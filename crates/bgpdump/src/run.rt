@@ -79,8 +79,8 @@ pub fn dump<R: Read + Drop, O: Write + Drop, E: Write + Drop>(
         stamp dump_texts devices result }
 
     // The octets that are read.
-    ensures taken { HoldsForInput R.remaining (λ left left'. (taken : List ℕ)
-        × Consumes left left' taken) devices.reader result.input }
+    ensures taken { HoldsForInput R.remaining (λ left left_after. (taken : List ℕ)
+        × Consumes left left_after taken) devices.reader result.input }
     ensures too_long { result.outcome ≡ Outcome.InputTooLong →
         HoldsForInput R.remaining TookInputLimit devices.reader result.input }
 
@@ -125,11 +125,13 @@ pub fn play<R: Read + Drop, O: Write + Drop, E: Write + Drop>(
     // If the reader failed or has too many octets, the writers have got exactly the replies to the
     // completed commands, and the reports of the whole records read and of the bad lines before.
     ensures whole_records { HoldsForLines script.now (λ lines.
-        LeavesWholeRecords R.remaining O.contents E.contents stamp (texts_before_input_fault lines) devices result) }
+        LeavesWholeRecords R.remaining O.contents E.contents stamp (texts_before_input_fault lines)
+        devices result) }
 
     // The octets that are read.
     ensures taken { length script.now ≤ LONGEST_SCRIPT → HoldsForInput R.remaining
-        (λ left left'. (taken : List ℕ) × Consumes left left' taken) devices.reader result.input }
+        (λ left left_after. (taken : List ℕ) × Consumes left left_after taken) devices.reader
+        result.input }
     ensures too_long { result.outcome ≡ Outcome.InputTooLong →
         HoldsForInput R.remaining TookInputLimit devices.reader result.input }
 

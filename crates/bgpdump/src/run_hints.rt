@@ -3,7 +3,7 @@
 //! lost.
 
 use crate::command_words::{PipedCommand, ShellQuoted};
-use crate::ending::{Ending, OpenFailure, UnreadableText};
+use crate::ending::{Ending, InstructionText, OpenFailure};
 use crate::hints::{CompressedFormat, InputNotes};
 use bgpdump_tool::{LONGEST_SCRIPT, Outcome, STANDARD_INPUT, Settings, UsageFault};
 use mrt_frames::LONGEST_BODY;
@@ -40,10 +40,14 @@ pub fn write_ending_hint(rt: &HostRuntime, ending: &Ending<'_>) {
             "bgpdump: only one of SCRIPT and INPUT may be -"
         ),
         Ending::NotOpened(name, cause) => write_open_failure(rt, name, cause),
-        Ending::NotRead(UnreadableText::Words, _) => eprintln!(rt;
+        Ending::NotRead(InstructionText::Words, _) => eprintln!(rt;
             "bgpdump: a word of the command is not UTF-8 text"
         ),
-        Ending::NotRead(UnreadableText::Script, error) => write_read_error(rt, "the script", error),
+        Ending::NotRead(InstructionText::Script, error) => write_read_error(
+            rt,
+            "the script",
+            error,
+        ),
         Ending::Ran(Outcome::ScriptTooLong) => eprintln!(rt;
             "bgpdump: a script has at most {LONGEST_SCRIPT} octets"
         ),

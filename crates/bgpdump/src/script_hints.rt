@@ -145,7 +145,7 @@ fn find_flaw(line: &[u8]) -> Option<LineFlaw<'_>> {
         match words.next() {
             None => return Some(LineFlaw::Missing(*argument)),
             Some(word) if word.is_empty() => return Some(LineFlaw::EmptyWord),
-            Some(word) if !argument.is_spelled_by(word) => {
+            Some(word) if !argument.accepts(word) => {
                 return Some(LineFlaw::Wrong(word, *argument));
             }
             Some(_) => {}
@@ -205,7 +205,7 @@ fn find_digits_after_as(word: &[u8]) -> Option<&[u8]> {
 
 impl CommandArgumentKind {
     /// Returns `true` if `word` is a valid argument of this kind, and `false` if not.
-    fn is_spelled_by(self, word: &[u8]) -> bool {
+    fn accepts(self, word: &[u8]) -> bool {
         let is_number = parse_digits(word).is_some() && !has_leading_zero(word);
         match self {
             CommandArgumentKind::Times => is_number && parse_digits(word) != Some(0),

@@ -8,7 +8,7 @@ use Rattle.clap.specs.declared.ArgMatches.{ArgMatches}
 use Rattle.clap.specs.declared.Error.{Error}
 use Rattle.clap.specs.declared.error.ErrorKind.TheVariants.{DisplayHelp, OutOfMemory}
 use Rattle.clap.specs.declared.builder.value_parser.ValueParser.{ValueParser}
-use Rattle.bgpdump_command_line.specs.CommandLine.{Answers, GivesSettings, TakesTimeChoices, command_line, input_of, equals_text}
+use Rattle.bgpdump_command_line.specs.CommandLine.{Answers, MayGiveSettings, TakesTimeChoices, command_line, input_of, equals_text}
 use Rattle.bgpdump_command_line.specs.Arguments.{IsCommandLine, IsFaultOf}
 use Rattle.bgpdump_command_line.specs.declared.usage.Settings.{Settings}
 use Rattle.bgpdump_command_line.specs.declared.usage.UsageFault.{UsageFault}
@@ -37,16 +37,16 @@ is_one_level times = refl
 
 -- what the matches give is the answer, where the parse had no fault
 answers_matches : (times : ValueParser) (words : List Text) (rows : List Row) (result : Result Settings UsageFault) → TakesTimeChoices times → fault_of (command_line times) words ≡ [] → rows ≡ matches_of (command_line times) words
-    → GivesSettings rows result → Answers words result
-answers_matches times words rows (Ok settings) takes none is gives = (times, takes, (none, subst (λ r. GivesSettings r (Ok settings)) is gives))
-answers_matches times words rows (Err usage.Mode) takes none is gives = (times, takes, (none, subst (λ r. GivesSettings r (Err usage.Mode)) is gives))
-answers_matches times words rows (Err usage.TwoInputs) takes none is gives = (times, takes, (none, subst (λ r. GivesSettings r (Err usage.TwoInputs)) is gives))
+    → MayGiveSettings rows result → Answers words result
+answers_matches times words rows (Ok settings) takes none is gives = (times, takes, (none, subst (λ r. MayGiveSettings r (Ok settings)) is gives))
+answers_matches times words rows (Err usage.Mode) takes none is gives = (times, takes, (none, subst (λ r. MayGiveSettings r (Err usage.Mode)) is gives))
+answers_matches times words rows (Err usage.TwoInputs) takes none is gives = (times, takes, (none, subst (λ r. MayGiveSettings r (Err usage.TwoInputs)) is gives))
 answers_matches times words rows (Err usage.Memory) takes none is gives = tt
 answers_matches times words rows (Err (usage.Help text)) takes none is gives = absurd gives
 answers_matches times words rows (Err (usage.Words text)) takes none is gives = absurd gives
 
 pub answers_parsed : (app : App) (words : List Text) (matches : ArgMatches) (result : Result Settings UsageFault) → IsCommandLine app → HasMatchesOf app words matches
-    → (is_simple_and_free app ≡ true → FailsBy {T = ArgMatches} (fault_of app words) (Ok matches)) → GivesSettings (rows_of (found_of matches)) result → Answers words result
+    → (is_simple_and_free app ≡ true → FailsBy {T = ArgMatches} (fault_of app words) (Ok matches)) → MayGiveSettings (rows_of (found_of matches)) result → Answers words result
 answers_parsed app words matches result command has fails gives =
     let times = command.0 in
     let is : app ≡ command_line times = command.2 in

@@ -97,26 +97,26 @@ pub record AreSettings (rows : List Row) (settings : Settings) : Type 0 where
 -- reading `rows`, the options and values that a parse found, may give this result: the fault `Mode` unless just one
 -- of `-m` and `--play` is there, or else `TwoInputs` if script and input are both standard input, or else the
 -- settings that they state (`AreSettings`); `Memory` in any case, and no other fault
-abbrev pub GivesSettings : List Row → Result Settings UsageFault → Type 0
-GivesSettings rows (Ok settings) = (has_one_mode rows ≡ true) × (reads_stdin_twice rows ≡ false) × AreSettings rows settings
-GivesSettings rows (Err usage.Mode) = has_one_mode rows ≡ false
-GivesSettings rows (Err usage.TwoInputs) = (has_one_mode rows ≡ true) × (reads_stdin_twice rows ≡ true)
-GivesSettings rows (Err usage.Memory) = ⊤
-GivesSettings rows (Err fault) = ⊥
+abbrev pub MayGiveSettings : List Row → Result Settings UsageFault → Type 0
+MayGiveSettings rows (Ok settings) = (has_one_mode rows ≡ true) × (reads_stdin_twice rows ≡ false) × AreSettings rows settings
+MayGiveSettings rows (Err usage.Mode) = has_one_mode rows ≡ false
+MayGiveSettings rows (Err usage.TwoInputs) = (has_one_mode rows ≡ true) × (reads_stdin_twice rows ≡ true)
+MayGiveSettings rows (Err usage.Memory) = ⊤
+MayGiveSettings rows (Err fault) = ⊥
 
 -- ---- what the words of a command line give
 
 -- reading the words of a command line, where `times` parses the value of `-t`, may give this result: `Help` if
 -- parsing them may fail with help, `Words` if it may fail with another fault, each with any text; and, only if it
--- can't fail, what the options and values that it finds may give (`GivesSettings`)
-abbrev pub GivesSettingsFor : ValueParser → List Text → Result Settings UsageFault → Type 0
-GivesSettingsFor times words (Err (usage.Help text)) = IsAmong DisplayHelp (fault_of (command_line times) words)
-GivesSettingsFor times words (Err (usage.Words text)) = (kind : ErrorKind) × IsAmong kind (fault_of (command_line times) words) × (kind ≢ DisplayHelp)
-GivesSettingsFor times words result = (fault_of (command_line times) words ≡ []) × GivesSettings (matches_of (command_line times) words) result
+-- can't fail, what the options and values that it finds may give (`MayGiveSettings`)
+abbrev pub MayGiveSettingsFor : ValueParser → List Text → Result Settings UsageFault → Type 0
+MayGiveSettingsFor times words (Err (usage.Help text)) = IsAmong DisplayHelp (fault_of (command_line times) words)
+MayGiveSettingsFor times words (Err (usage.Words text)) = (kind : ErrorKind) × IsAmong kind (fault_of (command_line times) words) × (kind ≢ DisplayHelp)
+MayGiveSettingsFor times words result = (fault_of (command_line times) words ≡ []) × MayGiveSettings (matches_of (command_line times) words) result
 
 -- reading the words of a command line may give this result: the settings that they state, or a fault, as
--- `GivesSettingsFor` says with a parser that takes `dump` and `change` for `-t`; and the fault `Memory`, whatever the
+-- `MayGiveSettingsFor` says with a parser that takes `dump` and `change` for `-t`; and the fault `Memory`, whatever the
 -- words
 abbrev pub Answers : List Text → Result Settings UsageFault → Type 0
 Answers words (Err usage.Memory) = ⊤
-Answers words result = (times : ValueParser) × TakesTimeChoices times × GivesSettingsFor times words result
+Answers words result = (times : ValueParser) × TakesTimeChoices times × MayGiveSettingsFor times words result

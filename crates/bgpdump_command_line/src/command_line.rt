@@ -3,7 +3,7 @@
 
 ghost use Rattle.std.specs.Prelude.{◌≡◌, true, is_some, map, option_map, string_bytes, IfOk};
 ghost use Rattle.clap.specs.Words.{first_of, found_of, kind_of, rows_of};
-ghost use Rattle.bgpdump_command_line.specs.CommandLine.{Answers, GivesSettings, has_lines_flag, reads_stdin_twice, input_of, equals_text, selected_stamp};
+ghost use Rattle.bgpdump_command_line.specs.CommandLine.{Answers, MayGiveSettings, has_lines_flag, reads_stdin_twice, input_of, equals_text, selected_stamp};
 ghost use Rattle.bgpdump_command_line.specs.Arguments.{GivesMode, IsFaultOf};
 
 use crate::arguments::{CHANGE, INPUT, LINES, OUTPUT, SCRIPT, TIMES, command};
@@ -48,7 +48,7 @@ fn fault_of_parse_error(alloc: Global, error: &clap::Error) -> UsageFault
 /// [`UsageFault::Memory`] if memory allocation fails.
 fn settings_of(alloc: Global, matches: &ArgMatches<'_>) -> Result<Settings, UsageFault>
     requires input { is_some (input_of (rows_of (found_of matches.now))) ≡ true }
-    ensures gives { GivesSettings (rows_of (found_of matches.now)) result }
+    ensures gives { MayGiveSettings (rows_of (found_of matches.now)) result }
 {
     let mode = mode_of(alloc, matches)?;
     if reads_stdin_twice(matches) {
@@ -111,7 +111,8 @@ fn selected_stamp(matches: &ArgMatches<'_>) -> Stamp
 /// Returns `true` if the argument with the id `argument` has the value `value` in the parsed
 /// arguments `matches`, and `false` if it has another one or none.
 fn has_value(matches: &ArgMatches<'_>, argument: &str, value: &str) -> bool
-    ensures { result ≡ equals_text value.now (first_of argument.now (rows_of (found_of matches.now))) }
+    ensures { result ≡ equals_text value.now (first_of argument.now
+        (rows_of (found_of matches.now))) }
 {
     value_of(matches, argument) == Some(value)
 }

@@ -11,7 +11,7 @@ use Rattle.mrt_wire.specs.declared.next.Phase.TheVariants.{Reading, Ended, Spent
 use Rattle.mrt_wire.specs.Results.{Frame, Splits, spellings, RecordResult, SourceState, start_state, results, TakesFront}
 use Rattle.mrt_wire.specs.Record.{rest_fault_kind, IsRest, IsUnfinished}
 use Rattle.mrt_wire.specs.Answered.{IsUndecided, HasAnswered, RestSoFar}
-use Rattle.mrt_wire.specs.Taken.{Stops}
+use Rattle.mrt_wire.specs.Taken.{MayFailAt}
 use Rattle.mrt_wire.proofs.FirstLaws.{same_taken}
 use Rattle.mrt_frames.proofs.RecordLaws.{BeginsWithNoRecord-short}
 use Rattle.mrt_wire.proofs.SplitLaws.{frames_all}
@@ -159,7 +159,7 @@ length-faulty stamp left left' found fault at too_long taken after took =
     let full = by_fault fault (u.place.offset + length u.octets) too_long at.full in
     omega (arith, ap length same, full, s.offset, ap length (only_frames p left left' found u), length-append (spellings s.frames) u.octets)
   where
-    by_fault : (fault : SourceFault) (n : ℕ) → outcome_of_source_fault fault ≡ outcome.InputTooLong → Stops fault n INPUT_LIMIT → n ≡ INPUT_LIMIT
+    by_fault : (fault : SourceFault) (n : ℕ) → outcome_of_source_fault fault ≡ outcome.InputTooLong → MayFailAt fault n INPUT_LIMIT → n ≡ INPUT_LIMIT
     by_fault source.Read n e stops = cc
     by_fault source.InputTooLong n e stops = stops
     by_fault source.Memory n e stops = cc

@@ -7,7 +7,7 @@ use Rattle.mrt_wire.specs.declared.SourceFault.{SourceFault}
 use Rattle.mrt_wire.specs.declared.next.Next.TheVariants as next
 use Rattle.mrt_wire.specs.declared.next.Phase.{Phase}
 use Rattle.mrt_wire.specs.declared.next.Phase.TheVariants.{Reading, Ended, Spent}
-use Rattle.mrt_wire.specs.Taken.{Stops}
+use Rattle.mrt_wire.specs.Taken.{MayFailAt}
 use Rattle.mrt_wire.specs.declared.RecordKind.{RecordKind}
 use Rattle.mrt_wire.specs.declared.RecordFault.{RecordFault}
 use Rattle.mrt_wire.specs.Results.{RecordResult, Found, Bad, fault_results, SourceState}
@@ -16,7 +16,7 @@ use Rattle.mrt_wire.proofs.SoFarLaws.{no_rest, HasAnswered-start, HasAnswered-an
 use Rattle.bgpdump_lines.specs.declared.fault.WriteFault.{WriteFault}
 use Rattle.bgpdump_lines.specs.declared.fault.WriteFault.TheVariants.{Write, Memory}
 use Rattle.bgpdump_lines.specs.Run.{dump_texts, Outputs, Writes, WritesPrefixes}
-use Rattle.bgpdump_lines.specs.WrittenSoFar.{PutsFindings, has_fault, WrittenSoFar, TookWithoutResult, TookUntilSourceFault, StopsAtSource, StopsAtPrefixes, StopsAtWriting}
+use Rattle.bgpdump_lines.specs.WrittenSoFar.{PutsResults, has_fault, WrittenSoFar, TookWithoutResult, TookUntilSourceFault, StopsAtSource, StopsAtPrefixes, StopsAtWriting}
 use Rattle.bgpdump_lines.proofs.WritingLaws.{dump_texts-append, Writes-append, Writes-kept, WritesPrefixes-behind, WritesPrefixes-whole}
 
 pub has_fault-append : (found more : List RecordResult) → has_fault (found ++ more) ≡ (has_fault found || has_fault more)
@@ -104,7 +104,7 @@ TookUntilSourceFault-behind p q q' left left' left'' found fault s promised ende
     at is (octets, taken, (left_over, stops, place)) = record {
       untold = TookWithoutResult-behind p q left left' left'' found octets s is taken (omega (arith, within, ap (λ x. x.offset) place, ap (λ x. x.limit) place, s.limit));
       left_over = left_over;
-      full = subst (λ n. Stops fault n p.limit) (ap (λ x. x.offset) place) (subst (λ n. Stops fault q'.offset n) s.limit stops);
+      full = subst (λ n. MayFailAt fault n p.limit) (ap (λ x. x.offset) place) (subst (λ n. MayFailAt fault q'.offset n) s.limit stops);
     }
 
     by_phase : (phase : Phase) → q.phase ≡ phase → RestSoFar phase left' s.rest → TookUntilSourceFault p left left'' found fault
@@ -152,7 +152,7 @@ told_reading p q q' left left' left'' found answer s promised some = by_phase q.
 
 -- the writing stops the run, at an answer that tells something
 pub Stops-writing : (p q q' : SourceState) (left left' left'' : Option (List ℕ)) (a b c : Outputs) (reported : Bool) (answer : Next) (fault : WriteFault) → WrittenSoFar p q left left' a b reported → Promises q q' left' left'' answer
-    → is_nothing (answer_results answer) ≡ false → PutsFindings {A = Bool} (answer_results answer) b c (Err fault) → q'.offset ≤ q'.limit → StopsAtWriting p left left'' a c fault
+    → is_nothing (answer_results answer) ≡ false → PutsResults {A = Bool} (answer_results answer) b c (Err fault) → q'.offset ≤ q'.limit → StopsAtWriting p left left'' a c fault
 Stops-writing p q q' left left' left'' a b c reported answer Write g promised some fronts within = Stops-fronts p q q' left left' left'' a b c reported answer g promised fronts within
 Stops-writing p q q' left left' left'' a b c reported answer Memory g promised some (inl same) within = subst (λ x. StopsAtWriting p left left'' a x Memory) (sym same) (by_answer reading (promised.0 reading))
   where
@@ -161,11 +161,11 @@ Stops-writing p q q' left left' left'' a b c reported answer Memory g promised s
 
     by_answer : q.phase ≡ Reading → (octets : List ℕ) × Consumes left' left'' octets × NextReturns q q' left'' octets (Ok answer) → StopsAtWriting p left left'' a b Memory
     by_answer is (octets, taken, inl (frame, at)) = inl (
-      record { found = g.found; untold = TookWithoutResult-behind p q left left' left'' g.found octets g.so_far is taken (omega (arith, within, ap length at.whole, ap (λ x. x.offset) at.place, ap (λ x. x.limit) at.place, g.so_far.limit)); written = g.written },
+      record { found = g.found; untold = TookWithoutResult-behind p q left left' left'' g.found octets g.so_far is taken (omega (arith, within, ap length at.whole, ap (λ x. x.offset) at.state, ap (λ x. x.limit) at.state, g.so_far.limit)); written = g.written },
       inr (frame.mrt, at.is_record, at.whole),
     )
     by_answer is (octets, taken, inr at) = inl (
-      record { found = g.found; untold = TookWithoutResult-behind p q left left' left'' g.found octets g.so_far is taken (omega (arith, within, ap (λ x. x.offset) at.place, ap (λ x. x.limit) at.place, g.so_far.limit)); written = g.written },
+      record { found = g.found; untold = TookWithoutResult-behind p q left left' left'' g.found octets g.so_far is taken (omega (arith, within, ap (λ x. x.offset) at.state, ap (λ x. x.limit) at.state, g.so_far.limit)); written = g.written },
       inl at.ends.rest,
     )
 Stops-writing p q q' left left' left'' a b c reported answer Memory g promised some (inr (event, is_event, fronts)) within =
@@ -184,5 +184,5 @@ Stops-writing p q q' left left' left'' a b c reported answer Memory g promised s
         clash bad e = cc
 
     by_answer : q.phase ≡ Reading → (octets : List ℕ) × Consumes left' left'' octets × NextReturns q q' left'' octets (Ok answer) → q'.phase ≡ Reading
-    by_answer is (octets, taken, inl (frame, at)) = ap (λ x. x.phase) at.place ∙ is
+    by_answer is (octets, taken, inl (frame, at)) = ap (λ x. x.phase) at.state ∙ is
     by_answer is (octets, taken, inr at) = absurd (by_findings (answer_results answer) _ _ _ is_event at.tells)

@@ -9,9 +9,9 @@ use Rattle.mrt_wire.specs.declared.RecordFault.{RecordFault}
 use Rattle.mrt_wire.specs.Results.{RecordResult, Found, Bad}
 use Rattle.bgpdump_lines.specs.declared.fault.WriteFault.{WriteFault}
 use Rattle.bgpdump_lines.specs.declared.fault.WriteFault.TheVariants.{Write, Memory}
-use Rattle.bgpdump_lines.specs.Run.{AppendsPrefix, Texts, joined_texts, Outputs, Writes, WritesPrefixes, fault_report, finding_lines, finding_report, dump_texts}
+use Rattle.bgpdump_lines.specs.Run.{AppendsPrefix, Texts, joined_texts, Outputs, Writes, WritesPrefixes, fault_report, result_lines, result_report, dump_texts}
 use Rattle.bgpdump_lines.specs.Lines.{event_lines}
-use Rattle.bgpdump_lines.specs.WrittenSoFar.{Puts, PutsFindings, PutsAllOrFront, PutsThroughBuffer, PutsThroughBufferOrFront}
+use Rattle.bgpdump_lines.specs.WrittenSoFar.{Puts, PutsResults, PutsAllOrFront, PutsThroughBuffer, PutsThroughBufferOrFront}
 
 -- an output that was left alone has a front of any text
 pub AppendsPrefix-none : (known : Option (List ℕ)) (text : List ℕ) → AppendsPrefix known known text
@@ -19,23 +19,23 @@ AppendsPrefix-none known text = record { front = []; back = text; whole = refl; 
 
 -- the texts of what was found first, and of what was found then
 pub dump_texts-append : (found more : List RecordResult) → joined_texts (dump_texts found) (dump_texts more) ≡ dump_texts (found ++ more)
-dump_texts-append found more = λ i. record { out = sym (flat_map-append finding_lines found more) i; err = sym (flat_map-append finding_report found more) i }
+dump_texts-append found more = λ i. record { out = sym (flat_map-append result_lines found more) i; err = sym (flat_map-append result_report found more) i }
 
 pub Writes-report : (out err err' : Option (List ℕ)) (fault : RecordFault) → Appends err err' (fault_report fault)
     → Writes (dump_texts (Bad fault ∷ [])) (record { out = out; err = err }) (record { out = out; err = err' })
 Writes-report out err err' fault appended = (Appends-nil out, subst (Appends err err') (sym (append-nil (fault_report fault))) appended)
 
 -- the lines of an event that a fault stopped
-pub PutsFindings-lines : (out out' err : Option (List ℕ)) (event : Event) (fault : WriteFault) → PutsAllOrFront {A = Unit {0}} out out' (event_lines event) (Err fault)
-    → PutsFindings {A = Bool} (Found event ∷ []) (record { out = out; err = err }) (record { out = out'; err = err }) (Err fault)
-PutsFindings-lines out out' err event Write put = (subst (AppendsPrefix out out') (sym (append-nil (event_lines event))) put, AppendsPrefix-none err [])
-PutsFindings-lines out out' err event Memory put = inr (event, refl, (subst (AppendsPrefix out out') (sym (append-nil (event_lines event))) put, AppendsPrefix-none err []))
+pub PutsResults-lines : (out out' err : Option (List ℕ)) (event : Event) (fault : WriteFault) → PutsAllOrFront {A = Unit {0}} out out' (event_lines event) (Err fault)
+    → PutsResults {A = Bool} (Found event ∷ []) (record { out = out; err = err }) (record { out = out'; err = err }) (Err fault)
+PutsResults-lines out out' err event Write put = (subst (AppendsPrefix out out') (sym (append-nil (event_lines event))) put, AppendsPrefix-none err [])
+PutsResults-lines out out' err event Memory put = inr (event, refl, (subst (AppendsPrefix out out') (sym (append-nil (event_lines event))) put, AppendsPrefix-none err []))
 
 -- the report of a record's fault that a fault of the writing stopped
-pub PutsFindings-report : (out err err' : Option (List ℕ)) (bad : RecordFault) (fault : WriteFault) → Puts {A = Unit {0}} err err' (fault_report bad) (Err fault)
-    → PutsFindings {A = Bool} (Bad bad ∷ []) (record { out = out; err = err }) (record { out = out; err = err' }) (Err fault)
-PutsFindings-report out err err' bad Write put = (AppendsPrefix-none out [], subst (AppendsPrefix err err') (sym (append-nil (fault_report bad))) put)
-PutsFindings-report out err err' bad Memory same = inl (ap (λ known. record { out = out; err = known }) same)
+pub PutsResults-report : (out err err' : Option (List ℕ)) (bad : RecordFault) (fault : WriteFault) → Puts {A = Unit {0}} err err' (fault_report bad) (Err fault)
+    → PutsResults {A = Bool} (Bad bad ∷ []) (record { out = out; err = err }) (record { out = out; err = err' }) (Err fault)
+PutsResults-report out err err' bad Write put = (AppendsPrefix-none out [], subst (AppendsPrefix err err') (sym (append-nil (fault_report bad))) put)
+PutsResults-report out err err' bad Memory same = inl (ap (λ known. record { out = out; err = known }) same)
 
 -- texts that were written one behind the other
 pub Writes-append : (t u : Texts) (a b c : Outputs) → Writes t a b → Writes u b c → Writes (joined_texts t u) a c

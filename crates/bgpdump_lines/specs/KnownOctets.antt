@@ -22,8 +22,8 @@ held_octets stamp Saw old new octets taken is consumed =
 
 -- A theorem: what `EndsForAllContents` says of a run, for all octets that its input may hold, implies what
 -- `EndsOnKnownInput` says of it, for the octets `left` that the input showed before it. The run took the octets
--- `taken`, and left `left'`.
-pub ends_on_octets : (stamp : Stamp) (outcome : Outcome) (Saw : List Frame → List ℕ → Type 0) (texts : List RecordResult → Texts) (left left' : Option (List ℕ)) (old new : Outputs) (taken : List ℕ)
-    → Consumes left left' taken → EndsForAllContents stamp outcome Saw texts left left' old new → EndsOnKnownInput stamp outcome texts left old new
-ends_on_octets stamp outcome Saw texts left left' old new taken consumed ends octets frames rest is splits =
-    ends octets frames rest (held_octets stamp Saw left left' octets taken is consumed) splits
+-- `taken`, and left `left_after`.
+pub ends_on_octets : (stamp : Stamp) (outcome : Outcome) (Saw : List Frame → List ℕ → Type 0) (texts : List RecordResult → Texts) (left left_after : Option (List ℕ)) (old new : Outputs) (taken : List ℕ)
+    → Consumes left left_after taken → EndsForAllContents stamp outcome Saw texts left left_after old new → EndsOnKnownInput stamp outcome texts left old new
+ends_on_octets stamp outcome Saw texts left left_after old new taken consumed ends octets frames rest is splits =
+    ends octets frames rest (held_octets stamp Saw left left_after octets taken is consumed) splits

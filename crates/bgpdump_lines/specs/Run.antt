@@ -110,35 +110,35 @@ pub record MayHold (stamp : Stamp) (Saw : List Frame → List ℕ → Type 0) (o
   pub follows : (frames : List Frame) (rest : List ℕ) → Splits stamp None taken frames rest → Saw frames rest → after ≡ [] → more ≡ []
 
 -- `IsSo` holds of all results (times of table entries chosen by `stamp`) of each list of octets that an input may
--- have held before a run (`MayHold`), by what it had left before the run, `left`, and after it, `left'`. `Saw` says
+-- have held before a run (`MayHold`), by what it had left before the run, `left`, and after it, `left_after`. `Saw` says
 -- of the frames that the run took, and the octets that it took after them, whether it saw the end of the input. True
--- where `left` or `left'` isn't known
+-- where `left` or `left_after` isn't known
 abbrev pub HoldsForAllContents : Stamp → (List Frame → List ℕ → Type 0) → Option (List ℕ) → Option (List ℕ) → (List RecordResult → Type 0) → Type 0
-HoldsForAllContents stamp Saw left left' IsSo =
-    (octets : List ℕ) (frames : List Frame) (rest : List ℕ) → MayHold stamp Saw left left' octets → Splits stamp None octets frames rest
+HoldsForAllContents stamp Saw left left_after IsSo =
+    (octets : List ℕ) (frames : List Frame) (rest : List ℕ) → MayHold stamp Saw left left_after octets → Splits stamp None octets frames rest
     → IsSo (all_results stamp frames rest)
 
 -- `IsSo` holds of the frames, and of the octets after the last of them, that a run took from its input, which had
--- `left` left before it and `left'` after it; these octets begin with no whole record. True where `left` or `left'`
+-- `left` left before it and `left_after` after it; these octets begin with no whole record. True where `left` or `left_after`
 -- isn't known
 abbrev pub HoldsForTaken : Stamp → Option (List ℕ) → Option (List ℕ) → (List Frame → List ℕ → Type 0) → Type 0
-HoldsForTaken stamp left left' IsSo =
-    (taken after : List ℕ) (frames : List Frame) (rest : List ℕ) → TakesFront left left' taken after → Splits stamp None taken frames rest → IsSo frames rest
+HoldsForTaken stamp left left_after IsSo =
+    (taken after : List ℕ) (frames : List Frame) (rest : List ℕ) → TakesFront left left_after taken after → Splits stamp None taken frames rest → IsSo frames rest
 
 -- for each list of octets that the input may have held before a run (`HoldsForAllContents`, of `Saw`, `left` and
--- `left'`), the run, with this outcome, took the outputs from `old` to `new` as `EndsWithTexts` says, where what it
+-- `left_after`), the run, with this outcome, took the outputs from `old` to `new` as `EndsWithTexts` says, where what it
 -- was to write is what `texts` gives for all results of these octets
 abbrev pub EndsForAllContents : Stamp → Outcome → (List Frame → List ℕ → Type 0) → (List RecordResult → Texts) → Option (List ℕ) → Option (List ℕ) → Outputs → Outputs → Type 0
-EndsForAllContents stamp outcome Saw texts left left' old new =
-    HoldsForAllContents stamp Saw left left' (λ found. EndsWithTexts outcome (texts found) old new)
+EndsForAllContents stamp outcome Saw texts left left_after old new =
+    HoldsForAllContents stamp Saw left left_after (λ found. EndsWithTexts outcome (texts found) old new)
 
 -- if the outcome is that reading the input failed or that its limit was passed, the run took the outputs from `old`
 -- to `new` by exactly what `texts` gives for the results of the frames that it took from its input, which had `left`
--- left before it and `left'` after it; nothing for the octets taken after them. True where `left` or `left'` isn't
+-- left before it and `left_after` after it; nothing for the octets taken after them. True where `left` or `left_after` isn't
 -- known
 abbrev pub WritesBeforeInputFault : Stamp → Outcome → (List RecordResult → Texts) → Option (List ℕ) → Option (List ℕ) → Outputs → Outputs → Type 0
-WritesBeforeInputFault stamp outcome texts left left' old new =
-    EndedByInputFault outcome → HoldsForTaken stamp left left' (λ frames rest. Writes (texts (all_results stamp frames [])) old new)
+WritesBeforeInputFault stamp outcome texts left left_after old new =
+    EndedByInputFault outcome → HoldsForTaken stamp left left_after (λ frames rest. Writes (texts (all_results stamp frames [])) old new)
 
 -- `rest` may be what a run with this outcome took after its frames. `ReadFault` and `InputTooLong`: a part of a
 -- record, maybe empty (`IsUnfinished`); `Memory`: what may be left after the last whole record (`IsRest`), or a whole
@@ -181,20 +181,20 @@ fault_report fault =
     ++ (codes ": " ++ (fault_kind_text fault.kind ++ line_feed ∷ [])))))
 
 -- the lines of a result: those of its event, or no octets for a fault
-abbrev pub finding_lines : RecordResult → List ℕ
-finding_lines (Found event) = event_lines event
-finding_lines (Bad fault) = []
+abbrev pub result_lines : RecordResult → List ℕ
+result_lines (Found event) = event_lines event
+result_lines (Bad fault) = []
 
 -- the report of a result: that of its fault, or no octets for an event
-abbrev pub finding_report : RecordResult → List ℕ
-finding_report (Found event) = []
-finding_report (Bad fault) = fault_report fault
+abbrev pub result_report : RecordResult → List ℕ
+result_report (Found event) = []
+result_report (Bad fault) = fault_report fault
 
 -- the reports of all faults among results, in order
 abbrev pub reports : List RecordResult → List ℕ
-reports found = flat_map finding_report found
+reports found = flat_map result_report found
 
 -- what a run of `bgpdump -m` writes of these results, in order: the lines of all events, and the reports of all
 -- faults
 abbrev pub dump_texts : List RecordResult → Texts
-dump_texts found = record { out = flat_map finding_lines found; err = reports found }
+dump_texts found = record { out = flat_map result_lines found; err = reports found }

@@ -14,7 +14,7 @@ use Rattle.bgpdump_lines.specs.declared.outcome.Outcome.{Outcome}
 use Rattle.bgpdump_lines.specs.declared.outcome.Outcome.TheVariants.{Done, Reported}
 use Rattle.mrt_wire.specs.declared.SourceFault.{SourceFault}
 use Rattle.mrt_wire.specs.declared.next.Phase.TheVariants.{Reading, Ended}
-use Rattle.mrt_wire.specs.Taken.{Stops}
+use Rattle.mrt_wire.specs.Taken.{MayFailAt}
 use Rattle.mrt_wire.specs.Answered.{IsUndecided, HasAnswered}
 use Rattle.mrt_wire.specs.declared.SourceFault.TheVariants as source
 use Rattle.bgpdump_lines.specs.declared.fault.WriteFault.TheVariants as write
@@ -60,10 +60,10 @@ PutsThroughBufferOrFront old new before after more (Err fault) = AppendsPrefix o
 -- it and `new` after it where they are known, writes all of them if the result is Ok, and a prefix of each text if an
 -- output fails. If memory allocation fails, it writes nothing, or, if `found` is a single event, a prefix of its
 -- lines.
-abbrev pub PutsFindings : {A : Type 0} → List RecordResult → Outputs → Outputs → Result A WriteFault → Type 0
-PutsFindings found old new (Ok done) = Writes (dump_texts found) old new
-PutsFindings found old new (Err Write) = WritesPrefixes (dump_texts found) old new
-PutsFindings found old new (Err Memory) = (new ≡ old) ⊎ ((event : Event) × (found ≡ Found event ∷ []) × WritesPrefixes (dump_texts found) old new)
+abbrev pub PutsResults : {A : Type 0} → List RecordResult → Outputs → Outputs → Result A WriteFault → Type 0
+PutsResults found old new (Ok done) = Writes (dump_texts found) old new
+PutsResults found old new (Err Write) = WritesPrefixes (dump_texts found) old new
+PutsResults found old new (Err Memory) = (new ≡ old) ⊎ ((event : Event) × (found ≡ Found event ∷ []) × WritesPrefixes (dump_texts found) old new)
 
 -- Whether the result is the error `Write`: an output failed.
 abbrev pub is_output_fault : {A : Type 0} → Result A WriteFault → Bool
@@ -125,71 +125,71 @@ is_write_fault other = false
 -- ---- what a run has taken and written so far, and where it stopped
 
 -- All that a run found, while its source went from the state `p` to `q` and what is left in the input from
--- `left` to `left'`, is written: the octets of its outputs are `old` before that and `new` after it.
+-- `left` to `left_after`, is written: the octets of its outputs are `old` before that and `new` after it.
 -- `reported` is whether a faulty record is among what it found.
-pub record WrittenSoFar (p q : SourceState) (left left' : Option (List ℕ)) (old new : Outputs) (reported : Bool) : Type 0 where
+pub record WrittenSoFar (p q : SourceState) (left left_after : Option (List ℕ)) (old new : Outputs) (reported : Bool) : Type 0 where
   pub found : List RecordResult
-  pub so_far : HasAnswered p q left left' found
+  pub so_far : HasAnswered p q left left_after found
   pub written : Writes (dump_texts found) old new
   pub reported_is : reported ≡ has_fault found
   pub within : q.offset ≤ p.limit
 
 -- From the state `p` of its source on, a run found `found` and then took octets that gave no result.
-pub record TookWithoutResult (p : SourceState) (left left' : Option (List ℕ)) (found : List RecordResult) : Type 0 where
+pub record TookWithoutResult (p : SourceState) (left left_after : Option (List ℕ)) (found : List RecordResult) : Type 0 where
   pub place : SourceState
   pub mid : Option (List ℕ)
   pub so_far : HasAnswered p place left mid found
   pub reading : place.phase ≡ Reading
   pub octets : List ℕ
-  pub consumed : Consumes mid left' octets
+  pub consumed : Consumes mid left_after octets
   pub within : place.offset + length octets ≤ p.limit
 
 -- From the state `p` of its source on, a run found `found`, and then the source failed with `fault` and left
 -- octets that it had taken without a result.
-pub record TookUntilSourceFault (p : SourceState) (left left' : Option (List ℕ)) (found : List RecordResult) (fault : SourceFault) : Type 0 where
-  pub untold : TookWithoutResult p left left' found
+pub record TookUntilSourceFault (p : SourceState) (left left_after : Option (List ℕ)) (found : List RecordResult) (fault : SourceFault) : Type 0 where
+  pub untold : TookWithoutResult p left left_after found
   pub left_over : IsUndecided fault untold.octets
-  pub full : Stops fault (untold.place.offset + length untold.octets) p.limit
+  pub full : MayFailAt fault (untold.place.offset + length untold.octets) p.limit
 
 -- A run has written the texts of all that it found, and then took octets of which nothing is written.
-pub record StopsUnwritten (p : SourceState) (left left' : Option (List ℕ)) (old new : Outputs) : Type 0 where
+pub record StopsUnwritten (p : SourceState) (left left_after : Option (List ℕ)) (old new : Outputs) : Type 0 where
   pub found : List RecordResult
-  pub untold : TookWithoutResult p left left' found
+  pub untold : TookWithoutResult p left left_after found
   pub written : Writes (dump_texts found) old new
 
 -- The source of a run failed with `fault`, after the run had written the texts of all that it found.
-pub record StopsAtSource (p : SourceState) (left left' : Option (List ℕ)) (old new : Outputs) (fault : SourceFault) : Type 0 where
+pub record StopsAtSource (p : SourceState) (left left_after : Option (List ℕ)) (old new : Outputs) (fault : SourceFault) : Type 0 where
   pub found : List RecordResult
-  pub faulty : TookUntilSourceFault p left left' found fault
+  pub faulty : TookUntilSourceFault p left left_after found fault
   pub written : Writes (dump_texts found) old new
 
 -- Writing stopped a run: of each text of what it found, a prefix is written.
-pub record StopsAtPrefixes (p : SourceState) (left left' : Option (List ℕ)) (old new : Outputs) : Type 0 where
+pub record StopsAtPrefixes (p : SourceState) (left left_after : Option (List ℕ)) (old new : Outputs) : Type 0 where
   pub place : SourceState
   pub found : List RecordResult
-  pub so_far : HasAnswered p place left left' found
+  pub so_far : HasAnswered p place left left_after found
   pub within : place.offset ≤ p.limit
   pub fronts : WritesPrefixes (dump_texts found) old new
 
 -- Writing stopped a run with this fault: its source was in the state `p` and its input had `left` left before, the
--- input has `left'` left after, and its outputs went from `old` to `new`. A prefix of each text of what it found is
+-- input has `left_after` left after, and its outputs went from `old` to `new`. A prefix of each text of what it found is
 -- written, and, if memory allocation failed, it took only whole records; or memory allocation failed, the texts of
 -- what it found are written, and then it took a record, or what may follow the last one, of which nothing is written.
 abbrev pub StopsAtWriting : SourceState → Option (List ℕ) → Option (List ℕ) → Outputs → Outputs → WriteFault → Type 0
-StopsAtWriting p left left' old new Write = StopsAtPrefixes p left left' old new
-StopsAtWriting p left left' old new Memory =
-    ((stop : StopsUnwritten p left left' old new) × MayTakeAfterFrames outcome.Memory stop.untold.octets)
-    ⊎ ((stop : StopsAtPrefixes p left left' old new) × (stop.so_far.rest ≡ []))
+StopsAtWriting p left left_after old new Write = StopsAtPrefixes p left left_after old new
+StopsAtWriting p left left_after old new Memory =
+    ((stop : StopsUnwritten p left left_after old new) × MayTakeAfterFrames outcome.Memory stop.untold.octets)
+    ⊎ ((stop : StopsAtPrefixes p left left_after old new) × (stop.so_far.rest ≡ []))
 
 -- A run ended with this result, before its outputs were flushed: its source was in the state `p` and its input had
--- `left` left before, the input has `left'` left after, and its outputs went from `old` to `new`. Ok: it came to the
+-- `left` left before, the input has `left_after` left after, and its outputs went from `old` to `new`. Ok: it came to the
 -- end of the input and wrote all that it found; the flag is whether it reported a fault. Err: a fault of the source
 -- or of writing stopped it, and has this outcome.
 abbrev pub EndsUnfinished : SourceState → Result Bool Outcome → Option (List ℕ) → Option (List ℕ) → Outputs → Outputs → Type 0
-EndsUnfinished p (Ok reported) left left' old new = (q : SourceState) × (q.phase ≡ Ended) × WrittenSoFar p q left left' old new reported
-EndsUnfinished p (Err outcome) left left' old new =
-    ((fault : SourceFault) × (outcome ≡ outcome_of_source_fault fault) × StopsAtSource p left left' old new fault)
-    ⊎ ((fault : WriteFault) × (outcome ≡ outcome_of_write_fault fault) × StopsAtWriting p left left' old new fault)
+EndsUnfinished p (Ok reported) left left_after old new = (q : SourceState) × (q.phase ≡ Ended) × WrittenSoFar p q left left_after old new reported
+EndsUnfinished p (Err outcome) left left_after old new =
+    ((fault : SourceFault) × (outcome ≡ outcome_of_source_fault fault) × StopsAtSource p left left_after old new fault)
+    ⊎ ((fault : WriteFault) × (outcome ≡ outcome_of_write_fault fault) × StopsAtWriting p left left_after old new fault)
 
 -- ---- before the next record is read
 

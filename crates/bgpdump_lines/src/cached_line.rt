@@ -103,7 +103,8 @@ impl CachedLine {
         route: &Rc<Route>,
         ends: PrefixlessLine<'_>,
     ) -> Result<CachedLine, AllocError>
-        requires printed { IsPrefixlessLine ends.front.now ends.head ends.tail.now peer.now route.now.value }
+        requires printed { IsPrefixlessLine ends.front.now ends.head ends.tail.now peer.now
+            route.now.value }
         requires start { length ends.front.now ≤ START_ROOM }
         requires tail { length ends.tail.now ≤ LONGEST_TAIL }
     {
@@ -128,7 +129,8 @@ impl CachedLine {
         route: &Rc<Route>,
         ends: PrefixlessLine<'_>,
     ) -> Result<(), AllocError>
-        requires printed { IsPrefixlessLine ends.front.now ends.head ends.tail.now peer.now route.now.value }
+        requires printed { IsPrefixlessLine ends.front.now ends.head ends.tail.now peer.now
+            route.now.value }
         requires start { length ends.front.now ≤ START_ROOM }
         requires tail { length ends.tail.now ≤ LONGEST_TAIL }
     {

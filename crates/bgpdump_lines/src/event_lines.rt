@@ -34,8 +34,10 @@ pub(crate) fn put_item_line<'a>(
     text: &mut Text,
 ) -> Result<Option<LastLine<'a>>, AllocError>
     requires { IfSome last (λ line. EndsInLine heading.now line text.old) }
-    ensures printed { Prints text.old text.new (line_under_heading heading.now (item_value item.now)) result }
-    ensures last { IfOk result (λ last. IfSome last (λ line. EndsInLine heading.now line text.new)) }
+    ensures printed { Prints text.old text.new
+        (line_under_heading heading.now (item_value item.now)) result }
+    ensures last { IfOk result (λ last. IfSome last
+        (λ line. EndsInLine heading.now line text.new)) }
 {
     match item {
         Item::Announce(peer, prefix, route) => {
@@ -71,7 +73,8 @@ pub(crate) fn put_item_line<'a>(
 /// an unspecified part of the lines.
 #[inline(always)]
 fn put_item_lines(heading: &Heading, items: &[Item], text: &mut Text) -> Result<(), AllocError>
-    ensures { Prints text.old text.new (lines_under_heading heading.now (map item_value items.now)) result }
+    ensures { Prints text.old text.new (lines_under_heading heading.now (map item_value items.now))
+        result }
 {
     // This is inlined, since in most events all items share a route or none do, so that `items` is often
     // empty.
@@ -87,7 +90,8 @@ fn put_item_lines(heading: &Heading, items: &[Item], text: &mut Text) -> Result<
 /// allocation fails; `text` then ends with an unspecified part of the lines.
 #[inline(never)]
 fn put_each_item_line(heading: &Heading, items: &[Item], text: &mut Text) -> Result<(), AllocError>
-    ensures { Prints text.old text.new (lines_under_heading heading.now (map item_value items.now)) result }
+    ensures { Prints text.old text.new (lines_under_heading heading.now (map item_value items.now))
+        result }
 {
     // This is out of line, since in most events all items share a route or none do.
     let mut last = None;
@@ -112,7 +116,8 @@ pub(crate) fn put_another_prefix(
 ) -> Result<FieldOffsets, AllocError>
     requires last { EndsInLineOfRoute heading.now first.peer.now first.route.now last text.old }
     requires alike { Announces first.peer.now first.route.now (item_value item.now) }
-    ensures printed { Prints text.old text.new (line_under_heading heading.now (item_value item.now)) result }
+    ensures printed { Prints text.old text.new
+        (line_under_heading heading.now (item_value item.now)) result }
     ensures last { IfOk result (λ offsets.
         EndsInLineOfRoute heading.now first.entry.peer.now first.entry.route.now offsets text.new) }
 {
@@ -138,7 +143,8 @@ fn put_other_prefixes(
 ) -> Result<(), AllocError>
     requires last { EndsInLineOfRoute heading.now first.peer.now first.route.now offsets text.old }
     requires alike { All (Announces first.peer.now first.route.now) (map item_value items.now) }
-    ensures { Prints text.old text.new (lines_under_heading heading.now (map item_value items.now)) result }
+    ensures { Prints text.old text.new (lines_under_heading heading.now (map item_value items.now))
+        result }
 {
     let mut offsets = offsets;
     'items: for item in items {
@@ -153,7 +159,8 @@ fn put_other_prefixes(
 pub(crate) fn split_first_announcement(items: &[Item]) -> Option<(Announcement<'_>, &[Item])>
     requires { AnnounceOneRoute (map item_value items.now) }
     ensures first { IfSome result (λ found. map item_value items.now ≡
-        Announced found.0.peer.now found.0.prefix.now found.0.route.now ∷ map item_value found.1.now) }
+        Announced found.0.peer.now found.0.prefix.now found.0.route.now ∷
+        map item_value found.1.now) }
     ensures none { IfNone result (items.now ≡ []) }
 {
     let [Item::Announce(peer, prefix, route), rest @ ..] = items else {
@@ -172,9 +179,14 @@ pub(crate) fn split_first_announcement(items: &[Item]) -> Option<(Announcement<'
 /// the time of their record. Fails if memory allocation fails; `text` then ends with an unspecified part
 /// of the lines.
 #[inline(always)]
-fn put_shared_route(heading: &Heading, items: &[Item], text: &mut Text) -> Result<(), AllocError>
+fn put_shared_route_lines(
+    heading: &Heading,
+    items: &[Item],
+    text: &mut Text,
+) -> Result<(), AllocError>
     requires { AnnounceOneRoute (map item_value items.now) }
-    ensures { Prints text.old text.new (lines_under_heading heading.now (map item_value items.now)) result }
+    ensures { Prints text.old text.new (lines_under_heading heading.now (map item_value items.now))
+        result }
 {
     let Some((first, rest)) = split_first_announcement(items) else {
         return Ok(());
@@ -194,7 +206,7 @@ fn put_event_lines(event: &Event, text: &mut Text) -> Result<(), AllocError>
     let items = event.items.as_slice();
     let shared = event.items.longest_shared_range();
     put_item_lines(&heading, &items[..shared.start], text)?;
-    put_shared_route(&heading, &items[shared.start..shared.end], text)?;
+    put_shared_route_lines(&heading, &items[shared.start..shared.end], text)?;
     put_item_lines(&heading, &items[shared.end..], text)?;
     Ok(())
 }

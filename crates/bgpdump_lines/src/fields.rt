@@ -18,7 +18,7 @@ pub(crate) const BAR: u8 = b'|';
 
 /// Appends a field of a line to `text`: a bar and `number` in decimal, such as `|120`. Fails if memory
 /// allocation fails; `text` then ends with an unspecified part of the field.
-pub fn put_number_field(number: u64, text: &mut Text) -> Result<(), AllocError>
+pub fn put_u64_field(number: u64, text: &mut Text) -> Result<(), AllocError>
     ensures { Prints text.old text.new (bar ∷ decimal number) result }
 {
     text.push(BAR)?;
@@ -88,7 +88,7 @@ fn put_next_hop_field(next_hop: Option<Addr>, text: &mut Text) -> Result<(), All
 /// decimal, such as `|100`, or `|0` for `None`, where a route has no such attribute. Fails if memory
 /// allocation fails; `text` then ends with an unspecified part of the field.
 #[inline(always)]
-fn put_number_or_zero_field(number: Option<u32>, text: &mut Text) -> Result<(), AllocError>
+fn put_optional_u32_field(number: Option<u32>, text: &mut Text) -> Result<(), AllocError>
     ensures { Prints text.old text.new (bar ∷ number_or_zero number) result }
 {
     let absent = [BAR, b'0'];
@@ -143,14 +143,15 @@ fn put_aggregator_field(aggregator: Option<Aggregator>, text: &mut Text) -> Resu
 /// LOCAL_PREF, MULTI_EXIT_DISC, COMMUNITIES, ATOMIC_AGGREGATE and AGGREGATOR. Fails if memory allocation
 /// fails; `text` then ends with an unspecified part of them.
 pub(crate) fn put_attribute_fields(attrs: &Attrs, text: &mut Text) -> Result<(), AllocError>
-    ensures { Prints text.old text.new (bar ∷ line_from_fields (attribute_fields attrs.now)) result }
+    ensures { Prints text.old text.new (bar ∷ line_from_fields (attribute_fields attrs.now))
+        result }
 {
     text.push(BAR)?;
     attrs.path.append_to(text)?;
     put_origin_field(attrs.origin, text)?;
     put_next_hop_field(attrs.next_hop, text)?;
-    put_number_or_zero_field(attrs.local_pref, text)?;
-    put_number_or_zero_field(attrs.med, text)?;
+    put_optional_u32_field(attrs.local_pref, text)?;
+    put_optional_u32_field(attrs.med, text)?;
     put_community_field(&attrs.communities, text)?;
     put_atomic_field(attrs.atomic, text)?;
     put_aggregator_field(attrs.aggregator, text)?;

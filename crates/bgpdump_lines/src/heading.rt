@@ -68,7 +68,8 @@ impl Heading {
     #[inline(always)]
     pub(crate) fn for_peer_table() -> Heading
         ensures { (peer : Peer) (prefix : Network) (route : Route) →
-            line_under_heading result (Announced peer prefix route) ≡ rib_reply_line peer (prefix, route) }
+            line_under_heading result (Announced peer prefix route)
+            ≡ rib_reply_line peer (prefix, route) }
     {
         Heading {
             first: FirstField::Rib,

@@ -28,7 +28,7 @@ pub use example_laws::{
     law_example_too_long, law_example_update,
 };
 pub use fault::WriteFault;
-pub use fields::{put_number_field, put_peer_fields};
+pub use fields::{put_peer_fields, put_u64_field};
 pub use laws::law_line_constants;
 pub use outcome::Outcome;
 pub use output::{

@@ -124,7 +124,7 @@ impl LineCache {
     /// because it saved little before. Each call for a TABLE_DUMP_V2 record shortens the pause by
     /// the record's lines, so this is called once for each event.
     #[inline(always)]
-    pub(crate) fn should_use_for(&mut self, event: &Event) -> bool
+    pub(crate) fn decide_use_for(&mut self, event: &Event) -> bool
         ensures { IsTrue result → event.now.tag ≡ TableDump2 }
     {
         match event.tag {
@@ -230,7 +230,8 @@ impl LineCache {
         ends: PrefixlessLine<'_>,
         time: u32,
     ) -> Result<(), AllocError>
-        requires { IsPrefixlessLine ends.front.now ends.head ends.tail.now peer.now route.now.value }
+        requires { IsPrefixlessLine ends.front.now ends.head ends.tail.now peer.now
+            route.now.value }
     {
         if ends.front.len() > START_ROOM
             || ends.tail.len() > LONGEST_TAIL

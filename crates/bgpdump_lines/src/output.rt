@@ -217,7 +217,8 @@ pub fn flush_before_waiting<I: Input, O: Output, E: Output>(
 /// finished. Requires that no output has failed before.
 pub fn finish_outputs<O: Output, E: Output>(out: &mut O, err: &mut E, reported: bool) -> Outcome
     requires sound { (O.failed out.old || E.failed err.old) ≡ false }
-    ensures outcome { result ≡ outcome_of_finished_run (O.failed out.new || E.failed err.new) reported }
+    ensures outcome { result ≡ outcome_of_finished_run (O.failed out.new || E.failed err.new)
+        reported }
     ensures out { Keeps (O.written out.old) (O.written out.new) }
     ensures err { Keeps (E.written err.old) (E.written err.new) }
     ensures flushed { LeavesFlushed result (O.pending out.new) (E.pending err.new) }

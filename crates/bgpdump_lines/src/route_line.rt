@@ -62,9 +62,11 @@ pub(crate) fn put_whole_route_line(
     text: &mut Text,
 ) -> Result<FieldOffsets, AllocError>
     ensures printed { Prints text.old text.new (line_under_heading heading.now
-        (Announced announcement.entry.peer.now announcement.entry.prefix.now announcement.entry.route.now)) result }
+        (Announced announcement.entry.peer.now announcement.entry.prefix.now
+        announcement.entry.route.now)) result }
     ensures last { IfOk result (λ offsets.
-        EndsInLine heading.now (record { announcement = announcement.entry; offsets = offsets }) text.new) }
+        EndsInLine heading.now (record { announcement = announcement.entry; offsets = offsets })
+        text.new) }
 {
     let start = text.len();
     put_first_three_fields(heading, announcement.route, text)?;
@@ -213,7 +215,7 @@ fn copy_or_put_tail(line: &CachedLine, route: &Route, text: &mut Text) -> Result
 /// `false` if they were formatted. Fails if memory allocation fails; `text` then ends with an
 /// unspecified part of the line.
 #[inline(always)]
-pub(crate) fn put_line_by_cached(
+pub(crate) fn put_line_from_cached(
     line: &CachedLine,
     announcement: Announcement<'_>,
     last: Option<LastLine<'_>>,
@@ -224,7 +226,8 @@ pub(crate) fn put_line_by_cached(
     ensures printed { Prints text.old text.new (start_octets line.now
         ++ (prefix_field announcement.entry.prefix.now
         ++ fields_after_prefix announcement.entry.route.now)) result }
-    ensures parts { IfOk result (λ put. HasFieldsByCached text.new line.now announcement.entry put.0) }
+    ensures parts { IfOk result (λ put. HasFieldsByCached text.new line.now announcement.entry
+        put.0) }
 {
     let start = text.len();
     text.extend_from_padded(&line.start.octets, line.start.size)?;
@@ -258,7 +261,8 @@ pub(crate) fn put_route_line<'a>(
 ) -> Result<LastLine<'a>, AllocError>
     requires { IfSome last (λ line. EndsInLine heading.now line text.old) }
     ensures printed { Prints text.old text.new (line_under_heading heading.now
-        (Announced announcement.entry.peer.now announcement.entry.prefix.now announcement.entry.route.now)) result }
+        (Announced announcement.entry.peer.now announcement.entry.prefix.now
+        announcement.entry.route.now)) result }
     ensures announcement { IfOk result (λ line. line.announcement ≡ announcement.entry) }
     ensures last { IfOk result (λ line. EndsInLine heading.now line text.new) }
 {

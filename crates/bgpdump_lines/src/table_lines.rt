@@ -12,7 +12,7 @@ use crate::event_lines::put_item_line;
 use crate::heading::Heading;
 use crate::line_cache::LineCache;
 use crate::route_line::{
-    Announcement, LastLine, prefixless_last_line, put_line_by_cached, put_route_line,
+    Announcement, LastLine, prefixless_last_line, put_line_from_cached, put_route_line,
 };
 use ip_prefix::Text;
 use mrt_wire::{Item, Route};
@@ -39,7 +39,8 @@ fn put_and_cache<'a>(
     requires same { route.now.value ≡ announcement.route.now }
     requires last { IfSome last (λ line. EndsInLine heading.now line text.old) }
     ensures printed { Prints text.old text.new (line_under_heading heading.now
-        (Announced announcement.entry.peer.now announcement.entry.prefix.now announcement.entry.route.now)) result }
+        (Announced announcement.entry.peer.now announcement.entry.prefix.now
+        announcement.entry.route.now)) result }
     ensures last { IfOk result (λ line. EndsInLine heading.now line text.new) }
 {
     let line = put_route_line(heading, announcement, last, text)?;
@@ -74,13 +75,14 @@ fn put_entry_line<'a>(
     requires same { route.now.value ≡ announcement.route.now }
     requires last { IfSome last (λ line. EndsInLine heading.now line text.old) }
     ensures printed { Prints text.old text.new (line_under_heading heading.now
-        (Announced announcement.entry.peer.now announcement.entry.prefix.now announcement.entry.route.now)) result }
+        (Announced announcement.entry.peer.now announcement.entry.prefix.now
+        announcement.entry.route.now)) result }
     ensures last { IfOk result (λ line. EndsInLine heading.now line text.new) }
 {
     let Some((index, line)) = cache.line_of(announcement.peer, announcement.route.time) else {
         return put_and_cache(heading, announcement, route, last, cache, text);
     };
-    let (offsets, is_copied) = put_line_by_cached(line, announcement, last, text)?;
+    let (offsets, is_copied) = put_line_from_cached(line, announcement, last, text)?;
     if !is_copied {
         let tail = prefixless_last_line(text, offsets).tail;
         cache.replace_tail(index, route, tail, heading.time.seconds)?;
@@ -110,8 +112,10 @@ pub(crate) fn put_table_item_line<'a>(
 ) -> Result<Option<LastLine<'a>>, AllocError>
     requires tables { IsTableHeading heading.now }
     requires last { IfSome last (λ line. EndsInLine heading.now line text.old) }
-    ensures printed { Prints text.old text.new (line_under_heading heading.now (item_value item.now)) result }
-    ensures last { IfOk result (λ last. IfSome last (λ line. EndsInLine heading.now line text.new)) }
+    ensures printed { Prints text.old text.new
+        (line_under_heading heading.now (item_value item.now)) result }
+    ensures last { IfOk result (λ last. IfSome last
+        (λ line. EndsInLine heading.now line text.new)) }
 {
     match item {
         Item::Announce(peer, prefix, route) => {

@@ -14,7 +14,7 @@ ghost use Rattle.bgpdump_lines.specs.declared.heading.Heading.{Heading};
 ghost use Rattle.bgpdump_lines.specs.CachedLines.{IsTableHeading};
 ghost use Rattle.bgpdump_lines.specs.Lines.{event_lines, rib_reply_line};
 ghost use Rattle.bgpdump_lines.specs.Run.{fault_report, outputs_of};
-ghost use Rattle.bgpdump_lines.specs.WrittenSoFar.{PutsThroughBufferOrFront, Puts, PutsFindings, PutsAllOrFront, is_output_fault, has_fault};
+ghost use Rattle.bgpdump_lines.specs.WrittenSoFar.{PutsThroughBufferOrFront, Puts, PutsResults, PutsAllOrFront, is_output_fault, has_fault};
 
 use crate::event_lines::{put_another_prefix, put_item_line, split_first_announcement};
 use crate::fault::WriteFault;
@@ -37,7 +37,8 @@ const LONG_TEXT: usize = 1 << 16;
 /// fails; some of the first octets may have been written then, and `text` is unchanged.
 #[inline(always)]
 fn write_if_long<O: Output>(out: &mut O, text: &mut Text) -> Result<bool, WriteFault>
-    ensures text { PutsThroughBufferOrFront (O.written out.old) (O.written out.new) text.old text.new [] result }
+    ensures text { PutsThroughBufferOrFront (O.written out.old) (O.written out.new) text.old
+        text.new [] result }
     ensures short { IfOk result (λ was_long. was_long ≡ false → text.new ≡ text.old) }
     ensures failed { O.failed out.new ≡ (O.failed out.old || is_output_fault result) }
 {
@@ -62,7 +63,8 @@ fn buffer_each_item_line<O: Output>(
     items: &[Item],
     text: &mut Text,
 ) -> Result<(), WriteFault>
-    ensures text { PutsThroughBufferOrFront (O.written out.old) (O.written out.new) text.old text.new
+    ensures text { PutsThroughBufferOrFront (O.written out.old) (O.written out.new) text.old
+        text.new
         (lines_under_heading heading.now (map item_value items.now)) result }
     ensures failed { O.failed out.new ≡ (O.failed out.old || is_output_fault result) }
 {
@@ -89,7 +91,8 @@ fn buffer_item_lines<O: Output>(
     items: &[Item],
     text: &mut Text,
 ) -> Result<(), WriteFault>
-    ensures text { PutsThroughBufferOrFront (O.written out.old) (O.written out.new) text.old text.new
+    ensures text { PutsThroughBufferOrFront (O.written out.old) (O.written out.new) text.old
+        text.new
         (lines_under_heading heading.now (map item_value items.now)) result }
     ensures failed { O.failed out.new ≡ (O.failed out.old || is_output_fault result) }
 {
@@ -150,7 +153,8 @@ fn write_remaining_prefixes<O: Output>(
     text: &mut Text,
 ) -> Result<(), WriteFault>
     requires { All (Announces first.peer.now first.route.now) (map item_value items.now) }
-    ensures text { PutsThroughBufferOrFront (O.written out.old) (O.written out.new) text.old text.new
+    ensures text { PutsThroughBufferOrFront (O.written out.old) (O.written out.new) text.old
+        text.new
         (lines_under_heading heading.now (map item_value items.now)) result }
     ensures failed { O.failed out.new ≡ (O.failed out.old || is_output_fault result) }
 {
@@ -188,7 +192,8 @@ fn buffer_other_prefixes<O: Output>(
 ) -> Result<(), WriteFault>
     requires last { EndsInLineOfRoute heading.now first.peer.now first.route.now offsets text.old }
     requires alike { All (Announces first.peer.now first.route.now) (map item_value items.now) }
-    ensures text { PutsThroughBufferOrFront (O.written out.old) (O.written out.new) text.old text.new
+    ensures text { PutsThroughBufferOrFront (O.written out.old) (O.written out.new) text.old
+        text.new
         (lines_under_heading heading.now (map item_value items.now)) result }
     ensures failed { O.failed out.new ≡ (O.failed out.old || is_output_fault result) }
 {
@@ -209,14 +214,15 @@ fn buffer_other_prefixes<O: Output>(
 /// caller to write. Fails if memory allocation or `out` fails; some of the first lines may have
 /// been written to `out` then, and `text` holds unspecified octets.
 #[inline(always)]
-fn buffer_shared_route<O: Output>(
+fn buffer_shared_route_lines<O: Output>(
     out: &mut O,
     heading: &Heading,
     items: &[Item],
     text: &mut Text,
 ) -> Result<(), WriteFault>
     requires { AnnounceOneRoute (map item_value items.now) }
-    ensures text { PutsThroughBufferOrFront (O.written out.old) (O.written out.new) text.old text.new
+    ensures text { PutsThroughBufferOrFront (O.written out.old) (O.written out.new) text.old
+        text.new
         (lines_under_heading heading.now (map item_value items.now)) result }
     ensures failed { O.failed out.new ≡ (O.failed out.old || is_output_fault result) }
 {
@@ -238,7 +244,8 @@ fn write_event_lines<O: Output>(
     text: &mut Text,
     event: &Event,
 ) -> Result<(), WriteFault>
-    ensures text { PutsAllOrFront (O.written out.old) (O.written out.new) (event_lines event.now) result }
+    ensures text { PutsAllOrFront (O.written out.old) (O.written out.new) (event_lines event.now)
+        result }
     ensures failed { O.failed out.new ≡ (O.failed out.old || is_output_fault result) }
 {
     text.clear();
@@ -246,7 +253,7 @@ fn write_event_lines<O: Output>(
     let items = event.items.as_slice();
     let shared = event.items.longest_shared_range();
     buffer_item_lines(out, &heading, &items[..shared.start], text)?;
-    buffer_shared_route(out, &heading, &items[shared.start..shared.end], text)?;
+    buffer_shared_route_lines(out, &heading, &items[shared.start..shared.end], text)?;
     buffer_item_lines(out, &heading, &items[shared.end..], text)?;
     put_all(out, text.as_slice())?;
     Ok(())
@@ -268,7 +275,8 @@ fn buffer_table_items<O: Output>(
     text: &mut Text,
 ) -> Result<(), WriteFault>
     requires { IsTableHeading heading.now }
-    ensures text { PutsThroughBufferOrFront (O.written out.old) (O.written out.new) text.old text.new
+    ensures text { PutsThroughBufferOrFront (O.written out.old) (O.written out.new) text.old
+        text.new
         (lines_under_heading heading.now (map item_value items.now)) result }
     ensures failed { O.failed out.new ≡ (O.failed out.old || is_output_fault result) }
 {
@@ -295,7 +303,8 @@ fn write_table_event<O: Output>(
     event: &Event,
 ) -> Result<(), WriteFault>
     requires { event.now.tag ≡ TableDump2 }
-    ensures text { PutsAllOrFront (O.written out.old) (O.written out.new) (event_lines event.now) result }
+    ensures text { PutsAllOrFront (O.written out.old) (O.written out.new) (event_lines event.now)
+        result }
     ensures failed { O.failed out.new ≡ (O.failed out.old || is_output_fault result) }
 {
     text.clear();
@@ -309,7 +318,7 @@ fn write_table_event<O: Output>(
 
 /// Writes the lines of `event`, what an MRT record reports, to `out`: one for each announcement,
 /// withdrawal or state change. `cache`, which holds printed lines, is used if
-/// [`LineCache::should_use_for`] returns `true` for the event: for TABLE_DUMP_V2 records, as long
+/// [`LineCache::decide_use_for`] returns `true` for the event: for TABLE_DUMP_V2 records, as long
 /// as that saves work. `text` is a buffer: its octets are discarded, and unspecified afterwards.
 /// Fails if memory allocation or `out` fails; some of the first lines may have been written to
 /// `out` then.
@@ -320,10 +329,11 @@ fn write_event<O: Output>(
     cache: &mut LineCache,
     event: &Event,
 ) -> Result<(), WriteFault>
-    ensures text { PutsAllOrFront (O.written out.old) (O.written out.new) (event_lines event.now) result }
+    ensures text { PutsAllOrFront (O.written out.old) (O.written out.new) (event_lines event.now)
+        result }
     ensures failed { O.failed out.new ≡ (O.failed out.old || is_output_fault result) }
 {
-    if cache.should_use_for(event) {
+    if cache.decide_use_for(event) {
         write_table_event(out, text, cache, event)
     } else {
         write_event_lines(out, text, event)
@@ -421,7 +431,7 @@ pub(crate) fn write_lines_or_report<O: Output, E: Output>(
     cache: &mut LineCache,
     next: &Next,
 ) -> Result<bool, WriteFault>
-    ensures found { PutsFindings (answer_results next.now)
+    ensures found { PutsResults (answer_results next.now)
         (outputs_of O.written E.written out.old err.old)
         (outputs_of O.written E.written out.new err.new) result }
     ensures reported { IfOk result (λ reported. reported ≡ has_fault (answer_results next.now)) }

@@ -19,7 +19,7 @@ use Rattle.bgpdump_lines.specs.declared.outcome.Outcome.{Outcome}
 use Rattle.bgpdump_lines.specs.Run.{AppendsPrefix, reports}
 use Rattle.bgpdump_lines.specs.WrittenSoFar.{outcome_of_write_fault, with_outcome_error, Puts, PutsAllOrFront}
 use Rattle.bgpdump_tool.specs.Replies.{at_text, labelled_numbers_line}
-use Rattle.bgpdump_tool.specs.Meaning.{events, results_needed, loss, answer, retreat_to, advance, meaning, meets_end, faults_taken}
+use Rattle.bgpdump_tool.specs.Meaning.{events, results_needed, loss, answer, retreat_to, advance, meaning, meets_end, reports_of_taken}
 use Rattle.bgpdump_tool.specs.Execution.{Progress, RunState, HasFound, HasProgress, state_with_unread, at_cursor, progress_after, HasRoom, MovesForward, StepsFrom, Steps, IsLed, ExecutesFrom}
 use Rattle.bgpdump_tool.proofs.WalkLaws.{PutsAllOrFront-put, PutsAllOrFront-behind}
 use Rattle.bgpdump_tool.proofs.StepLaws.{kept-Appends, kept-AppendsPrefix}
@@ -347,7 +347,7 @@ Execution-refused command from left s old u out fault stands same = inr (
     taking = subst (λ f. HasFound from left old.place old.left f s.ended) (sym (append-nil s.found)) stands.taking;
     follows = record { quiet = λ _. refl; stays = λ e. e };
     met = λ e. ap (λ b. b || meets_end command (state_with_unread s [])) e;
-    fronts = λ more none. (AppendsPrefix-none out (meaning command (state_with_unread s more)).reply, AppendsPrefix-none old.err (faults_taken command (state_with_unread s more)));
+    fronts = λ more none. (AppendsPrefix-none out (meaning command (state_with_unread s more)).reply, AppendsPrefix-none old.err (reports_of_taken command (state_with_unread s more)));
   },
 )
 

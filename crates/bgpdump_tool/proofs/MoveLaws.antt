@@ -6,7 +6,7 @@ use Rattle.std.specs.Io.KnownBytes.{Appends}
 use Rattle.std.proofs.KnownBytes.{Appends-nil, Appends-trans}
 use Rattle.mrt_events.specs.declared.event.Event.{Event}
 use Rattle.mrt_wire.specs.Results.{RecordResult, Found, Bad, SourceState}
-use Rattle.bgpdump_lines.specs.Run.{finding_report, reports}
+use Rattle.bgpdump_lines.specs.Run.{result_report, reports}
 use Rattle.bgpdump_tool.specs.Meaning.{event_of, events, results_needed}
 use Rattle.bgpdump_tool.specs.Execution.{Progress, RunState, HasProgress, FindsNothingAfterEnd, progress_after, at_cursor, MovesForward, Steps}
 use Rattle.bgpdump_lines.specs.WrittenSoFar.{has_fault}
@@ -18,7 +18,7 @@ pub events-append : (found more : List RecordResult) → events (found ++ more) 
 events-append found more = flat_map-append event_of found more
 
 pub reports-append : (found more : List RecordResult) → reports (found ++ more) ≡ reports found ++ reports more
-reports-append found more = flat_map-append finding_report found more
+reports-append found more = flat_map-append result_report found more
 
 pub events_few : (found : List RecordResult) → length (events found) ≤ length found
 events_few [] = omega arith

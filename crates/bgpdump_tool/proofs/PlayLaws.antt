@@ -18,7 +18,7 @@ use Rattle.bgpdump_lines.specs.declared.outcome.Outcome.{Outcome}
 use Rattle.bgpdump_lines.specs.Run.{AppendsPrefix, Texts, joined_texts, Outputs, Writes, WritesPrefixes, reports}
 use Rattle.bgpdump_lines.specs.WrittenSoFar.{has_fault}
 use Rattle.bgpdump_tool.specs.Script.{Line, Empty, HasCommand, NoCommand, IsLine, AreLines, script_lines, bad_line_report}
-use Rattle.bgpdump_tool.specs.Meaning.{State, start, meaning, meets_end, faults_taken}
+use Rattle.bgpdump_tool.specs.Meaning.{State, start, meaning, meets_end, reports_of_taken}
 use Rattle.bgpdump_tool.specs.Course.{Course, course_after, course_from, course, play_texts, WritesBeyond}
 use Rattle.bgpdump_tool.specs.Execution.{RunState, HasFound, HasProgress, FindsNothingAfterEnd, HasRoom, state_with_unread, IsLed, IsCutOff, IsBrokenOff, ExecutesLineFrom, ExecutesLine, HasExecuted, ExecutionCutOff, ExecutionBrokenOff, ExecutesNextLine, ExecutesScript}
 use Rattle.bgpdump_lines.proofs.WritingLaws.{AppendsPrefix-none, Writes-append, WritesPrefixes-behind, WritesPrefixes-longer, AppendsPrefix-longer}
@@ -117,10 +117,10 @@ not_cut cut meets h = grind (arith, h)
 -- what follows a command, by whether the input is cut off in it
 course_by : (cut : Bool) (number : ℕ) (command : Command) (lines : List Line) (s : State) (test : Bool) → (cut && meets_end command s) ≡ test
     → course_from cut number (HasCommand command ∷ lines) s ≡ (if test then record { texts = record { out = []; err = reports s.unread }; ended = true; left = [] }
-    else course_after (record { out = (meaning command s).reply; err = faults_taken command s }) (meets_end command s) (course_from cut (number + 1) lines (meaning command s).after))
+    else course_after (record { out = (meaning command s).reply; err = reports_of_taken command s }) (meets_end command s) (course_from cut (number + 1) lines (meaning command s).after))
 course_by cut number command lines s test is =
     ap (λ test. if test then record { texts = record { out = []; err = reports s.unread }; ended = true; left = [] }
-    else course_after (record { out = (meaning command s).reply; err = faults_taken command s }) (meets_end command s) (course_from cut (number + 1) lines (meaning command s).after)) is
+    else course_after (record { out = (meaning command s).reply; err = reports_of_taken command s }) (meets_end command s) (course_from cut (number + 1) lines (meaning command s).after)) is
 
 -- nothing more is found where the run had ended before, or has now
 none_more : (a b : SourceState) (taken more : List RecordResult) → FindsNothingAfterEnd a b taken → (b.phase ≡ Ended → more ≡ []) → a.phase ≡ Ended → taken ++ more ≡ []
@@ -147,7 +147,7 @@ HasExecuted-command from left done command a b old mid new p (led, replied) =
           ∙ ap (λ l. course_from cut 1 (done ++ HasCommand command ∷ lines) (start l)) (ap (λ l. l ++ more) led.found ∙ append_assoc s.found led.taken more)
           ∙ p.goes cut (HasCommand command ∷ lines) (led.taken ++ more) (λ e. (none_more a.place b.place led.taken more led.follows none e, (h (led.follows.stays e)).1))
           ∙ ap (course_after p.texts s.ended) (course_by cut (length done + 1) command lines st false on)
-          ∙ course_after-twice p.texts (record { out = (meaning command st).reply; err = faults_taken command st }) s.ended (meets_end command st) (course_from cut (length done + 1 + 1) lines (meaning command st).after)
+          ∙ course_after-twice p.texts (record { out = (meaning command st).reply; err = reports_of_taken command st }) s.ended (meets_end command st) (course_from cut (length done + 1 + 1) lines (meaning command st).after)
           ∙ (λ i. course_after (joined_texts p.texts (record { out = leads.replied i; err = reports (leads.took i) })) (sym leads.ended i) (course_from cut (length done + 1 + 1) lines (leads.after i)))
           ∙ ap (course_after (joined_texts p.texts texts) t.ended) (next_number cut done lines (HasCommand command) (state_with_unread t more));
     }
@@ -186,7 +186,7 @@ texts_more number [] lines s = ((course_from false number lines s).texts, refl)
 texts_more number (Empty ∷ begun) lines s = texts_more (number + 1) begun lines s
 texts_more number (NoCommand ∷ begun) lines s = texts_behind (record { out = []; err = bad_line_report number }) _ _ (texts_more (number + 1) begun lines s)
 texts_more number (HasCommand command ∷ begun) lines s =
-    texts_behind (record { out = (meaning command s).reply; err = faults_taken command s }) _ _ (texts_more (number + 1) begun lines (meaning command s).after)
+    texts_behind (record { out = (meaning command s).reply; err = reports_of_taken command s }) _ _ (texts_more (number + 1) begun lines (meaning command s).after)
 
 -- fronts of what a last line adds are fronts of what any lines write that begin so
 pub fronts_past : (done behind : List Line) (line : Line) (found : List RecordResult) (old new : Outputs) → WritesBeyond (play_texts done found) (play_texts (done ++ line ∷ []) found) old new
@@ -219,7 +219,7 @@ ExecutionCutOff-command from left done command a b old mid new fault p stop =
           let st = state_with_unread s (taken ++ more) in
           let rest = take_over taken more (meaning command st).wanted (omega (arith, stop.wants more)) in
           past_line from left done (HasCommand command) a old (with_reports mid a) (with_reports new b) (s.found ++ taken) taken more p refl (λ e. absurd (stop.reads e))
-          (WritesPrefixes-longer (record { out = (meaning command st).reply; err = faults_taken command st }) (record { out = []; err = [] }) (with_reports mid a) (with_reports new b) (
+          (WritesPrefixes-longer (record { out = (meaning command st).reply; err = reports_of_taken command st }) (record { out = []; err = [] }) (with_reports mid a) (with_reports new b) (
             record { front = []; back = (meaning command st).reply; whole = refl; appended = stop.quiet },
             subst (AppendsPrefix a.err b.err) (sym (ap reports rest.1 ∙ reports-append taken rest.0)) (AppendsPrefix-longer a.err b.err (reports taken) (reports rest.0) (AppendsPrefix-whole a.err b.err (reports taken) stop.reported)),
           ));
@@ -242,7 +242,7 @@ ExecutionBrokenOff-command from left done command a b old mid new p stop =
       past = λ more none.
           let st = state_with_unread s (taken ++ more) in
           past_line from left done (HasCommand command) a old (with_reports mid a) (with_reports new b) (s.found ++ taken) taken more p refl (none_more a.place b.place taken more stop.follows none)
-          (WritesPrefixes-longer (record { out = (meaning command st).reply; err = faults_taken command st }) (record { out = []; err = [] }) (with_reports mid a) (with_reports new b) (stop.fronts more none));
+          (WritesPrefixes-longer (record { out = (meaning command st).reply; err = reports_of_taken command st }) (record { out = []; err = [] }) (with_reports mid a) (with_reports new b) (stop.fronts more none));
     }
 
 -- at a line that is no command

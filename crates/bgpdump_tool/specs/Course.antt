@@ -9,7 +9,7 @@ use Rattle.bgpdump_lines.specs.declared.outcome.Outcome.TheVariants.{Done, Repor
 use Rattle.bgpdump_lines.specs.Run.{reports, Texts, joined_texts, Outputs, Writes, WritesPrefixes, EndedByInputFault, all_results, HoldsForAllContents, HoldsForTaken, EndsForAllContents, EndsOnKnownInput}
 use Rattle.bgpdump_tool.specs.declared.play.TheConstants.{LONGEST_SCRIPT}
 use Rattle.bgpdump_tool.specs.Script.{Line, Empty, HasCommand, NoCommand, IsScript, bad_line_report}
-use Rattle.bgpdump_tool.specs.Meaning.{State, start, meaning, meets_end, faults_taken}
+use Rattle.bgpdump_tool.specs.Meaning.{State, start, meaning, meets_end, reports_of_taken}
 
 -- what lines of a script do over results: `texts`, which they write; `ended`, whether one of them wants more
 -- results than are left; and `left`, the results that none of them takes
@@ -34,7 +34,7 @@ course_from cut number (NoCommand ∷ lines) s =
     course_after (record { out = []; err = bad_line_report number }) false (course_from cut (number + 1) lines s)
 course_from cut number (HasCommand command ∷ lines) s =
     if cut && meets_end command s then record { texts = record { out = []; err = reports s.unread }; ended = true; left = [] }
-    else course_after (record { out = (meaning command s).reply; err = faults_taken command s }) (meets_end command s)
+    else course_after (record { out = (meaning command s).reply; err = reports_of_taken command s }) (meets_end command s)
     (course_from cut (number + 1) lines (meaning command s).after)
 
 -- what the lines of a script do from its first state (`start`), where `found` are the results of the input.
@@ -90,16 +90,16 @@ pub record WritesBeyond (first all : Texts) (old new : Outputs) : Type 0 where
   pub whole : all ≡ joined_texts first more
   pub fronts : WritesPrefixes more mid new
 
--- a run of `lines`, which took its input from `left` to `left'` and its outputs from `old` to `new`, executed
+-- a run of `lines`, which took its input from `left` to `left_after` and its outputs from `old` to `new`, executed
 -- `done`, and maybe began one more line, `last`: for all octets that the input may hold (`MayHold`, the end
 -- seen by `IsEndSeen`), it wrote the texts of `done` and a prefix of what `last` adds
-pub record HasBegun (stamp : Stamp) (lines : List Line) (left left' : Option (List ℕ)) (old new : Outputs) : Type 0 where
+pub record HasBegun (stamp : Stamp) (lines : List Line) (left left_after : Option (List ℕ)) (old new : Outputs) : Type 0 where
   pub done : List Line
   pub last : List Line
   pub behind : List Line
   pub whole : lines ≡ (done ++ last) ++ behind
   pub one : length last ≤ 1
-  pub texts : HoldsForAllContents stamp (IsEndSeen stamp (done ++ last)) left left' (λ found. WritesBeyond (play_texts done found) (play_texts (done ++ last) found) old new)
+  pub texts : HoldsForAllContents stamp (IsEndSeen stamp (done ++ last)) left left_after (λ found. WritesBeyond (play_texts done found) (play_texts (done ++ last) found) old new)
 
 -- `IsSo` holds of the lines of the script whose octets are `script`: of each list of what its lines ask for
 -- (`IsScript`), of which there is just one (`law_one_script`)
@@ -114,32 +114,32 @@ ScriptEndsOnKnownInput stamp script outcome left old new =
     length script ≤ LONGEST_SCRIPT → HoldsForLines script (λ lines. EndsOnKnownInput stamp outcome (play_texts lines) left old new)
 
 -- if `script` has at most `LONGEST_SCRIPT` octets, then for each list of octets that the input may have held before a
--- run of it (`MayHold`: it had `left` left before and `left'` after, and `ScriptSawEnd` says whether the run saw its
+-- run of it (`MayHold`: it had `left` left before and `left_after` after, and `ScriptSawEnd` says whether the run saw its
 -- end), the run, with this outcome, took the outputs from `old` to `new` as `EndsWithTexts` says, where what it was
 -- to write is what the lines of the script write over all results of these octets
 abbrev pub ScriptEndsForAllContents : Stamp → List ℕ → Outcome → Option (List ℕ) → Option (List ℕ) → Outputs → Outputs → Type 0
-ScriptEndsForAllContents stamp script outcome left left' old new =
+ScriptEndsForAllContents stamp script outcome left left_after old new =
     length script ≤ LONGEST_SCRIPT → (lines : List Line) → IsScript lines script
-    → EndsForAllContents stamp outcome (ScriptSawEnd stamp outcome lines) (play_texts lines) left left' old new
+    → EndsForAllContents stamp outcome (ScriptSawEnd stamp outcome lines) (play_texts lines) left left_after old new
 
 -- if the outcome of a run of the octets `script` is that an output or memory allocation failed, it wrote the texts of
 -- the first lines of the script, and maybe a prefix of what the next line adds (`HasBegun`): the input had `left`
--- left before the run and `left'` after it, and the outputs had got `old` before and `new` after it
+-- left before the run and `left_after` after it, and the outputs had got `old` before and `new` after it
 abbrev pub ScriptHasBegun : Stamp → List ℕ → Outcome → Option (List ℕ) → Option (List ℕ) → Outputs → Outputs → Type 0
-ScriptHasBegun stamp script outcome left left' old new =
-    EndedByOutputOrMemory outcome → (lines : List Line) → IsScript lines script → HasBegun stamp lines left left' old new
+ScriptHasBegun stamp script outcome left left_after old new =
+    EndedByOutputOrMemory outcome → (lines : List Line) → IsScript lines script → HasBegun stamp lines left left_after old new
 
 -- if the outcome of a run of the octets `script` is that reading the input failed or that its limit was passed, it
 -- took the outputs from `old` to `new` by exactly what the lines of the script write over the results of the frames
--- taken from the input (`left` left before, `left'` after), with that fault of the input after them
--- (`texts_before_input_fault`). True where `left` or `left'` isn't known
+-- taken from the input (`left` left before, `left_after` after), with that fault of the input after them
+-- (`texts_before_input_fault`). True where `left` or `left_after` isn't known
 abbrev pub ScriptWritesBeforeInputFault : Stamp → List ℕ → Outcome → Option (List ℕ) → Option (List ℕ) → Outputs → Outputs → Type 0
-ScriptWritesBeforeInputFault stamp script outcome left left' old new =
+ScriptWritesBeforeInputFault stamp script outcome left left_after old new =
     EndedByInputFault outcome → (lines : List Line) → IsScript lines script
-    → HoldsForTaken stamp left left' (λ frames rest. Writes (texts_before_input_fault lines (all_results stamp frames [])) old new)
+    → HoldsForTaken stamp left left_after (λ frames rest. Writes (texts_before_input_fault lines (all_results stamp frames [])) old new)
 
--- a run of the octets `script` with this outcome, whose input had `left` left before it and `left'` after it, took no
--- records but those that commands of the script want (`TakesWanted`). True where `left` or `left'` isn't known
+-- a run of the octets `script` with this outcome, whose input had `left` left before it and `left_after` after it, took no
+-- records but those that commands of the script want (`TakesWanted`). True where `left` or `left_after` isn't known
 abbrev pub TakesOnlyWantedRecords : Stamp → List ℕ → Outcome → Option (List ℕ) → Option (List ℕ) → Type 0
-TakesOnlyWantedRecords stamp script outcome left left' =
-    (lines : List Line) → IsScript lines script → HoldsForTaken stamp left left' (TakesWanted stamp outcome lines)
+TakesOnlyWantedRecords stamp script outcome left left_after =
+    (lines : List Line) → IsScript lines script → HoldsForTaken stamp left left_after (TakesWanted stamp outcome lines)

@@ -10,7 +10,7 @@ use Rattle.rib_player.specs.Timeline.{Timeline, end_of}
 use Rattle.rib_player.specs.Calls.{StandsFor}
 use Rattle.bgpdump_lines.specs.declared.dump.TheConstants.{INPUT_LIMIT}
 use Rattle.bgpdump_tool.specs.declared.session.Session.{Session}
-use Rattle.bgpdump_tool.specs.Meaning.{State, events, meaning, meets_end, faults_taken, start}
+use Rattle.bgpdump_tool.specs.Meaning.{State, events, meaning, meets_end, reports_of_taken, start}
 use Rattle.std.specs.Io.KnownBytes.{Appends, Keeps}
 use Rattle.mrt_wire.specs.declared.SourceFault.{SourceFault}
 use Rattle.bgpdump_lines.specs.declared.fault.WriteFault.{WriteFault}
@@ -62,10 +62,10 @@ abbrev pub state_with_unread : Progress → List RecordResult → State
 state_with_unread s unread = record { history = s.history; cursor = s.cursor; floor = s.floor; unread = unread }
 
 -- A source that was in the state `from`, with `left` in the input, found the results `found`, came to the state `q`
--- and left `left'`. If `ended`, it has seen the end of the input; if it has seen that after whole records, `ended` is
+-- and left `left_after`. If `ended`, it has seen the end of the input; if it has seen that after whole records, `ended` is
 -- true.
-pub record HasFound (from : SourceState) (left : Option (List ℕ)) (q : SourceState) (left' : Option (List ℕ)) (found : List RecordResult) (ended : Bool) : Type 0 where
-  pub so_far : HasAnswered from q left left' found
+pub record HasFound (from : SourceState) (left : Option (List ℕ)) (q : SourceState) (left_after : Option (List ℕ)) (found : List RecordResult) (ended : Bool) : Type 0 where
+  pub so_far : HasAnswered from q left left_after found
   pub seen : q.phase ≡ Ended → so_far.rest ≡ [] → ended ≡ true
   pub ends : ended ≡ true → q.phase ≡ Ended
   pub within : q.offset ≤ from.limit
@@ -190,7 +190,7 @@ pub record IsBrokenOff (command : Command) (from : SourceState) (left : Option (
   pub taking : HasFound from left new.place new.left (s.found ++ taken) ended
   pub follows : FindsNothingAfterEnd old.place new.place taken
   pub met : ended ≡ true → (s.ended || meets_end command (state_with_unread s taken)) ≡ true
-  pub fronts : (more : List RecordResult) → (new.place.phase ≡ Ended → more ≡ []) → AppendsPrefix out out' (meaning command (state_with_unread s (taken ++ more))).reply × AppendsPrefix old.err new.err (faults_taken command (state_with_unread s (taken ++ more)))
+  pub fronts : (more : List RecordResult) → (new.place.phase ≡ Ended → more ≡ []) → AppendsPrefix out out' (meaning command (state_with_unread s (taken ++ more))).reply × AppendsPrefix old.err new.err (reports_of_taken command (state_with_unread s (taken ++ more)))
 
 -- Executing the command in a run that had come so far as `s` changes the run's state from `old` to `new` and what the
 -- output of replies has got from `out` to `out'`, and gives this result. Ok: the run did what the command means, and

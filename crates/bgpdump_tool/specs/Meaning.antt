@@ -120,5 +120,5 @@ abbrev pub meets_end : Command → State → Bool
 meets_end command s = nat_lt (length s.unread) (meaning command s).wanted
 
 -- the reports of the faults among the results that a command takes in state `s`, in order
-abbrev pub faults_taken : Command → State → List ℕ
-faults_taken command s = reports (take (meaning command s).wanted s.unread)
+abbrev pub reports_of_taken : Command → State → List ℕ
+reports_of_taken command s = reports (take (meaning command s).wanted s.unread)

@@ -78,6 +78,7 @@ pub fn run_play<S: PrefixStore<Rc<Route>>, I: Input, O: Output, E: Output>(
 
     // In a run that comes to its end, no record is taken that no command wants, and commands have
     // taken all that the octets give; where the input fails or is too long, a command wanted more.
+    // If memory or an output fails, `began` says which lines were executed.
     ensures wanted { TakesOnlyWantedRecords stamp script.now result
         (I.left input.old) (I.left input.new) }
 
@@ -170,7 +171,8 @@ fn execute_line<S: PrefixStore<Rc<Route>>, I: Input, O: Output, E: Output>(
     err: &mut E,
 ) -> Result<(), Outcome>
     requires room { HasRoom session.old.player session.old.source LONGEST_SCRIPT }
-    ensures carries_line { HoldsForRunStates I.left O.written E.written (ExecutesLine line.now number)
+    ensures carries_line { HoldsForRunStates I.left O.written E.written
+        (ExecutesLine line.now number)
         (session.old, input.old, out.old, err.old)
         (session.new, input.new, out.new, err.new) result }
     ensures room { (lost : ℕ) → HasRoom session.old.player session.old.source lost →

@@ -1,6 +1,6 @@
-//! The slots of the hash table of `slots.rt`, which calls the searches here. A row is a bucket of
-//! four slots, and a hash has two rows, in which its route may be. Each slot has a tag, an octet of
-//! the hash of its route, which a search compares first. Read [`Slot`] first, then [`find_in_row`].
+//! The slots of the hash table of `slots.rt`, which calls the searches here. A bucket has
+//! four slots, and a hash has two buckets, in which its route may be. Each slot has a tag, an octet of
+//! the hash of its route, which a search compares first. Read [`Slot`] first, then [`find_in_bucket`].
 
 ghost use Rattle.std.specs.Prelude.{◌≡◌, true, IfSome};
 ghost use Rattle.known_routes.specs.InternTable.{is_taken, is_tagged};
@@ -8,21 +8,21 @@ ghost use Rattle.known_routes.specs.InternTable.{is_taken, is_tagged};
 use mrt_events::{Route, route_size, same_route};
 use std::rc::Rc;
 
-/// The number of slots in a row, a bucket of the hash table. A route may be in two rows, so in
-/// eight slots. With one more, a row would begin in one line of the cache and end in the next.
-const ROW: usize = 4;
+/// The number of slots in a bucket of the hash table. A route may be in two buckets, so in
+/// eight slots. With one more, a bucket would begin in one line of the cache and end in the next.
+const SLOTS_PER_BUCKET: usize = 4;
 
-/// The number of slots of a table before its first row (a bucket of four slots); they have no
+/// The number of slots of a table before its first bucket of four slots; they have no
 /// route. A large block begins 16 octets after the start of a page, the size of one slot, so that
-/// each row is in one line of the cache. With one more, none would be.
-const BEFORE_ROWS: usize = 3;
+/// each bucket is in one line of the cache. With one more, none would be.
+const BEFORE_BUCKETS: usize = 3;
 
-/// The factor by which a hash is multiplied to select the second of its two rows (buckets of four
-/// slots): the prime nearest to 2^32 divided by the golden ratio. An even factor would lose the
+/// The factor by which a hash is multiplied to select the second of its two buckets of four
+/// slots: the prime nearest to 2^32 divided by the golden ratio. An even factor would lose the
 /// highest bit of the hash.
-const SECOND_ROW: u32 = 0x9e37_79b1;
+const SECOND_BUCKET: u32 = 0x9e37_79b1;
 
-/// The number of bits of the hash of a route. With one more, only rows (buckets of four slots) of
+/// The number of bits of the hash of a route. With one more, only buckets of four slots of
 /// the first half of a table would be taken.
 const HASH_BITS: u32 = 32;
 
@@ -69,7 +69,7 @@ pub(crate) fn route_size_at(slot: &Slot) -> u64 {
 pub(crate) fn tag_of(hash: u32) -> u8
     ensures { is_tagged result ≡ true }
 {
-    // The lowest bits have the least influence on the row. Tags lie together, so that a search
+    // The lowest bits have the least influence on the bucket. Tags lie together, so that a search
     // mostly reads them alone.
     hash.to_le_bytes()[0].max(FREE + 1)
 }
@@ -82,32 +82,34 @@ fn has_tag(tags: &[u8], index: usize, tag: u8) -> bool {
     tags.get(index).is_some_and(|other| *other == tag)
 }
 
-/// Returns the index of the first slot of the row (a bucket of four slots) that the hash `hash`
+/// Returns the index of the first slot of the bucket of four slots that the hash `hash`
 /// selects in a table of `count` slots. The index is out of bounds if the table has no slots.
 #[inline]
-fn row_start(hash: u32, count: usize) -> usize {
-    let rows = (count.saturating_sub(BEFORE_ROWS) / ROW) as u64;
-    let row = (u64::from(hash).wrapping_mul(rows) >> HASH_BITS) as usize;
-    row.wrapping_mul(ROW).wrapping_add(BEFORE_ROWS)
+fn bucket_start(hash: u32, count: usize) -> usize {
+    let buckets = (count.saturating_sub(BEFORE_BUCKETS) / SLOTS_PER_BUCKET) as u64;
+    let bucket = (u64::from(hash).wrapping_mul(buckets) >> HASH_BITS) as usize;
+    bucket
+        .wrapping_mul(SLOTS_PER_BUCKET)
+        .wrapping_add(BEFORE_BUCKETS)
 }
 
-/// Returns the indices of the first slots of the two rows (buckets of four slots) in which a route
+/// Returns the indices of the first slots of the two buckets of four slots in which a route
 /// with the hash `hash` may be, in a table of `count` slots. They are out of bounds if the table
 /// has no slots.
 #[inline]
-pub(crate) fn row_starts(hash: u32, count: usize) -> [usize; 2] {
+pub(crate) fn bucket_starts(hash: u32, count: usize) -> [usize; 2] {
     [
-        row_start(hash, count),
-        row_start(hash.wrapping_mul(SECOND_ROW), count),
+        bucket_start(hash, count),
+        bucket_start(hash.wrapping_mul(SECOND_BUCKET), count),
     ]
 }
 
 /// Returns a route that equals `route`, whose hash is `hash`, and the index of its slot, from one
-/// row (a bucket of four slots), or `None` if the row has no such route or is out of bounds.
-/// `start` is the index of the row's first slot. `tags` has an octet for each of `slots`:
+/// bucket of four slots, or `None` if the bucket has no such route or is out of bounds.
+/// `start` is the index of the bucket's first slot. `tags` has an octet for each of `slots`:
 /// [`tag_of`] the hash of its route, or [`FREE`] if it has none.
 #[inline]
-pub(crate) fn find_in_row<'a>(
+pub(crate) fn find_in_bucket<'a>(
     tags: &[u8],
     slots: &'a [Slot],
     start: usize,
@@ -117,7 +119,7 @@ pub(crate) fn find_in_row<'a>(
     ensures { IfSome result (λ found. found.1.now.value ≡ route.now) }
 {
     let tag = tag_of(hash);
-    'slots: for index in start..start.saturating_add(ROW) {
+    'slots: for index in start..start.saturating_add(SLOTS_PER_BUCKET) {
         if has_tag(tags, index, tag) {
             if let Some(Slot::Taken(other, known)) = slots.get(index) {
                 if *other == hash && same_route(known, route) {
@@ -129,49 +131,49 @@ pub(crate) fn find_in_row<'a>(
     None
 }
 
-/// Returns `true` if the last slot of a row (a bucket of four slots) is free, so that the row isn't
-/// full, and `false` if it has a route or is out of bounds. `start` is the index of the row's first
+/// Returns `true` if the last slot of a bucket of four slots is free, so that the bucket isn't
+/// full, and `false` if it has a route or is out of bounds. `start` is the index of the bucket's first
 /// slot. `tags` has an octet for each slot: [`tag_of`] the hash of its route, or [`FREE`] if it has
 /// none.
 #[inline]
 pub(crate) fn ends_with_free_slot(tags: &[u8], start: usize) -> bool {
-    has_tag(tags, start.saturating_add(ROW - 1), FREE)
+    has_tag(tags, start.saturating_add(SLOTS_PER_BUCKET - 1), FREE)
 }
 
-/// Returns the index of the first free slot of a row (a bucket of four slots), or `None` if the row
-/// is full or out of bounds. `start` is the index of the row's first slot. `tags` has an octet for
+/// Returns the index of the first free slot of a bucket of four slots, or `None` if the bucket
+/// is full or out of bounds. `start` is the index of the bucket's first slot. `tags` has an octet for
 /// each slot: [`tag_of`] the hash of its route, or [`FREE`] if it has none.
 #[inline]
-fn find_free_in_row(tags: &[u8], start: usize) -> Option<usize> {
-    (start..start.saturating_add(ROW)).find(|index| has_tag(tags, *index, FREE))
+fn find_free_in_bucket(tags: &[u8], start: usize) -> Option<usize> {
+    (start..start.saturating_add(SLOTS_PER_BUCKET)).find(|index| has_tag(tags, *index, FREE))
 }
 
 /// Returns the index of the slot that a route with the hash `hash` is to be put into: the first
-/// free one of its two rows (buckets of four slots), or the first slot of its first row if both are
+/// free one of its two buckets of four slots, or the first slot of its first bucket if both are
 /// full. `tags` has an octet for each slot: [`tag_of`] the hash of its route, or [`FREE`] if it has
 /// none. If it is empty, the index is out of bounds.
 #[inline]
 pub(crate) fn slot_for(tags: &[u8], hash: u32) -> usize {
-    let [first, second] = row_starts(hash, tags.len());
-    find_free_in_row(tags, first)
-        .or_else(|| find_free_in_row(tags, second))
+    let [first, second] = bucket_starts(hash, tags.len());
+    find_free_in_bucket(tags, first)
+        .or_else(|| find_free_in_bucket(tags, second))
         .unwrap_or(first)
 }
 
 /// Returns the index of the slot that has `route`, an `Rc` of this very allocation ([`Rc::ptr_eq`])
-/// and not one of an equal route, in one row (a bucket of four slots). `start` is the index of the
-/// row's first slot. Returns `None` if the row doesn't have it.
+/// and not one of an equal route, in one bucket of four slots. `start` is the index of the
+/// bucket's first slot. Returns `None` if the bucket doesn't have it.
 #[inline]
-fn index_in_row(slots: &[Slot], start: usize, route: &Rc<Route>) -> Option<usize> {
-    (start..start.saturating_add(ROW)).find(|index| {
+fn index_in_bucket(slots: &[Slot], start: usize, route: &Rc<Route>) -> Option<usize> {
+    (start..start.saturating_add(SLOTS_PER_BUCKET)).find(|index| {
         matches!(slots.get(*index), Some(Slot::Taken(_, known)) if Rc::ptr_eq(known, route))
     })
 }
 
 /// Returns the index of the slot that has `route`: an `Rc` of this very allocation
-/// ([`Rc::ptr_eq`]), not one of an equal route. Searches the two rows (buckets of four slots) of
-/// `hash`, which is the hash of the route. Returns `None` if neither row has it.
+/// ([`Rc::ptr_eq`]), not one of an equal route. Searches the two buckets of four slots of
+/// `hash`, which is the hash of the route. Returns `None` if neither bucket has it.
 pub(crate) fn index_of(slots: &[Slot], hash: u32, route: &Rc<Route>) -> Option<usize> {
-    let [first, second] = row_starts(hash, slots.len());
-    index_in_row(slots, first, route).or_else(|| index_in_row(slots, second, route))
+    let [first, second] = bucket_starts(hash, slots.len());
+    index_in_bucket(slots, first, route).or_else(|| index_in_bucket(slots, second, route))
 }

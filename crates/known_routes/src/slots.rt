@@ -1,4 +1,4 @@
-//! A hash table of routes. Each route is in a slot of one of the two rows (buckets of four slots)
+//! A hash table of routes. Each route is in a slot of one of the two buckets of four slots
 //! of its hash, or in an overflow, a sorted list, if these were full. `routes.rt` looks up and adds
 //! routes by it. Read [`InternTable`] first, then `slot.rt`.
 
@@ -9,8 +9,8 @@ ghost use Rattle.known_routes.specs.declared.slots.TheConstants.{MIN_SLOTS, MAX_
 
 use crate::ordered_routes::{HashedRoute, OverflowRoutes};
 use crate::slot::{
-    FREE, Slot, ends_with_free_slot, find_in_row, index_of, is_only_owner, is_taken, route_size_at,
-    row_starts, slot_for, tag_of,
+    FREE, Slot, bucket_starts, ends_with_free_slot, find_in_bucket, index_of, is_only_owner,
+    is_taken, route_size_at, slot_for, tag_of,
 };
 use mrt_events::{Route, route_size};
 use std::alloc::{AllocError, Global};
@@ -21,7 +21,7 @@ use std::rc::Rc;
 /// grows when a route is added while three quarters of its slots are taken.
 const MIN_SLOTS: usize = 1024;
 
-/// The largest number of slots of a table. A table of so many doesn't grow; a route whose rows
+/// The largest number of slots of a table. A table of so many doesn't grow; a route whose buckets
 /// (buckets of four slots) are full goes to the overflow list, where a search takes longer.
 pub(crate) const MAX_SLOTS: usize = 1 << 24;
 
@@ -30,10 +30,10 @@ pub(crate) const MAX_SLOTS: usize = 1 << 24;
 const MOST_TIMES: usize = 3;
 
 /// The ratio of the routes in slots to those that may be in the overflow list before a search that
-/// found a free slot in its row goes on in the overflow. With one route more there, it does.
+/// found a free slot in its bucket goes on in the overflow. With one route more there, it does.
 const CROWDED_SHARE: usize = 16;
 
-/// The ratio of the routes in slots to those that may replace another route because both rows
+/// The ratio of the routes in slots to those that may replace another route because both buckets
 /// (buckets of four slots) of their hash are full. Of routes with random hashes, fewer do. One more
 /// goes to the overflow list, where a search takes longer.
 const OVERWRITTEN_SHARE: usize = 12;
@@ -43,7 +43,7 @@ const OVERWRITTEN_SHARE: usize = 12;
 const IN_OVERFLOW: usize = usize::MAX;
 
 /// A hash table of routes, which finds the `Rc` of an equal route so that equal routes share one.
-/// Each route is in a slot of one of two rows (buckets of four slots), which its 32-bit hash
+/// Each route is in a slot of one of two buckets of four slots, which its 32-bit hash
 /// selects, or in an overflow, a sorted list, if both were full. A route may be dropped to make
 /// room for another one.
 #[derive(Drop)]
@@ -55,9 +55,9 @@ pub(crate) struct InternTable {
     pub(crate) tags: Vec<u8>,
     /// The number of slots that have a route.
     pub(crate) taken: usize,
-    /// The routes that found both rows of their hash full.
+    /// The routes that found both buckets of their hash full.
     overflow: OverflowRoutes,
-    /// The number of routes that replaced another in its slot, since they found both of their rows
+    /// The number of routes that replaced another in its slot, since they found both of their buckets
     /// full. It saturates.
     overwritten: usize,
     /// The number of octets that all routes of the table take ([`route_size`]). Whoever calls
@@ -106,40 +106,40 @@ impl InternTable {
 
     /// Returns `true` if the overflow list has so many routes that no search may leave it out: more
     /// than a [`CROWDED_SHARE`]th of the number of routes in slots. Otherwise a search ends at a
-    /// row (a bucket of four slots) whose last slot is free, and may miss a route that went to the
+    /// bucket of four slots whose last slot is free, and may miss a route that went to the
     /// list before that slot became free.
     #[inline]
     fn is_overflow_crowded(&self) -> bool {
         self.overflow.count > self.taken / CROWDED_SHARE
     }
 
-    /// Returns `true` if a search ends at a row (a bucket of four slots) that doesn't have its
-    /// route. `row` is the index of the row's first slot. The search ends there if the row's last
+    /// Returns `true` if a search ends at a bucket of four slots that doesn't have its
+    /// route. `bucket` is the index of the bucket's first slot. The search ends there if the bucket's last
     /// slot is free, so that the route needn't have been put elsewhere, and the overflow list isn't
-    /// crowded ([`InternTable::is_overflow_crowded`]). Otherwise it goes on: after the first row of
+    /// crowded ([`InternTable::is_overflow_crowded`]). Otherwise it goes on: after the first bucket of
     /// the hash in the second one, and after that in the overflow list.
     #[inline]
-    fn ends_search(&self, row: usize) -> bool {
-        // Rows are filled from the front.
-        ends_with_free_slot(&self.tags, row) && !self.is_overflow_crowded()
+    fn ends_search(&self, bucket: usize) -> bool {
+        // Buckets are filled from the front.
+        ends_with_free_slot(&self.tags, bucket) && !self.is_overflow_crowded()
     }
 
     /// Returns a route of the table that equals `route`, whose hash is `hash`, and the index of its
     /// slot, or [`IN_OVERFLOW`] if it is in the overflow list. Returns `None` if none is found. A
-    /// search misses a route that was put elsewhere while a row (a bucket of four slots) was full,
-    /// if it ends at that row now ([`InternTable::ends_search`]).
+    /// search misses a route that was put elsewhere while a bucket of four slots was full,
+    /// if it ends at that bucket now ([`InternTable::ends_search`]).
     #[inline]
     pub(crate) fn find_route(&self, hash: u32, route: &Route) -> Option<(usize, &Rc<Route>)>
         ensures { IfSome result (λ found. found.1.now.value ≡ route.now) }
     {
-        let [first, second] = row_starts(hash, self.slots.len());
-        if let Some(found) = find_in_row(&self.tags, &self.slots, first, hash, route) {
+        let [first, second] = bucket_starts(hash, self.slots.len());
+        if let Some(found) = find_in_bucket(&self.tags, &self.slots, first, hash, route) {
             return Some(found);
         }
         if self.ends_search(first) {
             return None;
         }
-        if let Some(found) = find_in_row(&self.tags, &self.slots, second, hash, route) {
+        if let Some(found) = find_in_bucket(&self.tags, &self.slots, second, hash, route) {
             return Some(found);
         }
         if self.ends_search(second) {
@@ -148,7 +148,7 @@ impl InternTable {
         Some((IN_OVERFLOW, self.overflow.find_route(hash, route)?))
     }
 
-    /// Returns `true` if a new route whose two rows (buckets of four slots) are full is to replace
+    /// Returns `true` if a new route whose two buckets of four slots are full is to replace
     /// a route in a slot, and `false` if it is to go to the overflow list. It is to replace one if
     /// the number of routes replaced so far is less than an [`OVERWRITTEN_SHARE`]th of the number
     /// of routes in slots, or if the overflow list is full.
@@ -170,8 +170,8 @@ impl InternTable {
     }
 
     /// Adds `route`, whose hash is `hash`, and returns the index of its slot, or [`IN_OVERFLOW`] if
-    /// it is in no slot. It is put into a free slot of its two rows (buckets of four slots). If
-    /// both are full, it replaces the route in the first slot of the first row, which is dropped,
+    /// it is in no slot. It is put into a free slot of its two buckets of four slots. If
+    /// both are full, it replaces the route in the first slot of the first bucket, which is dropped,
     /// or goes to the overflow list ([`InternTable::overwrites_when_full`]). A table without slots
     /// drops `route`. The caller adds the octets of `route` to `held_octets`. Fails if memory
     /// allocation fails; `route` is dropped then, and the others stay.
@@ -256,7 +256,7 @@ impl InternTable {
     }
 
     /// Moves the routes of `others` into this table, which is to have none yet. Some may be dropped
-    /// where rows (buckets of four slots) are full, as in [`InternTable::put`]. Fails if memory
+    /// where buckets of four slots are full, as in [`InternTable::put`]. Fails if memory
     /// allocation fails; the routes moved by then stay here, and the others are dropped.
     fn move_from(&mut self, mut others: InternTable) -> Result<(), AllocError>
         ensures { vec_len self.new.slots ≡ vec_len self.old.slots }

@@ -52,19 +52,19 @@ source_answer (Err fault) = Err (source_fault fault)
 
 -- a source may fail with this error when it has taken `taken` octets in all, of at most `limit`: with `InputTooLong`
 -- only at the limit, with `Spent` never, and with the others anywhere up to it
-abbrev pub Stops : SourceFault → ℕ → ℕ → Type 0
-Stops InputTooLong taken limit = taken ≡ limit
-Stops Spent taken limit = ⊥
-Stops other taken limit = taken ≤ limit
+abbrev pub MayFailAt : SourceFault → ℕ → ℕ → Type 0
+MayFailAt InputTooLong taken limit = taken ≡ limit
+MayFailAt Spent taken limit = ⊥
+MayFailAt other taken limit = taken ≤ limit
 
 -- a call that fills `size` octets of a buffer, which then has the octets `buffer`, returned this result. The input
 -- had `old` left before and has `new` left then; the number of octets taken in all rose from `before` to `after`. On
 -- `Ok` the octets taken, fewer than `size` only at the end of the input, are the first of the buffer, as many as it
 -- returns. On `Err` fewer than `size` were taken, which needn't be in the buffer, and the error fits `after` and
--- `limit` (`Stops`).
+-- `limit` (`MayFailAt`).
 abbrev pub FillsWithin : Option (List ℕ) → Option (List ℕ) → ℕ → ℕ → List ℕ → ℕ → ℕ → Result ℕ SourceFault → Type 0
 FillsWithin old new before after buffer size limit (Ok count) = (count ≤ size) × (after ≤ limit) × Takes old new before after (take count buffer) × (count < size → IsAtEnd new)
-FillsWithin old new before after buffer size limit (Err fault) = (front : List ℕ) × (length front < size) × Stops fault after limit × Takes old new before after front
+FillsWithin old new before after buffer size limit (Err fault) = (front : List ℕ) × (length front < size) × MayFailAt fault after limit × Takes old new before after front
 
 -- whether the result is the error `Read`: a read of the input failed
 abbrev pub is_err_read : {A : Type 0} → Result A SourceFault → Bool
@@ -86,38 +86,38 @@ TakesOctets AreSo old new before after = (octets : List ℕ) × Takes old new be
 
 -- `octets` are those taken by a call that reads a header and returned this result: those of the header; or what is
 -- read of the input after its last whole record, with its fault; or, on error, the beginning of a record. `left` is
--- what the input has left then; an error fits `limit` and `taken`, the number of octets taken in all (`Stops`).
-abbrev pub TakesHeaderOrRest : ℕ → Result NextHeader SourceFault → Option (List ℕ) → ℕ → List ℕ → Type 0
-TakesHeaderOrRest limit (Ok (start.Header header)) left taken octets = FitsHeader header.seconds header.kind header.subtype header.size × (octets ≡ header_octets header.seconds header.kind header.subtype header.size)
-TakesHeaderOrRest limit (Ok (start.Rest kind)) left taken octets = EndsAt left octets × (kind ≡ rest_fault octets)
-TakesHeaderOrRest limit (Err fault) left taken octets = IsUnfinished octets × Stops fault taken limit
+-- what the input has left then; an error fits `limit` and `taken`, the number of octets taken in all (`MayFailAt`).
+abbrev pub AreOctetsOfHeaderOrRest : ℕ → Result NextHeader SourceFault → Option (List ℕ) → ℕ → List ℕ → Type 0
+AreOctetsOfHeaderOrRest limit (Ok (start.Header header)) left taken octets = FitsHeader header.seconds header.kind header.subtype header.size × (octets ≡ header_octets header.seconds header.kind header.subtype header.size)
+AreOctetsOfHeaderOrRest limit (Ok (start.Rest kind)) left taken octets = EndsAt left octets × (kind ≡ rest_fault octets)
+AreOctetsOfHeaderOrRest limit (Err fault) left taken octets = IsUnfinished octets × MayFailAt fault taken limit
 
 -- `octets` are those taken by a call that reads a body of `size` octets into the start of `buffer` and returned this
 -- result: the whole body on `true`, and fewer octets otherwise, to the end of the input on `false`. `left` is what
--- the input has left then; an error fits `limit` and `taken`, the number of octets taken in all (`Stops`).
-abbrev pub TakesBody : ℕ → List ℕ → ℕ → Result Bool SourceFault → Option (List ℕ) → ℕ → List ℕ → Type 0
-TakesBody limit buffer size (Ok true) left taken octets = (octets ≡ take size buffer) × (length octets ≡ size)
-TakesBody limit buffer size (Ok false) left taken octets = IsAtEnd left × (length octets < size)
-TakesBody limit buffer size (Err fault) left taken octets = (length octets < size) × Stops fault taken limit
+-- the input has left then; an error fits `limit` and `taken`, the number of octets taken in all (`MayFailAt`).
+abbrev pub AreOctetsOfBody : ℕ → List ℕ → ℕ → Result Bool SourceFault → Option (List ℕ) → ℕ → List ℕ → Type 0
+AreOctetsOfBody limit buffer size (Ok true) left taken octets = (octets ≡ take size buffer) × (length octets ≡ size)
+AreOctetsOfBody limit buffer size (Ok false) left taken octets = IsAtEnd left × (length octets < size)
+AreOctetsOfBody limit buffer size (Err fault) left taken octets = (length octets < size) × MayFailAt fault taken limit
 
 -- `octets` are those taken by a call that skips a body of `size` octets and returned this result: the whole body on
 -- `true`, and fewer octets otherwise, to the end of the input on `false`. `left` is what the input has left then; an
--- error fits `limit` and `taken`, the number of octets taken in all (`Stops`).
-abbrev pub SkipsBody : ℕ → ℕ → Result Bool SourceFault → Option (List ℕ) → ℕ → List ℕ → Type 0
-SkipsBody limit size result left taken octets = TakesBody limit octets size result left taken octets
+-- error fits `limit` and `taken`, the number of octets taken in all (`MayFailAt`).
+abbrev pub AreOctetsOfSkippedBody : ℕ → ℕ → Result Bool SourceFault → Option (List ℕ) → ℕ → List ℕ → Type 0
+AreOctetsOfSkippedBody limit size result left taken octets = AreOctetsOfBody limit octets size result left taken octets
 
 -- `octets` are those taken by a call that reads a record and returned this result: those of a record for whose type
 -- and subtype `format_at` has a format, and whose body is at the start of `buffer`; those of a record without a
 -- format, which was skipped; what is read of the input after its last whole record, with its fault; or, on error, the
 -- beginning of a record. `left` is what the input has left then; an error fits `limit` and `taken`, the number of
--- octets taken in all (`Stops`).
-abbrev pub TakesRecordOrRest : {F : Type 0} → (ℕ → ℕ → Option F) → ℕ → List ℕ → Result (NextRecord F) SourceFault → Option (List ℕ) → ℕ → List ℕ → Type 0
-TakesRecordOrRest format_at limit buffer (Ok (front.Record header form)) left taken octets =
+-- octets taken in all (`MayFailAt`).
+abbrev pub AreOctetsOfRecordOrRest : {F : Type 0} → (ℕ → ℕ → Option F) → ℕ → List ℕ → Result (NextRecord F) SourceFault → Option (List ℕ) → ℕ → List ℕ → Type 0
+AreOctetsOfRecordOrRest format_at limit buffer (Ok (front.Record header form)) left taken octets =
     (format_at header.kind header.subtype ≡ Some form) × (length (take header.size buffer) ≡ header.size) × IsRecord (record_in_buffer header buffer) × (octets ≡ spelling (record_in_buffer header buffer))
-TakesRecordOrRest format_at limit buffer (Ok (front.Skipped header)) left taken octets =
+AreOctetsOfRecordOrRest format_at limit buffer (Ok (front.Skipped header)) left taken octets =
     (format_at header.kind header.subtype ≡ None) × ((body : List ℕ) × IsRecord (record_with_header header body) × (octets ≡ spelling (record_with_header header body)))
-TakesRecordOrRest format_at limit buffer (Ok (front.Rest kind)) left taken octets = EndsAt left octets × (kind ≡ rest_fault octets)
-TakesRecordOrRest format_at limit buffer (Err fault) left taken octets = IsUnfinished octets × Stops fault taken limit
+AreOctetsOfRecordOrRest format_at limit buffer (Ok (front.Rest kind)) left taken octets = EndsAt left octets × (kind ≡ rest_fault octets)
+AreOctetsOfRecordOrRest format_at limit buffer (Err fault) left taken octets = IsUnfinished octets × MayFailAt fault taken limit
 
 -- ---- what reads take from a buffer that has enough
 

@@ -3,7 +3,7 @@
 
 ghost use Rattle.std.specs.Prelude.{◌≡◌, ◌+◌, ◌≤◌, ◌||◌, ℕ, false, Option, IfOk, IsTrue, take, length, vec_len};
 ghost use Rattle.mrt_frames.specs.Buffered.{HoldsRecord};
-ghost use Rattle.mrt_frames.specs.Taken.{StartsBuffered, is_err_read, source_answer, TakesOctets, TakesHeaderOrRest, TakesBody, SkipsBody, TakesRecordOrRest};
+ghost use Rattle.mrt_frames.specs.Taken.{StartsBuffered, is_err_read, source_answer, TakesOctets, AreOctetsOfHeaderOrRest, AreOctetsOfBody, AreOctetsOfSkippedBody, AreOctetsOfRecordOrRest};
 
 use crate::buffer::{fill_body, fill_part, fill_within};
 use crate::fault::{RecordKind, SourceFault, TakeFault};
@@ -117,7 +117,7 @@ impl FrameReader {
     /// of the header may have been read then.
     #[inline(always)]
     fn take_header<I: Input>(&mut self, input: &mut I) -> Result<NextHeader, TakeFault>
-        ensures octets { TakesOctets (TakesHeaderOrRest self.new.limit (source_answer result))
+        ensures octets { TakesOctets (AreOctetsOfHeaderOrRest self.new.limit (source_answer result))
             (I.left input.old) (I.left input.new) self.old.taken self.new.taken }
         ensures failed { I.failed input.new
             ≡ (I.failed input.old || is_err_read (source_answer result)) }
@@ -141,7 +141,7 @@ impl FrameReader {
     fn take_body<I: Input>(&mut self, input: &mut I, size: u32) -> Result<bool, SourceFault>
         requires { size ≤ LONGEST_BODY }
         ensures octets { TakesOctets
-            (TakesBody self.new.limit self.new.body.items size result)
+            (AreOctetsOfBody self.new.limit self.new.body.items size result)
             (I.left input.old) (I.left input.new) self.old.taken self.new.taken }
         ensures failed { I.failed input.new ≡ (I.failed input.old || is_err_read result) }
         ensures limit { self.new.limit ≡ self.old.limit }
@@ -165,7 +165,8 @@ impl FrameReader {
     /// to [`FrameReader::new`] is reached; a part of the body may have been read then.
     #[inline(never)]
     fn skip_body<I: Input>(&mut self, input: &mut I, size: u32) -> Result<bool, TakeFault>
-        ensures octets { TakesOctets (SkipsBody self.new.limit size (source_answer result))
+        ensures octets { TakesOctets (AreOctetsOfSkippedBody self.new.limit size
+            (source_answer result))
             (I.left input.old) (I.left input.new) self.old.taken self.new.taken }
         ensures failed { I.failed input.new
             ≡ (I.failed input.old || is_err_read (source_answer result)) }
@@ -199,7 +200,8 @@ impl FrameReader {
         input: &mut I,
     ) -> Result<NextRecord<P::BodyFormat>, SourceFault>
         ensures octets { TakesOctets
-            (TakesRecordOrRest (P.format_at record_types.now) self.new.limit self.new.body.items result)
+            (AreOctetsOfRecordOrRest (P.format_at record_types.now) self.new.limit
+            self.new.body.items result)
             (I.left input.old) (I.left input.new) self.old.taken self.new.taken }
         ensures failed { I.failed input.new ≡ (I.failed input.old || is_err_read result) }
         ensures limit { self.new.limit ≡ self.old.limit }

@@ -10,7 +10,7 @@ use Rattle.mrt_frames.specs.declared.fault.RecordKind.TheVariants.{Unsupported}
 use Rattle.mrt_wire.specs.declared.next.Next.{Next}
 use Rattle.mrt_wire.specs.declared.next.Next.TheVariants as next
 use Rattle.mrt_frames.specs.Record.{Record, spelling, IsRecord}
-use Rattle.mrt_frames.specs.Taken.{record_with_header, record_in_buffer, Takes, TakesOctets, TakesRecordOrRest}
+use Rattle.mrt_frames.specs.Taken.{record_with_header, record_in_buffer, Takes, TakesOctets, AreOctetsOfRecordOrRest}
 use Rattle.mrt_wire.specs.Results.{PeerTable, RecordOutcome, Accepted, Refused, ReadsAs, index_after, record_result, SourceState}
 use Rattle.mrt_wire.specs.declared.record_types.BodyFormat.{BodyFormat}
 use Rattle.mrt_wire.specs.RecordTypes.{body_format, IsSupported}
@@ -32,14 +32,14 @@ NextReturns-frame p left left' after limit octets r outcome index answer took wh
       is_record = is_record;
       reads = reads;
       tells = tells;
-      place = λ i. record { index = behind_it i; number = p.number + 1; offset = (took.1 ∙ ap (λ l. p.offset + length l) whole) i; limit = same_limit i; stamp = p.stamp; phase = p.phase };
+      state = λ i. record { index = behind_it i; number = p.number + 1; offset = (took.1 ∙ ap (λ l. p.offset + length l) whole) i; limit = same_limit i; stamp = p.stamp; phase = p.phase };
     },
   ),
 )
 
 -- a record was taken and judged, and this was answered
 pub NextReturns-record : (format_at : ℕ → ℕ → Option BodyFormat) (p : SourceState) (left left' : Option (List ℕ)) (after limit : ℕ) (buffer body : List ℕ) (h : Header) (form : BodyFormat) (index : PeerTable) (decoded : Result Event DecodeError) (answer : Next)
-    → TakesOctets (TakesRecordOrRest format_at limit buffer (Ok (front.Record h form))) left left' p.offset after → body ≡ take h.size buffer
+    → TakesOctets (AreOctetsOfRecordOrRest format_at limit buffer (Ok (front.Record h form))) left left' p.offset after → body ≡ take h.size buffer
     → Decodes p.stamp p.index index (record_with_header h body) decoded → limit ≡ p.limit → Ok answer ≡ decoded_answer (p.number + 1) p.offset decoded
     → (octets : List ℕ) × Consumes left left' octets × NextReturns p (record { index = index; number = p.number + 1; offset = after; limit = limit; stamp = p.stamp; phase = p.phase }) left' octets (Ok answer)
 NextReturns-record format_at p left left' after limit buffer body h form index (Ok event) answer (octets, took, (supported, size, is_record, whole)) is_body (content, reads, behind_it) same_limit answered =
@@ -54,7 +54,7 @@ NextReturns-record format_at p left left' after limit buffer body h form index (
 
 -- the body of a record was passed over, since it isn't read, and this was answered
 pub NextReturns-passed : (p : SourceState) (left left' : Option (List ℕ)) (after limit : ℕ) (buffer : List ℕ) (h : Header) (answer : Next)
-    → TakesOctets (TakesRecordOrRest body_format limit buffer (Ok (front.Skipped h))) left left' p.offset after → limit ≡ p.limit
+    → TakesOctets (AreOctetsOfRecordOrRest body_format limit buffer (Ok (front.Skipped h))) left left' p.offset after → limit ≡ p.limit
     → Ok answer ≡ decoded_answer (p.number + 1) p.offset (Err (refusal.Fault (Unsupported h.kind h.subtype)))
     → (octets : List ℕ) × Consumes left left' octets × NextReturns p (record { index = p.index; number = p.number + 1; offset = after; limit = limit; stamp = p.stamp; phase = p.phase }) left' octets (Ok answer)
 NextReturns-passed p left left' after limit buffer h answer (octets, took, (unsupported, (body, is_record, whole))) same_limit answered =

@@ -6,13 +6,13 @@ use Rattle.octet_forms.proofs.Fields.{then_front, more_one, behind_one}
 use Rattle.octet_forms.proofs.Counts.{counted_code}
 use Rattle.mrt_events.specs.declared.peer.Peer.{Peer}
 use Rattle.mrt_wire.specs.declared.peer_index.TheConstants.{ID_SIZE}
-use Rattle.mrt_wire.specs.Rib.{peer_family, peer_width, SpellsPeerFields, SpellsPeer, SpellsView, SpellsPeerIndex}
+use Rattle.mrt_wire.specs.Rib.{peer_family, peer_as_width, SpellsPeerFields, SpellsPeer, SpellsView, SpellsPeerIndex}
 use Rattle.mrt_wire.proofs.FieldFronts.{octet_front, octets_front, peer_of_front, sized_front, nothing_octet}
 
 -- the fields of a peer
 peer_fields_front : HasOneFront SpellsPeerFields
 peer_fields_front =
-    then_front _ _ octet_front (λ kind. then_front _ _ (octets_front ID_SIZE) (λ id. peer_of_front (peer_family kind) (peer_width kind)))
+    then_front _ _ octet_front (λ kind. then_front _ _ (octets_front ID_SIZE) (λ id. peer_of_front (peer_family kind) (peer_as_width kind)))
 
 -- octets that begin with a peer begin with its fields
 peer_fields : (peer : Peer) (rest octets : List ℕ) (b : Begins SpellsPeer peer rest octets) → Begins SpellsPeerFields (b.spelled.0, (b.spelled.1, peer)) rest octets

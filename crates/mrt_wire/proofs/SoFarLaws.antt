@@ -75,7 +75,7 @@ HasAnswered-frame p q q' left left' left'' found answer octets frame s reading t
     let offset : q.offset ≡ b.offset = omega (arith, s.offset, ap length only, state_after_all-offset p s.frames) in
     let reads = subst (λ x. ReadsAs x b.index frame.mrt frame.outcome) s.stamp (subst (λ x. ReadsAs q.stamp x frame.mrt frame.outcome) s.index at.reads) in
     let all : List Frame = s.frames ++ frame ∷ [] in
-    let phase : q'.phase ≡ Reading = ap (λ x. x.phase) at.place ∙ reading in
+    let phase : q'.phase ≡ Reading = ap (λ x. x.phase) at.state ∙ reading in
     let octets_are : (spellings s.frames ++ s.rest) ++ octets ≡ spellings all ++ [] =
     (λ i. only i ++ at.whole i) ∙ sym (append-nil (spellings all) ∙ spellings-push s.frames frame) in
     let end : state_after b frame ≡ state_after_all p all = sym (state_after_all-push p s.frames frame) in
@@ -85,11 +85,11 @@ HasAnswered-frame p q q' left left' left'' found answer octets frame s reading t
       are_frames = AreFrames-push p s.frames frame s.are_frames at.is_record reads;
       consumed = subst (Consumes left left'') octets_are (Consumes-trans left left' left'' (spellings s.frames ++ s.rest) octets s.consumed taken);
       found_is = (λ i. (s.found_is ∙ ap (results p s.frames) none) i ++ at.tells i) ∙ (λ i. results p s.frames [] ++ record_result (s.number i + 1) (offset i) frame.outcome ∷ []) ∙ sym (results-append p s.frames (frame ∷ []) []);
-      index = ap (λ x. x.index) at.place ∙ ap (λ x. index_after x frame.outcome) s.index ∙ ap (λ x. x.index) end;
-      number = ap (λ x. x.number) at.place ∙ ap (λ n. n + 1) s.number ∙ ap (λ x. x.number) end;
-      offset = omega (arith, ap (λ x. x.offset) at.place, s.offset, ap length at.whole, ap length octets_are, length-append (spellings s.frames ++ s.rest) octets);
-      limit = ap (λ x. x.limit) at.place ∙ s.limit;
-      stamp = ap (λ x. x.stamp) at.place ∙ s.stamp;
+      index = ap (λ x. x.index) at.state ∙ ap (λ x. index_after x frame.outcome) s.index ∙ ap (λ x. x.index) end;
+      number = ap (λ x. x.number) at.state ∙ ap (λ n. n + 1) s.number ∙ ap (λ x. x.number) end;
+      offset = omega (arith, ap (λ x. x.offset) at.state, s.offset, ap length at.whole, ap length octets_are, length-append (spellings s.frames ++ s.rest) octets);
+      limit = ap (λ x. x.limit) at.state ∙ s.limit;
+      stamp = ap (λ x. x.stamp) at.state ∙ s.stamp;
       rest_is = subst (λ t. RestSoFar t left'' []) (sym phase) refl;
     }
 
@@ -108,12 +108,12 @@ HasAnswered-rest p q q' left left' left'' found answer octets s reading taken at
       are_frames = s.are_frames;
       consumed = subst (Consumes left left'') octets_are (Consumes-trans left left' left'' (spellings s.frames ++ s.rest) octets s.consumed taken);
       found_is = (λ i. (s.found_is ∙ ap (results p s.frames) none) i ++ at.tells i) ∙ (λ i. results p s.frames [] ++ fault_results (s.number i + 1) (offset i) (rest_fault octets)) ∙ sym (results-rest p s.frames octets);
-      index = ap (λ x. x.index) at.place ∙ s.index;
-      number = ap (λ x. x.number) at.place ∙ s.number;
-      offset = omega (arith, ap (λ x. x.offset) at.place, s.offset, ap length octets_are, length-append (spellings s.frames ++ s.rest) octets);
-      limit = ap (λ x. x.limit) at.place ∙ s.limit;
-      stamp = ap (λ x. x.stamp) at.place ∙ s.stamp;
-      rest_is = subst (λ t. RestSoFar t left'' octets) (sym (ap (λ x. x.phase) at.place)) at.ends;
+      index = ap (λ x. x.index) at.state ∙ s.index;
+      number = ap (λ x. x.number) at.state ∙ s.number;
+      offset = omega (arith, ap (λ x. x.offset) at.state, s.offset, ap length octets_are, length-append (spellings s.frames ++ s.rest) octets);
+      limit = ap (λ x. x.limit) at.state ∙ s.limit;
+      stamp = ap (λ x. x.stamp) at.state ∙ s.stamp;
+      rest_is = subst (λ t. RestSoFar t left'' octets) (sym (ap (λ x. x.phase) at.state)) at.ends;
     }
 
 -- what is found so far is first in whatever the input may hold, and all of it where the source has ended
@@ -214,7 +214,7 @@ ends_with_none p q q' left left' left'' found answer s promised none = by_cases 
   where
     by_cases : IsAnswer q q' left' left'' answer → q'.phase ≡ Ended
     by_cases (inl (is, (octets, taken, inl (frame, at)))) = let e : false ≡ true = sym (ap is_nothing at.tells) ∙ none in cc
-    by_cases (inl (is, (octets, taken, inr at))) = ap (λ x. x.phase) at.place
+    by_cases (inl (is, (octets, taken, inr at))) = ap (λ x. x.phase) at.state
     by_cases (inr (is, tells, same, unasked)) = ap (λ x. x.phase) same ∙ is
 
 -- an answer that tells something takes octets
@@ -229,8 +229,8 @@ goes_on_with_some p q q' left left' left'' found answer s promised some = by_cas
     by_cases : IsAnswer q q' left' left'' answer → q.offset < q'.offset
     by_cases (inl (is, (octets, taken, inl (frame, at)))) =
         let r = frame.mrt in
-        omega (arith, ap (λ x. x.offset) at.place, length-append (header_octets r.seconds r.kind r.subtype (length r.body)) r.body)
-    by_cases (inl (is, (octets, taken, inr at))) = omega (arith, ap (λ x. x.offset) at.place, nonempty octets at)
+        omega (arith, ap (λ x. x.offset) at.state, length-append (header_octets r.seconds r.kind r.subtype (length r.body)) r.body)
+    by_cases (inl (is, (octets, taken, inr at))) = omega (arith, ap (λ x. x.offset) at.state, nonempty octets at)
     by_cases (inr (is, tells, same, unasked)) = let e : true ≡ false = sym (ap is_nothing tells) ∙ some in cc
 
 -- an answer more that tells something: where it ends the reading, something was taken behind the frames
@@ -241,7 +241,7 @@ HasAnswered-told p q q' left left' left'' found answer s promised some = by_case
     by_cases : IsAnswer q q' left' left'' answer → (s' : HasAnswered p q' left left'' (found ++ answer_results answer)) × (q'.phase ≡ Ended → s'.rest ≡ [] → ⊥)
     by_cases (inl (is, (octets, taken, inl (frame, at)))) = (
       HasAnswered-frame p q q' left left' left'' found answer octets frame s is taken at,
-      (λ ended none. let e : Ended ≡ Reading = sym ended ∙ ap (λ x. x.phase) at.place ∙ is in cc),
+      (λ ended none. let e : Ended ≡ Reading = sym ended ∙ ap (λ x. x.phase) at.state ∙ is in cc),
     )
     by_cases (inl (is, (octets, taken, inr at))) = (
       HasAnswered-rest p q q' left left' left'' found answer octets s is taken at,

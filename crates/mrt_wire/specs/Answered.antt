@@ -5,7 +5,7 @@ use Rattle.std.specs.Io.KnownBytes.{Consumes}
 use Rattle.mrt_wire.specs.declared.next.Phase.{Phase}
 use Rattle.mrt_wire.specs.declared.next.Phase.TheVariants.{Reading, Ended, Spent}
 use Rattle.mrt_wire.specs.Results.{Frame, ReadsAs, PeerTable, AreFrames, spellings, RecordResult, SourceState, state_after, results, Found, Bad, record_result, fault_results, TakesFront, Splits}
-use Rattle.mrt_frames.specs.Taken.{EndsAt, Stops}
+use Rattle.mrt_frames.specs.Taken.{EndsAt, MayFailAt}
 use Rattle.mrt_frames.specs.declared.fault.RecordKind.TheVariants.{CutRecord}
 use Rattle.mrt_frames.specs.declared.fault.SourceFault.{SourceFault}
 use Rattle.mrt_frames.specs.declared.fault.SourceFault.TheVariants.{Memory}
@@ -18,8 +18,8 @@ use Rattle.mrt_wire.specs.declared.next.Next.TheVariants as next
 
 -- the state of a source that was in state `old` after the records of these frames (with their outcomes), in order
 abbrev pub state_after_all : SourceState → List Frame → SourceState
-state_after_all p [] = p
-state_after_all p (frame ∷ frames) = state_after_all (state_after p frame) frames
+state_after_all old [] = old
+state_after_all old (frame ∷ frames) = state_after_all (state_after old frame) frames
 
 -- `rest` is what a source in this phase may have taken after the last whole record, with `left` left of its input
 -- then: no octets while it reads, and what is read up to its end (`EndsAt`) where it has ended. It holds of no octets
@@ -31,18 +31,18 @@ RestSoFar Spent left rest = ⊥
 
 -- from state `old` to state `new` calls of `next` returned the results `found`, and took the octets of frames and
 -- maybe of a rest off the front of an input, which had `left` before and has `left_after` afterwards
-pub record HasAnswered (p q : SourceState) (left left' : Option (List ℕ)) (found : List RecordResult) : Type 0 where
+pub record HasAnswered (old new : SourceState) (left left_after : Option (List ℕ)) (found : List RecordResult) : Type 0 where
   pub frames : List Frame
   pub rest : List ℕ
-  pub are_frames : AreFrames p.stamp p.index frames
-  pub consumed : Consumes left left' (spellings frames ++ rest)
-  pub found_is : found ≡ results p frames rest
-  pub index : q.index ≡ (state_after_all p frames).index
-  pub number : q.number ≡ (state_after_all p frames).number
-  pub offset : q.offset ≡ p.offset + length (spellings frames ++ rest)
-  pub limit : q.limit ≡ p.limit
-  pub stamp : q.stamp ≡ p.stamp
-  pub rest_is : RestSoFar q.phase left' rest
+  pub are_frames : AreFrames old.stamp old.index frames
+  pub consumed : Consumes left left_after (spellings frames ++ rest)
+  pub found_is : found ≡ results old frames rest
+  pub index : new.index ≡ (state_after_all old frames).index
+  pub number : new.number ≡ (state_after_all old frames).number
+  pub offset : new.offset ≡ old.offset + length (spellings frames ++ rest)
+  pub limit : new.limit ≡ old.limit
+  pub stamp : new.stamp ≡ old.stamp
+  pub rest_is : RestSoFar new.phase left_after rest
 
 -- true of an empty list of results
 abbrev pub is_nothing : List RecordResult → Bool
@@ -60,29 +60,29 @@ answer_results next.End = []
 -- the state of a source that took these octets in state `old`, read no whole record, and is then in phase `phase`:
 -- the offset is greater by their number, and all else is as in `old`
 abbrev pub stopped_state : Phase → SourceState → List ℕ → SourceState
-stopped_state phase p octets =
-    record { index = p.index; number = p.number; offset = p.offset + length octets; limit = p.limit; stamp = p.stamp; phase = phase }
+stopped_state phase old octets =
+    record { index = old.index; number = old.number; offset = old.offset + length octets; limit = old.limit; stamp = old.stamp; phase = phase }
 
 -- the state `new`, or, where the call returned an error, `new` with phase `Spent`
-abbrev pub spent_state : SourceState → Result Next SourceFault → SourceState
-spent_state q (Ok answer) = q
-spent_state q (Err fault) = record { index = q.index; number = q.number; offset = q.offset; limit = q.limit; stamp = q.stamp; phase = Spent }
+abbrev pub state_after_call : SourceState → Result Next SourceFault → SourceState
+state_after_call new (Ok answer) = new
+state_after_call new (Err fault) = record { index = new.index; number = new.number; offset = new.offset; limit = new.limit; stamp = new.stamp; phase = Spent }
 
 -- in state `old` a call took `octets`, those of the record of `frame`, returned `answer`, its event or fault, and
 -- left state `new`
-pub record AnswersFrame (p q : SourceState) (answer : Next) (octets : List ℕ) (frame : Frame) : Type 0 where
+pub record AnswersFrame (old new : SourceState) (answer : Next) (octets : List ℕ) (frame : Frame) : Type 0 where
   pub whole : octets ≡ spelling frame.mrt
   pub is_record : IsRecord frame.mrt
-  pub reads : ReadsAs p.stamp p.index frame.mrt frame.outcome
-  pub tells : answer_results answer ≡ record_result (p.number + 1) p.offset frame.outcome ∷ []
-  pub place : q ≡ state_after p frame
+  pub reads : ReadsAs old.stamp old.index frame.mrt frame.outcome
+  pub tells : answer_results answer ≡ record_result (old.number + 1) old.offset frame.outcome ∷ []
+  pub state : new ≡ state_after old frame
 
 -- in state `old` a call took `octets`, the rest of the input, returned its fault, or the end where it is empty, and
 -- left state `new`. The input, which has `left` left, ends there, unless a header states too much.
-pub record AnswersRest (p q : SourceState) (left : Option (List ℕ)) (answer : Next) (octets : List ℕ) : Type 0 where
+pub record AnswersRest (old new : SourceState) (left : Option (List ℕ)) (answer : Next) (octets : List ℕ) : Type 0 where
   pub ends : EndsAt left octets
-  pub tells : answer_results answer ≡ fault_results (p.number + 1) p.offset (rest_fault octets)
-  pub place : q ≡ stopped_state Ended p octets
+  pub tells : answer_results answer ≡ fault_results (old.number + 1) old.offset (rest_fault octets)
+  pub state : new ≡ stopped_state Ended old octets
 
 -- `octets` may be all that a call of `next` took before it failed with this error: the beginning of a record, maybe
 -- empty, or, if memory allocation failed, maybe those of a whole record, whose outcome is open
@@ -92,13 +92,13 @@ IsUndecided fault octets = IsUnfinished octets ⊎ ((fault ≡ Memory) × ((r : 
 -- a call of `next` in phase `Reading` took `octets` from an input that has `left` left then, returned this result,
 -- and changed the state from `old` to `new`: it read a whole record, or what is after the last one, or failed
 abbrev pub NextReturns : SourceState → SourceState → Option (List ℕ) → List ℕ → Result Next SourceFault → Type 0
-NextReturns p q left octets (Ok answer) = ((frame : Frame) × AnswersFrame p q answer octets frame) ⊎ AnswersRest p q left answer octets
-NextReturns p q left octets (Err fault) = IsUndecided fault octets × Stops fault q.offset p.limit × (q ≡ stopped_state Spent p octets)
+NextReturns old new left octets (Ok answer) = ((frame : Frame) × AnswersFrame old new answer octets frame) ⊎ AnswersRest old new left answer octets
+NextReturns old new left octets (Err fault) = IsUndecided fault octets × MayFailAt fault new.offset old.limit × (new ≡ stopped_state Spent old octets)
 
 -- a call of `next` in phase `Reading`, of an input that had `left` before and has `left_after` afterwards, took the
 -- octets between, returned this result, and changed the state from `old` to `new` (`NextReturns`)
 abbrev pub IsNextCall : SourceState → SourceState → Option (List ℕ) → Option (List ℕ) → Result Next SourceFault → Type 0
-IsNextCall p q left left' result = (octets : List ℕ) × Consumes left left' octets × NextReturns p q left' octets result
+IsNextCall old new left left_after result = (octets : List ℕ) × Consumes left left_after octets × NextReturns old new left_after octets result
 
 -- `more` may be the octets after those taken by a call that returned this: none after the end or the fault
 -- `CutRecord`, which the end of the input makes, and any after another
@@ -112,9 +112,9 @@ MayFollow next.End more = more ≡ []
 -- there are no results. The input had `left` before and has `left_after` afterwards; of one that doesn't know its
 -- octets this always holds.
 abbrev pub IsFirstResult : SourceState → Option (List ℕ) → Option (List ℕ) → Next → Type 0
-IsFirstResult p left left' answer =
-    (taken after more : List ℕ) (frames : List Frame) (rest : List ℕ) → TakesFront left left' taken after → MayFollow answer more
-    → Splits p.stamp p.index (taken ++ more) frames rest → take 1 (results p frames rest) ≡ answer_results answer
+IsFirstResult old left left_after answer =
+    (taken after more : List ℕ) (frames : List Frame) (rest : List ℕ) → TakesFront left left_after taken after → MayFollow answer more
+    → Splits old.stamp old.index (taken ++ more) frames rest → take 1 (results old frames rest) ≡ answer_results answer
 
 -- the octets split in at most one way into frames, which are whole records with their outcomes, and a rest, with peer
 -- index table `index` before the first; `stamp` chooses the times of table entries

@@ -81,14 +81,14 @@ Decodes stamp before after r (Err refusal.Memory) = after ≡ before
 
 -- what `next` returns of a record with this fault, where `number` is that of the record, counted from 1, and `offset`
 -- that of its header: the fault with both
-abbrev pub fault_answer : ℕ → ℕ → RecordKind → Next
-fault_answer number offset kind = next.Bad (record { number = number; offset = offset; kind = kind })
+abbrev pub next_of_fault : ℕ → ℕ → RecordKind → Next
+next_of_fault number offset kind = next.Bad (record { number = number; offset = offset; kind = kind })
 
 -- what `next` returns of a record whose parser returned this: its event, or its fault with the record's number,
 -- counted from 1, and the offset of its header, or the error `Memory`
 abbrev pub decoded_answer : ℕ → ℕ → Result Event DecodeError → Result Next SourceFault
 decoded_answer number offset (Ok event) = Ok (next.Event event)
-decoded_answer number offset (Err (refusal.Fault kind)) = Ok (fault_answer number offset kind)
+decoded_answer number offset (Err (refusal.Fault kind)) = Ok (next_of_fault number offset kind)
 decoded_answer number offset (Err refusal.Memory) = Err source.Memory
 
 -- `parsed` is what `says` gives for some value that the octets spell, where `Spells` tells which octets spell a value

@@ -25,14 +25,14 @@ abbrev pub peer_family : ℕ → Family
 peer_family kind = if bit_and kind IPV6_PEER == 0 then V4 else V6
 
 -- the width of a peer's AS number, by the second lowest bit of its Peer Type: two octets where it is 0, else four
-abbrev pub peer_width : ℕ → AsWidth
-peer_width kind = if bit_and kind AS4_PEER == 0 then Two else Four
+abbrev pub peer_as_width : ℕ → AsWidth
+peer_as_width kind = if bit_and kind AS4_PEER == 0 then Two else Four
 
 -- the octets are those of Peer Type (one octet), Peer BGP ID (four), Peer IP Address and Peer AS, of the family and
 -- width that the type says. The value is the type, the octets of the BGP ID, and the peer
 abbrev pub SpellsPeerFields : ℕ × (List ℕ × Peer) → List ℕ → Type 0
 SpellsPeerFields =
-    SpellsPair SpellsOctet (λ kind. SpellsPair (AreOctets ID_SIZE) (λ id. SpellsPeerOf (peer_family kind) (peer_width kind)))
+    SpellsPair SpellsOctet (λ kind. SpellsPair (AreOctets ID_SIZE) (λ id. SpellsPeerOf (peer_family kind) (peer_as_width kind)))
 
 -- the octets are those of a peer entry with this peer; its BGP ID may be any octets
 abbrev pub SpellsPeer : Peer → List ℕ → Type 0

@@ -10,8 +10,8 @@ use Rattle.bgp_wire.specs.Path.{SpellsAsn, SpellsU32, asn_size}
 use Rattle.bgp_wire.specs.Reach.{family_code}
 use Rattle.bgp_wire.specs.Update.{SpellsMessage}
 use Rattle.mrt_events.specs.declared.peer.Peer.{Peer}
-use Rattle.mrt_wire.specs.declared.record_types.SessionKind.{SessionKind}
-use Rattle.mrt_wire.specs.declared.record_types.SessionKind.TheVariants as kind
+use Rattle.mrt_wire.specs.declared.record_types.SessionRecordKind.{SessionRecordKind}
+use Rattle.mrt_wire.specs.declared.record_types.SessionRecordKind.TheVariants as kind
 use Rattle.mrt_wire.specs.declared.record_types.SessionFormat.{SessionFormat}
 use Rattle.mrt_wire.specs.declared.session.TheConstants.{INTERFACE_SIZE, MICROS_PER_SECOND}
 use Rattle.mrt_wire.specs.Fields.{SpellsShort, AreOctets, SpellsAddressOf}
@@ -78,7 +78,7 @@ SpellsPeerMessage width m octets =
 
 -- the octets are a BGP4MP body without microseconds: a state change or a message, as the kind says, with AS numbers
 -- of this width
-abbrev pub SpellsSessionContent : SessionKind → AsWidth → SessionContent → List ℕ → Type 0
+abbrev pub SpellsSessionContent : SessionRecordKind → AsWidth → SessionContent → List ℕ → Type 0
 SpellsSessionContent kind.StateChange width said octets =
     (change : StateChange) × (said ≡ Change change) × SpellsStateChange width change octets
 SpellsSessionContent kind.Message width said octets =

@@ -37,7 +37,8 @@ pub fn law_input_splits_into_records()
 /// known before it, and whether routes of tables get the timestamp of the record or the Originated
 /// Time of the entry.
 pub fn law_input_splits_in_one_way()
-    ensures { (stamp : Stamp) (index : PeerTable) (octets : List ℕ) → SplitsOneWay stamp index octets }
+    ensures { (stamp : Stamp) (index : PeerTable) (octets : List ℕ) →
+        SplitsOneWay stamp index octets }
 {}
 
 /// States the values of the constants that the theorems and contracts use by name: MRT types and

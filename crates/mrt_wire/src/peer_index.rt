@@ -9,7 +9,7 @@ ghost use Rattle.ip_prefix.specs.Fields.{SpellsFront};
 ghost use Rattle.ip_prefix.specs.Counted.{SpellsCounted};
 ghost use Rattle.bgp_wire.specs.Readers.{ParsesOrFails};
 ghost use Rattle.mrt_wire.specs.Decoding.{FindsValue};
-ghost use Rattle.mrt_wire.specs.Rib.{peer_family, peer_width, SpellsPeer, SpellsView, SpellsPeerIndex};
+ghost use Rattle.mrt_wire.specs.Rib.{peer_family, peer_as_width, SpellsPeer, SpellsView, SpellsPeerIndex};
 
 use crate::fields::{
     ValueAndRest, skip, split_address_and_asn, split_length_prefixed, split_octet, split_u16,
@@ -51,8 +51,8 @@ fn peer_family(kind: u8) -> Family
 /// Returns the width of a peer's AS number, by the second lowest bit of its Peer Type octet,
 /// `kind`: two octets if it is 0, four if it is 1 (RFC 6396, section 4.3.1). The other bits are
 /// ignored.
-fn peer_width(kind: u8) -> AsWidth
-    ensures { result ≡ peer_width kind }
+fn peer_as_width(kind: u8) -> AsWidth
+    ensures { result ≡ peer_as_width kind }
 {
     if kind & AS4_PEER == 0 {
         AsWidth::Two
@@ -69,7 +69,7 @@ fn split_peer(octets: &[u8]) -> Option<ValueAndRest<'_, Peer>>
 {
     let kind = split_octet(octets)?;
     let after_id = skip(ID_SIZE, kind.rest)?;
-    let (family, width) = (peer_family(kind.value), peer_width(kind.value));
+    let (family, width) = (peer_family(kind.value), peer_as_width(kind.value));
     split_address_and_asn(family, width, after_id)
 }
 

@@ -59,7 +59,7 @@ const BGP4MP_STATE_CHANGE_AS4: u16 = 5;
 
 /// What a BGP4MP record reports of a BGP session: a state change or a message.
 #[derive(Clone, Copy)]
-pub(crate) enum SessionKind {
+pub(crate) enum SessionRecordKind {
     /// A state change (RFC 6396, sections 4.4.1 and 4.4.4).
     StateChange,
     /// A BGP message from the peer (RFC 6396, sections 4.4.2 and 4.4.3).
@@ -70,7 +70,7 @@ pub(crate) enum SessionKind {
 #[derive(Clone, Copy)]
 pub(crate) struct SessionFormat {
     /// What the record reports: a state change or a BGP message.
-    pub(crate) kind: SessionKind,
+    pub(crate) kind: SessionRecordKind,
     /// The width of AS numbers, two or four octets, both in the session fields and in the paths of
     /// an UPDATE.
     pub(crate) width: AsWidth,
@@ -123,10 +123,10 @@ fn session_format(timed: bool, subtype: u16) -> Option<BodyFormat>
     ensures { result ≡ session_format timed subtype }
 {
     let (kind, width) = match subtype {
-        BGP4MP_STATE_CHANGE => (SessionKind::StateChange, AsWidth::Two),
-        BGP4MP_MESSAGE => (SessionKind::Message, AsWidth::Two),
-        BGP4MP_MESSAGE_AS4 => (SessionKind::Message, AsWidth::Four),
-        BGP4MP_STATE_CHANGE_AS4 => (SessionKind::StateChange, AsWidth::Four),
+        BGP4MP_STATE_CHANGE => (SessionRecordKind::StateChange, AsWidth::Two),
+        BGP4MP_MESSAGE => (SessionRecordKind::Message, AsWidth::Two),
+        BGP4MP_MESSAGE_AS4 => (SessionRecordKind::Message, AsWidth::Four),
+        BGP4MP_STATE_CHANGE_AS4 => (SessionRecordKind::StateChange, AsWidth::Four),
         _ => return None,
     };
     Some(BodyFormat::Session(SessionFormat { kind, width, timed }))

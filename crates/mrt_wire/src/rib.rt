@@ -195,7 +195,8 @@ fn read_entries(
     prefix: Prefix,
     octets: &[u8],
 ) -> Result<EntryItems, WireFault>
-    ensures parsed { IfOk result (λ parsed. SpellsEntryItems context.entry prefix parsed octets.now) }
+    ensures parsed { IfOk result (λ parsed. SpellsEntryItems context.entry prefix parsed
+        octets.now) }
     ensures refused { IfErr result (Refuses (SpellsEntries context.entry.family) octets.now) }
 {
     // Room is reserved for no more items than the octets can hold entries, whatever the count.

@@ -56,7 +56,7 @@ const LOWERING_RATE: u64 = 4;
 /// Returns an upper estimate of the number of octets of memory that the route takes in a pool: the
 /// route with the spare capacity of its lists, and its element in the pool's list of routes.
 #[inline]
-fn counted_room(route: &Route) -> u64 {
+fn counted_octets(route: &Route) -> u64 {
     max_route_size(route).saturating_add(ELEMENT_OCTETS)
 }
 
@@ -268,7 +268,7 @@ impl RoutePool {
         requires { index < vec_len self.old.routes }
         ensures most { self.new.most ≡ max self.old.most self.new.needed }
     {
-        let room = counted_room(&self.routes[index].route);
+        let room = counted_octets(&self.routes[index].route);
         let before = mem::replace(&mut self.routes[index].room, room);
         let needed = self.needed.saturating_add(room);
         let most = self.most.max(needed);

@@ -16,7 +16,7 @@ ghost use Rattle.mrt_wire.specs.Session.{SpellsFamily, AreAsnFields, AreAddressF
 use crate::fields::{ValueAndRest, fill_address, skip, split_asn, split_u16, split_u32};
 use crate::peers::blank_peer;
 use crate::pool::Pool;
-use crate::record_types::{SessionFormat, SessionKind};
+use crate::record_types::{SessionFormat, SessionRecordKind};
 use crate::update::items_of_update;
 use bgp_wire::{AsWidth, MessageKind, WireFault, read_message_into};
 use ip_prefix::{Addr, Family};
@@ -106,7 +106,8 @@ fn read_peer_message(
     width: AsWidth,
     octets: &[u8],
 ) -> Result<Items, WireFault>
-    ensures { ParsesOrFails (SpellsMapped (SpellsSessionContent SessionKind.Message width) (session_items seconds))
+    ensures { ParsesOrFails (SpellsMapped (SpellsSessionContent SessionRecordKind.Message width)
+        (session_items seconds))
         octets.now result }
 {
     let mut peer = blank_peer();
@@ -146,7 +147,8 @@ fn split_micros(timed: bool, octets: &[u8]) -> Option<ValueAndRest<'_, Option<u3
 /// have two or four octets, as `width` states. Fails with `Malformed` if a field is missing or the
 /// address family is unknown, or with `Memory` if memory allocation fails.
 fn read_state_change(alloc: Global, width: AsWidth, octets: &[u8]) -> Result<Items, WireFault>
-    ensures { (seconds : ℕ) → ParsesOrFails (SpellsMapped (SpellsSessionContent SessionKind.StateChange width)
+    ensures { (seconds : ℕ) → ParsesOrFails (SpellsMapped
+        (SpellsSessionContent SessionRecordKind.StateChange width)
         (session_items seconds)) octets.now result }
 {
     let mut peer = blank_peer();
@@ -170,12 +172,13 @@ fn read_session_content(
     form: SessionFormat,
     octets: &[u8],
 ) -> Result<Items, WireFault>
-    ensures { ParsesOrFails (SpellsMapped (SpellsSessionContent form.kind form.width) (session_items seconds))
+    ensures { ParsesOrFails (SpellsMapped (SpellsSessionContent form.kind form.width)
+        (session_items seconds))
         octets.now result }
 {
     match form.kind {
-        SessionKind::StateChange => read_state_change(alloc, form.width, octets),
-        SessionKind::Message => {
+        SessionRecordKind::StateChange => read_state_change(alloc, form.width, octets),
+        SessionRecordKind::Message => {
             let result = read_peer_message(alloc, pool, seconds, form.width, octets);
             if octets.len() > LONGEST_KEPT {
                 pool.free_message_memory(alloc);
@@ -198,7 +201,8 @@ pub(crate) fn read_session(
     form: SessionFormat,
     octets: &[u8],
 ) -> Result<SessionItems, WireFault>
-    ensures { ParsesOrFails (SpellsMapped (SpellsSessionBody form) (parsed_session seconds)) octets.now result }
+    ensures { ParsesOrFails (SpellsMapped (SpellsSessionBody form) (parsed_session seconds))
+        octets.now result }
 {
     let micros = split_micros(form.timed, octets).ok_or(WireFault::Malformed)?;
     let items = read_session_content(alloc, pool, seconds, form, micros.rest)?;

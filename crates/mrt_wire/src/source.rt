@@ -7,8 +7,8 @@ ghost use Rattle.mrt_wire.specs.declared.next.Next.{Next};
 ghost use Rattle.mrt_frames.specs.Buffered.{HoldsRecord};
 ghost use Rattle.mrt_frames.specs.Taken.{is_err_read};
 ghost use Rattle.mrt_wire.specs.Results.{start_state};
-ghost use Rattle.mrt_wire.specs.Decoding.{decoded_answer, fault_answer};
-ghost use Rattle.mrt_wire.specs.Answered.{IsNextCall, IsFirstResult, spent_state};
+ghost use Rattle.mrt_wire.specs.Decoding.{decoded_answer, next_of_fault};
+ghost use Rattle.mrt_wire.specs.Answered.{IsNextCall, IsFirstResult, state_after_call};
 
 use crate::decoding::{DecodeError, RawRecord, decode_record};
 use crate::next::{Next, Phase};
@@ -132,16 +132,20 @@ impl Source {
         ensures first { self.old.phase ≡ Phase.Reading → (answer : Next) → result ≡ Ok answer →
             IsFirstResult self.old (I.left input.old) (I.left input.new) answer }
 
+        // After the end each call returns the end again, and after an error each fails with
+        // `Spent`; the source and the input don't change.
         ensures ended { self.old.phase ≡ Phase.Ended →
             (result ≡ Ok Next.End) × (self.new ≡ self.old) × (input.new ≡ input.old) }
         ensures spent { self.old.phase ≡ Phase.Spent →
             (result ≡ Err SourceFault.Spent) × (self.new ≡ self.old) × (input.new ≡ input.old) }
 
+        // The input has failed after the call if it had before, or if the call fails with `Read`.
         ensures failed { I.failed input.new ≡ (I.failed input.old || is_err_read result) }
 
         // No read fails if the next record is buffered as a whole.
         ensures buffered { HoldsRecord (I.buffered input.old) → is_err_read result ≡ false }
 
+        // No more octets are taken in all than the limit given to [`Source::new`].
         ensures within { self.new.offset ≤ self.new.limit }
     {
         match self.phase {
@@ -164,7 +168,7 @@ impl Source {
     /// [`Source::next`], sets it to `Spent`.
     #[inline(always)]
     fn read<I: Input>(&mut self, input: &mut I) -> Result<Next, SourceFault>
-        ensures next { IsNextCall self.old (spent_state self.new result)
+        ensures next { IsNextCall self.old (state_after_call self.new result)
             (I.left input.old) (I.left input.new) result }
         ensures failed { I.failed input.new ≡ (I.failed input.old || is_err_read result) }
         ensures buffered { HoldsRecord (I.buffered input.old) → is_err_read result ≡ false }
@@ -180,7 +184,7 @@ impl Source {
                     &mut self.index,
                     RawRecord { form, header, body },
                 );
-                let answer = record_answer(self.number + 1, offset, decoded)?;
+                let answer = next_of_record(self.number + 1, offset, decoded)?;
                 self.number += 1;
                 Ok(answer)
             }
@@ -188,7 +192,7 @@ impl Source {
                 let kind = RecordKind::Unsupported(header.kind, header.subtype);
                 let number = self.number + 1;
                 self.number = number;
-                Ok(fault_answer(number, offset, kind))
+                Ok(next_of_fault(number, offset, kind))
             }
             NextRecord::Rest(kind) => {
                 self.phase = Phase::Ended;
@@ -196,7 +200,7 @@ impl Source {
                     return Ok(Next::End);
                 };
                 let number = self.number + 1;
-                Ok(fault_answer(number, offset, kind))
+                Ok(next_of_fault(number, offset, kind))
             }
         }
     }
@@ -205,8 +209,8 @@ impl Source {
 /// Returns [`Next::Bad`] with the fault `kind` of the record with the number `number`, counted from
 /// 1, whose header begins `offset` octets after the start of the input.
 #[inline(always)]
-fn fault_answer(number: u64, offset: u64, kind: RecordKind) -> Next
-    ensures { result ≡ fault_answer number offset kind }
+fn next_of_fault(number: u64, offset: u64, kind: RecordKind) -> Next
+    ensures { result ≡ next_of_fault number offset kind }
 {
     Next::Bad(RecordFault {
         number,
@@ -219,7 +223,7 @@ fn fault_answer(number: u64, offset: u64, kind: RecordKind) -> Next
 /// its fault with the record's number, counted from 1, and the offset of its header in the input,
 /// in octets. Fails with `SourceFault::Memory` if memory allocation failed as the record was
 /// parsed.
-fn record_answer(
+fn next_of_record(
     number: u64,
     offset: u64,
     decoded: Result<Event, DecodeError>,
@@ -228,7 +232,7 @@ fn record_answer(
 {
     match decoded {
         Ok(event) => Ok(Next::Event(event)),
-        Err(DecodeError::Fault(kind)) => Ok(fault_answer(number, offset, kind)),
+        Err(DecodeError::Fault(kind)) => Ok(next_of_fault(number, offset, kind)),
         Err(DecodeError::Memory) => Err(SourceFault::Memory),
     }
 }

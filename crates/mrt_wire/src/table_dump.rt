@@ -109,7 +109,8 @@ fn read_table_dump_of(
     choice: TimeChoice,
     octets: &[u8],
 ) -> Result<Items, WireFault>
-    ensures { ParsesOrFails (SpellsMapped (SpellsTableDump family) (table_dump_items choice.stamp choice.seconds))
+    ensures { ParsesOrFails (SpellsMapped (SpellsTableDump family)
+        (table_dump_items choice.stamp choice.seconds))
         octets.now result }
 {
     let Some(entry) = split_table_dump_fields(family, octets) else {
@@ -141,7 +142,8 @@ pub(crate) fn read_table_dump(
     choice: TimeChoice,
     octets: &[u8],
 ) -> Result<Items, WireFault>
-    ensures { ParsesOrFails (SpellsMapped (SpellsTableDump family) (table_dump_items choice.stamp choice.seconds))
+    ensures { ParsesOrFails (SpellsMapped (SpellsTableDump family)
+        (table_dump_items choice.stamp choice.seconds))
         octets.now result }
 {
     match family {

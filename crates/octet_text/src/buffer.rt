@@ -289,7 +289,7 @@ impl Text {
         ensures unchanged { OnErr result (self.new ≡ self.old) }
     {
         make_room(&mut self.buffer, self.len, N)?;
-        self.len = put_first_octets(padded, len, self.buffer.as_mut_slice(), self.len);
+        self.len = write_first_octets_at(padded, len, self.buffer.as_mut_slice(), self.len);
         Ok(())
     }
 
@@ -303,7 +303,7 @@ impl Text {
         ensures unchanged { OnErr result (self.new ≡ self.old) }
     {
         make_room(&mut self.buffer, self.len, (end - start).max(CHUNK))?;
-        self.len = repeat_part(self.buffer.as_mut_slice(), start, end, self.len);
+        self.len = copy_part_to(self.buffer.as_mut_slice(), start, end, self.len);
         Ok(())
     }
 }
@@ -393,7 +393,7 @@ fn copy_within(octets: &mut [u8], start: usize, end: usize, at: usize)
 /// for all of `octets` from `at` on: all are copied, since a fixed number is copied faster. The
 /// octets of `text` from the returned offset on are then unspecified.
 #[inline(always)]
-fn put_first_octets(octets: &[u8], len: usize, text: &mut [u8], at: usize) -> usize
+fn write_first_octets_at(octets: &[u8], len: usize, text: &mut [u8], at: usize) -> usize
     requires within { len ≤ length octets.now }
     requires room { at + length octets.now ≤ length text.old }
     ensures { IsWritten text.old at (take len octets.now) text.new result }
@@ -407,14 +407,14 @@ fn put_first_octets(octets: &[u8], len: usize, text: &mut [u8], at: usize) -> us
 /// `start <= end <= at`, and that `octets` has room for the part, and for 32 octets ([`CHUNK`]),
 /// from `at` on. The octets after the copy are then unspecified.
 #[inline(always)]
-fn repeat_part(octets: &mut [u8], start: usize, end: usize, at: usize) -> usize
+fn copy_part_to(octets: &mut [u8], start: usize, end: usize, at: usize) -> usize
     requires order { (start ≤ end) × (end ≤ at) }
     requires room { at + (end - start) ≤ length octets.old }
     requires chunk { at + CHUNK ≤ length octets.old }
     ensures { IsWritten octets.old at (slice_range octets.old start end) octets.new result }
 {
     if end - start <= CHUNK && CHUNK <= at - start {
-        return repeat_short_part(octets, start, end, at);
+        return copy_short_part_to(octets, start, end, at);
     }
     copy_within(octets, start, end, at);
     at + (end - start)
@@ -426,12 +426,12 @@ fn repeat_part(octets: &mut [u8], start: usize, end: usize, at: usize) -> usize
 /// that `octets` has room for [`CHUNK`] octets from `at` on: so many are copied in any case, since
 /// a fixed number is copied faster. The octets after the copy are then unspecified.
 #[inline(always)]
-fn repeat_short_part(octets: &mut [u8], start: usize, end: usize, at: usize) -> usize
+fn copy_short_part_to(octets: &mut [u8], start: usize, end: usize, at: usize) -> usize
     requires order { (start ≤ end) × (end ≤ start + CHUNK) × (start + CHUNK ≤ at) }
     requires room { at + CHUNK ≤ length octets.old }
     ensures { IsWritten octets.old at (slice_range octets.old start end) octets.new result }
 {
     let mut chunk = [0; CHUNK];
     chunk.copy_from_slice(&octets[start..start + CHUNK]);
-    put_first_octets(&chunk, end - start, octets, at)
+    write_first_octets_at(&chunk, end - start, octets, at)
 }

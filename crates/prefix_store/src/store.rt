@@ -95,7 +95,8 @@ pub trait PrefixStore<R: Drop>: Sized + Drop {
     /// `None` if no prefix with a route contains it. By this route a router forwards (RFC 1812,
     /// section 5.2.4.3).
     fn longest(&self, addr: &Addr) -> Option<(Prefix, &R)>
-        ensures { IsLongestMatch (routes self.now) addr.now (option_map (λ p. (p.0, p.1.now)) result) };
+        ensures { IsLongestMatch (routes self.now) addr.now
+            (option_map (λ p. (p.0, p.1.now)) result) };
 
     /// Returns the least prefix greater than `prefix` that has a route, with its route, or the
     /// least of all with a route if `prefix` is `None`. Returns `None` if there is no such prefix.

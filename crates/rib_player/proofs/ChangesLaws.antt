@@ -14,7 +14,7 @@ use Rattle.mrt_events.specs.Event.{ItemValue, Announced, Withdrawn, Changed, ite
 use Rattle.mrt_events.specs.SharedRoute.{Announces, AnnounceOneRoute}
 use Rattle.rib_player.specs.History.{pair_cmp, Effect, Keep, Clear, effect_if, item_effect, later}
 use Rattle.rib_player.specs.Journal.{Side, pairs_in}
-use Rattle.rib_player.specs.Changes.{found, is_lost, effect_of, or_absent, items_effect, HasRoute}
+use Rattle.rib_player.specs.Changes.{found, is_lost, effect_of, or_no_route, items_effect, HasRoute}
 use Rattle.rib_player.proofs.PairLaws.{same_pair}
 
 -- the first of two, where there is one
@@ -46,17 +46,17 @@ pub noted_effect-lost : (sides : List Side) (peers : List Peer) (pair : Pair) (f
 noted_effect-lost sides peers pair first q lost = let one = same_pair q pair in grind arith
 
 -- what is found stays where the pair is not among those
-pub or_absent-false : (kept : Option (Option Route)) → kept ≡ or_absent kept false
-or_absent-false kept = grind arith
+pub or_no_route-false : (kept : Option (Option Route)) → kept ≡ or_no_route kept false
+or_no_route-false kept = grind arith
 
 -- of sides without a route each pair loses its own
-found-lost : (sides : List Side) → AllByRecursion (λ side. side.1 ≡ None) sides → (q : Pair) → found sides q ≡ or_absent None (list_any (eq_by_cmp pair_cmp q) (pairs_in sides))
+found-lost : (sides : List Side) → AllByRecursion (λ side. side.1 ≡ None) sides → (q : Pair) → found sides q ≡ or_no_route None (list_any (eq_by_cmp pair_cmp q) (pairs_in sides))
 found-lost [] absent q = refl
 found-lost (side ∷ sides) absent q = grind (arith, found-lost sides absent.1 q, absent.0)
 
 -- behind others they lose it where nothing is kept for it
 pub found-absent : (sides lost : List Side) → AllByRecursion (λ side. side.1 ≡ None) lost → (q : Pair)
-    → found (sides ++ lost) q ≡ or_absent (found sides q) (list_any (eq_by_cmp pair_cmp q) (pairs_in lost))
+    → found (sides ++ lost) q ≡ or_no_route (found sides q) (list_any (eq_by_cmp pair_cmp q) (pairs_in lost))
 found-absent sides lost absent q = grind (arith, found-append sides lost q, found-lost lost absent q)
 
 -- of three effects it doesn't matter which two are taken together
@@ -140,5 +140,5 @@ pub lost-noted : (kept : Option (Option Route)) (b lost : Bool) → effect_of ke
 lost-noted kept b lost = grind arith
 
 -- a lost peer more, whose pairs that have a route lose it, is one less that is left
-pub lost-more : (b left has : Bool) (kept old new : Option (Option Route)) → new ≡ or_absent old (b && has) → or_absent old ((b || left) && has) ≡ kept → or_absent new (left && has) ≡ kept
+pub lost-more : (b left has : Bool) (kept old new : Option (Option Route)) → new ≡ or_no_route old (b && has) → or_no_route old ((b || left) && has) ≡ kept → or_no_route new (left && has) ≡ kept
 lost-more b left has kept old new step before = grind arith

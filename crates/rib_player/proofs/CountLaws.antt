@@ -8,7 +8,7 @@ use Rattle.std.proofs.lemmas.Map.Keys.{IsDistinct-head, IsDistinct-tail}
 use Rattle.rib_player.specs.declared.pair.Pair.{Pair}
 use Rattle.rib_player.specs.declared.entry.Step.{Step}
 use Rattle.rib_player.specs.History.{pair_cmp}
-use Rattle.rib_player.specs.Journal.{pairs_in, steps_of, step_sides}
+use Rattle.rib_player.specs.Journal.{pairs_in, sides_by_step, step_sides}
 use Rattle.rib_player.specs.Sides.{AreDistinct, entry_count}
 use Rattle.rib_player.proofs.PairLaws.{pair_cmp_total}
 use Rattle.rib_player.proofs.MarkLaws.{tied, none-any, length-pairs}
@@ -24,9 +24,9 @@ len-from_list (pair ∷ pairs) distinct =
     ∙ omega arith
 
 -- the counts are those of the pairs that the steps name
-pub named-total : (steps : List Step) → AllByRecursion AreDistinct (steps_of steps) → sum_by entry_count steps ≡ sum_by set.len (map (λ sides. set.from_list {R = pair_cmp} (pairs_in sides)) (steps_of steps))
+pub named-total : (steps : List Step) → AllByRecursion AreDistinct (sides_by_step steps) → sum_by entry_count steps ≡ sum_by set.len (map (λ sides. set.from_list {R = pair_cmp} (pairs_in sides)) (sides_by_step steps))
 named-total [] all = refl
 named-total (step ∷ steps) all =
     sum_by-cons entry_count step steps
     ∙ ap₂ (λ m n. m + n) (sym (len-from_list (pairs_in (step_sides step)) all.0 ∙ length-pairs step.entries.items)) (named-total steps all.1)
-    ∙ sym (sum_by-cons set.len (set.from_list (pairs_in (step_sides step))) (map (λ sides. set.from_list {R = pair_cmp} (pairs_in sides)) (steps_of steps)))
+    ∙ sym (sum_by-cons set.len (set.from_list (pairs_in (step_sides step))) (map (λ sides. set.from_list {R = pair_cmp} (pairs_in sides)) (sides_by_step steps)))

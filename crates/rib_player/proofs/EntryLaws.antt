@@ -17,7 +17,7 @@ use Rattle.rib_player.specs.Tables.{Routes, table_after, is_named, named_pairs}
 use Rattle.rib_player.specs.Entries.{Entry}
 use Rattle.rib_player.specs.Journal.{Side, side_of, sides_of, pairs_in}
 use Rattle.rib_player.specs.Sides.{sides_across, AreDistinct, IsStepFor}
-use Rattle.rib_player.specs.Changes.{found, is_lost, effect_of, noted_effect, or_absent}
+use Rattle.rib_player.specs.Changes.{found, is_lost, effect_of, noted_effect, or_no_route}
 use Rattle.rib_player.proofs.PairLaws.{pair_cmp_total, same_pair}
 use Rattle.rib_player.proofs.TableLaws.{get-table_after, contains-named_pairs}
 use Rattle.rib_player.proofs.StoreLaws.{same_pairs}
@@ -89,17 +89,17 @@ sides_across-found now test (side ∷ sides) distinct has =
     (λ q route there. has q route (found-behind side sides q route distinct there)))
 
 -- what is kept for a pair, or lost with its peer, names it where its side then shows a route, or it has one before
-named_pairs-shown : (kept : Option (Option Route)) (lost : Bool) (before : Option Route) → is_named before (effect_of kept lost) ≡ shows (or_absent kept (lost && is_some before)) before
+named_pairs-shown : (kept : Option (Option Route)) (lost : Bool) (before : Option Route) → is_named before (effect_of kept lost) ≡ shows (or_no_route kept (lost && is_some before)) before
 named_pairs-shown kept lost before = grind arith
 
 -- and its side then has the route that it leaves
-route_after-found : (kept : Option (Option Route)) (lost : Bool) (before route : Option Route) → or_absent kept (lost && is_some before) ≡ Some route → route_after before (effect_of kept lost) ≡ route
+route_after-found : (kept : Option (Option Route)) (lost : Bool) (before route : Option Route) → or_no_route kept (lost && is_some before) ≡ Some route → route_after before (effect_of kept lost) ≡ route
 route_after-found kept lost before route e = grind arith
 
 -- those that stay of such sides are those of the event's step
 pub IsStepFor-made : (routes : Routes) (event : Event) (changes : Changes) (sides kept : List Side)
     → ((q : Pair) → noted_effect changes q ≡ effect q event)
-    → ((q : Pair) → found sides q ≡ or_absent (found (sides_of changes.entries.items) q) (is_lost changes.lost.keys q && is_some (get routes q)))
+    → ((q : Pair) → found sides q ≡ or_no_route (found (sides_of changes.entries.items) q) (is_lost changes.lost.keys q && is_some (get routes q)))
     → AreDistinct sides
     → kept ≡ filter (has_route (get routes)) sides
     → IsStepFor routes event kept

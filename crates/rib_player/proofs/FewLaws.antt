@@ -22,7 +22,7 @@ use Rattle.rib_player.specs.Representation.{IsUpdatedAt, route_presence}
 use Rattle.rib_player.specs.Indices.{ListsAll}
 use Rattle.rib_player.specs.SparseSet.{choices}
 use Rattle.rib_player.specs.StoresByPeer.{stores_in}
-use Rattle.rib_player.specs.Noted.{routed_in}
+use Rattle.rib_player.specs.Noted.{routed_marks}
 use Rattle.rib_player.specs.declared.stores.Stores as numbered
 use Rattle.rib_player.proofs.ListLaws.{all-then}
 use Rattle.rib_player.proofs.StoreLaws.{same_peer, one_peer, get-found, AreNoted}
@@ -148,7 +148,7 @@ module _ {S : Type 0} (routes : S → stored.Routes (Rc Route Global)) where
 
   -- all were looked at
   module _ (s : numbered.Stores S) {numbers : List ℕ} {found : List (Peer × ℕ)} (whole : IsFound (stores_in s) s.order.entries numbers found)
-      (listed : ListsAll (choices s.routed) numbers) (noted : AreNoted routes (stores_in s) (routed_in s)) where
+      (listed : ListsAll (choices s.routed) numbers) (noted : AreNoted routes (stores_in s) (routed_marks s)) where
     found-at : (p : Peer) → lookup (same_peer p) found ≡ listed_count (store_at (stores_in s) p)
     found-at p = at (store_at (stores_in s) p) refl
       where

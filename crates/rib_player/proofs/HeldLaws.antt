@@ -12,7 +12,7 @@ use Rattle.prefix_store.specs.Stored.{put, ContainsDomain}
 use Rattle.prefix_store.proofs.PutLaws.{get-put}
 use Rattle.std.proofs.Math.Bool.{or-true}
 use Rattle.rib_player.specs.Tables.{Routes, Pairs}
-use Rattle.rib_player.specs.Claims.{one_if, held_claims, AreHeld}
+use Rattle.rib_player.specs.Claims.{one_if, held_claims, OnlyKeysHaveExtraClaims}
 use Rattle.rib_player.proofs.PairLaws.{pair_cmp_total, same_pair}
 use Rattle.rib_player.proofs.MarkLaws.{tied, tied_itself}
 
@@ -23,19 +23,19 @@ pub one_false : (b : Bool) → b ≡ false → one_if b ≡ 0
 one_false b e = ap one_if e
 
 -- a pair is a key exactly where a claim of it is held
-pub held-key : (keys : Pairs) (beyond : Pair → ℕ) (q : Pair) → AreHeld keys beyond → set.contains keys q ≡ nat_lt 0 (held_claims keys beyond q)
+pub held-key : (keys : Pairs) (beyond : Pair → ℕ) (q : Pair) → OnlyKeysHaveExtraClaims keys beyond → set.contains keys q ≡ nat_lt 0 (held_claims keys beyond q)
 held-key keys beyond q held = let none = held q in grind (arith, nat_tests)
 
-pub some-key : (keys : Pairs) (beyond : Pair → ℕ) (q : Pair) → AreHeld keys beyond → 0 < held_claims keys beyond q → set.contains keys q ≡ true
+pub some-key : (keys : Pairs) (beyond : Pair → ℕ) (q : Pair) → OnlyKeysHaveExtraClaims keys beyond → 0 < held_claims keys beyond q → set.contains keys q ≡ true
 some-key keys beyond q held some = held-key keys beyond q held ∙ lt-ltb 0 (held_claims keys beyond q) some
 
 -- as many claims are held with the same keys and as many beyond them
-pub same-key : (keys keys' : Pairs) (beyond beyond' : Pair → ℕ) (q : Pair) → AreHeld keys beyond → AreHeld keys' beyond' → held_claims keys' beyond' q ≡ held_claims keys beyond q
+pub same-key : (keys keys' : Pairs) (beyond beyond' : Pair → ℕ) (q : Pair) → OnlyKeysHaveExtraClaims keys beyond → OnlyKeysHaveExtraClaims keys' beyond' → held_claims keys' beyond' q ≡ held_claims keys beyond q
     → set.contains keys' q ≡ set.contains keys q
 same-key keys keys' beyond beyond' q held held' same = held-key keys' beyond' q held' ∙ ap (nat_lt 0) same ∙ sym (held-key keys beyond q held)
 
 -- and as many beyond them where as many are held
-pub same-beyond : (keys keys' : Pairs) (beyond beyond' : Pair → ℕ) (q : Pair) → AreHeld keys beyond → AreHeld keys' beyond' → held_claims keys' beyond' q ≡ held_claims keys beyond q → beyond' q ≡ beyond q
+pub same-beyond : (keys keys' : Pairs) (beyond beyond' : Pair → ℕ) (q : Pair) → OnlyKeysHaveExtraClaims keys beyond → OnlyKeysHaveExtraClaims keys' beyond' → held_claims keys' beyond' q ≡ held_claims keys beyond q → beyond' q ≡ beyond q
 same-beyond keys keys' beyond beyond' q held held' same = omega (arith, ap one_if (same-key keys keys' beyond beyond' q held held' same), same)
 
 -- a claim is made: a key that was none, or one beyond a key
@@ -46,7 +46,7 @@ made-claimed keys keys' beyond beyond' p q more same out =
     let one = same_pair q p in
     grind arith
 
-pub insert-held : (keys keys' : Pairs) (beyond beyond' : Pair → ℕ) (p : Pair) → keys' ≡ set.insert keys p → ((q : Pair) → beyond' q ≡ beyond q) → AreHeld keys beyond → AreHeld keys' beyond'
+pub insert-held : (keys keys' : Pairs) (beyond beyond' : Pair → ℕ) (p : Pair) → keys' ≡ set.insert keys p → ((q : Pair) → beyond' q ≡ beyond q) → OnlyKeysHaveExtraClaims keys beyond → OnlyKeysHaveExtraClaims keys' beyond'
 insert-held keys keys' beyond beyond' p more same held q out =
     same q ∙ held q (or_parts (tied q p) (set.contains keys q) (sym (ap (λ k. set.contains k q) more ∙ contains-insert pair_cmp_total keys p q) ∙ out)).1
 
@@ -59,13 +59,13 @@ there-same keys keys' p q more there =
 
 -- claims are counted beyond a key
 pub beyond-held : (keys keys' : Pairs) (beyond beyond' : Pair → ℕ) (p : Pair) → ((q : Pair) → set.contains keys' q ≡ set.contains keys q) → set.contains keys p ≡ true
-    → ((q : Pair) → beyond' q ≡ beyond q + one_if (tied q p)) → AreHeld keys beyond → AreHeld keys' beyond'
+    → ((q : Pair) → beyond' q ≡ beyond q + one_if (tied q p)) → OnlyKeysHaveExtraClaims keys beyond → OnlyKeysHaveExtraClaims keys' beyond'
 beyond-held keys keys' beyond beyond' p same there more held q out =
     let one = same_pair q p in
     let none = held q in
     grind (arith, same q, more q)
 
-pub same-held : (keys keys' : Pairs) (beyond beyond' : Pair → ℕ) → ((q : Pair) → set.contains keys' q ≡ set.contains keys q) → ((q : Pair) → beyond' q ≡ beyond q) → AreHeld keys beyond → AreHeld keys' beyond'
+pub same-held : (keys keys' : Pairs) (beyond beyond' : Pair → ℕ) → ((q : Pair) → set.contains keys' q ≡ set.contains keys q) → ((q : Pair) → beyond' q ≡ beyond q) → OnlyKeysHaveExtraClaims keys beyond → OnlyKeysHaveExtraClaims keys' beyond'
 same-held keys keys' beyond beyond' keyed counted held q out = counted q ∙ held q (sym (keyed q) ∙ out)
 
 -- a key is given up
@@ -77,7 +77,7 @@ removed-claimed keys keys' beyond beyond' p q less same there =
     grind arith
 
 -- and nothing was counted beyond it
-pub removed-held : (keys keys' : Pairs) (beyond beyond' : Pair → ℕ) (p : Pair) → keys' ≡ set.remove keys p → ((q : Pair) → beyond' q ≡ beyond q) → beyond p ≡ 0 → AreHeld keys beyond → AreHeld keys' beyond'
+pub removed-held : (keys keys' : Pairs) (beyond beyond' : Pair → ℕ) (p : Pair) → keys' ≡ set.remove keys p → ((q : Pair) → beyond' q ≡ beyond q) → beyond p ≡ 0 → OnlyKeysHaveExtraClaims keys beyond → OnlyKeysHaveExtraClaims keys' beyond'
 removed-held keys keys' beyond beyond' p less same none held q out =
     let here = ap (λ k. set.contains k q) less ∙ contains-remove pair_cmp_total keys p q in
     let one = same_pair q p in

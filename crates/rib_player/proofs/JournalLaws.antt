@@ -15,7 +15,7 @@ use Rattle.mrt_events.specs.declared.event.Event.{Event}
 use Rattle.rib_player.specs.Entries.{Entry}
 use Rattle.rib_player.specs.History.{pair_cmp, Effect, effect, route_after}
 use Rattle.prefix_store.specs.Stored.{put}
-use Rattle.rib_player.specs.Tables.{Routes, Pairs, table_after, is_named, route_in}
+use Rattle.rib_player.specs.Tables.{Routes, Pairs, table_after, is_named, pointed_route}
 use Rattle.rib_player.specs.Journal.{Side, side_of, sides_of, pairs_in, routes_across}
 use Rattle.rib_player.specs.Sides.{sides_across, AreDistinctKeys, IsStepFor}
 use Rattle.rib_player.proofs.PairLaws.{pair_cmp_total, same_pair}
@@ -57,7 +57,7 @@ sides_across-tail keys routes side sides kept =
 
 -- one entry more is crossed
 pub entries-more : (keys : Pairs) (routes routes' : Routes) (entries rest : List Entry) (i : ℕ) (entry entry' : Entry) (whole : List Side) → i < length entries
-    → AreDistinctKeys keys (sides_of (entry ∷ rest)) → routes' ≡ put routes entry.pair (route_in entry.other) → side_of entry' ≡ (entry.pair, finite.get routes entry.pair)
+    → AreDistinctKeys keys (sides_of (entry ∷ rest)) → routes' ≡ put routes entry.pair (pointed_route entry.other) → side_of entry' ≡ (entry.pair, finite.get routes entry.pair)
     → sides_of (take i entries) ++ sides_across routes (sides_of (entry ∷ rest)) ≡ whole
     → sides_of (take (i + 1) (set entries i entry')) ++ sides_across routes' (sides_of rest) ≡ whole
 entries-more keys routes routes' entries rest i entry entry' whole within kept put_there taken_out before =

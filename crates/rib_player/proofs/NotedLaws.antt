@@ -13,7 +13,7 @@ use Rattle.mrt_events.specs.declared.event.Route.{Route}
 use Rattle.rib_player.specs.SparseSet.{choices}
 use Rattle.rib_player.specs.Representation.{route_presence}
 use Rattle.rib_player.specs.Lent.{IsLent}
-use Rattle.rib_player.specs.Noted.{routed_in}
+use Rattle.rib_player.specs.Noted.{routed_marks}
 use Rattle.rib_player.specs.StoresByPeer.{stores_in}
 use Rattle.rib_player.specs.Tables.{store_at}
 use Rattle.rib_player.specs.declared.stores.Stores as numbered
@@ -31,7 +31,7 @@ some-before before after n most is more = lt-ltb 0 (finite.len before) (omega (a
 
 -- of a store that had some it is noted, also while it is written
 pub noted-there : {S : Type 0} (routes : S → stored.Routes (Rc Route Global)) (old between : numbered.Stores S) {peer : Peer} {before after : S} {number : ℕ} → IsLent old between peer after
-    → AreNoted routes (stores_in old) (routed_in old) → lookup (same_peer peer) old.order.entries ≡ Some number → Some before ≡ store_at (stores_in old) peer → nat_lt 0 (finite.len (routes before)) ≡ true
+    → AreNoted routes (stores_in old) (routed_marks old) → lookup (same_peer peer) old.order.entries ≡ Some number → Some before ≡ store_at (stores_in old) peer → nat_lt 0 (finite.len (routes before)) ≡ true
     → slice_get (choices between.routed) number ≡ Some true
 noted-there routes old between {peer = peer} lent noted found is has =
     ap (standing (choices between.routed)) (sym (ap (lookup (same_peer peer)) lent.order ∙ found))

@@ -9,7 +9,7 @@ use Rattle.mrt_events.specs.declared.event.Route.{Route}
 use Rattle.rib_player.specs.declared.pair.Pair.{Pair}
 use Rattle.rib_player.specs.Entries.{Entry}
 use Rattle.rib_player.specs.History.{pair_cmp}
-use Rattle.rib_player.specs.Tables.{route_in}
+use Rattle.rib_player.specs.Tables.{pointed_route}
 use Rattle.rib_player.specs.Journal.{sides_of, pairs_in}
 use Rattle.rib_player.specs.Changes.{found}
 use Rattle.rib_player.proofs.PairLaws.{pair_cmp_total, same_pair}
@@ -62,7 +62,7 @@ tie q entry = let turned = pair_cmp_total.antisymm entry.pair q in grind arith
 -- what stands for a pair is the first of those that tie with it
 abbrev first_of : List Entry → Option (Option Route)
 first_of [] = None
-first_of (entry ∷ entries) = Some (route_in entry.other)
+first_of (entry ∷ entries) = Some (pointed_route entry.other)
 
 found-tied : (q : Pair) (entries : List Entry) → found_in entries q ≡ first_of (filter (tied q) entries)
 found-tied q [] = refl

@@ -16,8 +16,8 @@ use Rattle.rib_player.specs.declared.entry.JournalEnd.TheVariants.{First, Last}
 use Rattle.rib_player.specs.History.{pair_cmp}
 use Rattle.rib_player.specs.Tables.{Routes, Pairs, table_after, named_pairs, Contents}
 use Rattle.rib_player.specs.Timeline.{Timeline, after_play, needed_keys, IsWellFormed}
-use Rattle.rib_player.specs.Claims.{is_routed, one_if, brings, claims_along, held_claims, AreHeld}
-use Rattle.rib_player.specs.Journal.{Side, pairs_in, step_sides, steps_of, tables_over, timeline_of, routes_across}
+use Rattle.rib_player.specs.Claims.{is_routed, one_if, brings, claims_along, held_claims, OnlyKeysHaveExtraClaims}
+use Rattle.rib_player.specs.Journal.{Side, pairs_in, step_sides, sides_by_step, tables_over, timeline_of, routes_across}
 use Rattle.rib_player.specs.Sides.{sides_at, sides_across, AreDistinctKeys, AreDistinct, IsStepFor, Mark, marks_by_step, step_marks, marks_across, any_releases_claim_of, IsMarkOf, AreMarksOf, AreMarked}
 use Rattle.rib_player.specs.JournalState.{IsConsistentJournal, IsStepSwapped, AreClaimed, CanDrop}
 use Rattle.octet_forms.proofs.Lists.{AllByRecursion-get_or, AllByRecursion-set, AllByRecursion-push, AllByRecursion-take}
@@ -34,7 +34,7 @@ use Rattle.rib_player.proofs.ClaimLaws.{NameFor, needed_keys-claimed, claimed-so
 -- ---- the keys are the wanted pairs
 
 -- what marks are right says which pairs steps name
-names-marked : (q : Pair) (tables : List Routes) (steps : List Step) → AreMarked tables (marks_by_step steps) → NameFor q tables (map (λ (sides : List Side). names.from_list (pairs_in sides)) (steps_of steps))
+names-marked : (q : Pair) (tables : List Routes) (steps : List Step) → AreMarked tables (marks_by_step steps) → NameFor q tables (map (λ (sides : List Side). names.from_list (pairs_in sides)) (sides_by_step steps))
 names-marked q [] steps all = absurd all
 names-marked q (last ∷ []) [] all = tt
 names-marked q (last ∷ []) (step ∷ steps) all = absurd all
@@ -51,17 +51,17 @@ names-marked q (before ∷ after ∷ tables) (step ∷ steps) all = (
 module _ {table : Contents} {beyond : Pair → ℕ} {cursor : ℕ} {steps : List Step} (played : IsConsistentJournal table beyond cursor steps) where
   -- its tables
   abbrev pub tables-played : List Routes
-  tables-played = tables_over cursor (steps_of steps) table.routes
+  tables-played = tables_over cursor (sides_by_step steps) table.routes
 
-  pub within-played : cursor ≤ length (steps_of steps)
+  pub within-played : cursor ≤ length (sides_by_step steps)
   within-played = omega (arith, played.within, length-map steps step_sides)
 
-  as-many-played : length tables-played ≡ length (steps_of steps) + 1
-  as-many-played = length-tables cursor (steps_of steps) table.routes within-played
+  as-many-played : length tables-played ≡ length (sides_by_step steps) + 1
+  as-many-played = length-tables cursor (sides_by_step steps) table.routes within-played
 
-  pub played-needed_keys : (floor : ℕ) → table.keys ≡ needed_keys (timeline_of floor cursor (steps_of steps) table.routes)
+  pub played-needed_keys : (floor : ℕ) → table.keys ≡ needed_keys (timeline_of floor cursor (sides_by_step steps) table.routes)
   played-needed_keys floor =
-      let t : Timeline = timeline_of floor cursor (steps_of steps) table.routes in
+      let t : Timeline = timeline_of floor cursor (sides_by_step steps) table.routes in
       same_pairs table.keys (needed_keys t) (λ q.
       held-key table.keys beyond q played.held ∙ ap (nat_lt 0) (played.claimed q)
       ∙ sym (needed_keys-claimed t q (names-marked q tables-played steps played.marked) (omega (arith, within-played, as-many-played))))
@@ -71,20 +71,20 @@ module _ {table : Contents} {beyond : Pair → ℕ} {cursor : ℕ} {steps : List
   played-few q = omega (arith, played.claimed q, few-claims q tables-played, as-many-played, length-map steps step_sides)
 
   -- so its steps can be crossed
-  pub played-kept : (index : ℕ) → index < length steps → AreDistinctKeys table.keys (sides_at (steps_of steps) index)
+  pub played-kept : (index : ℕ) → index < length steps → AreDistinctKeys table.keys (sides_at (sides_by_step steps) index)
   played-kept index within =
-      AllByRecursion-get_or (AreDistinctKeys table.keys) (steps_of steps) index [] (omega (arith, within, length-map steps step_sides))
-      (needed_keys-kept table.keys (timeline_of 0 cursor (steps_of steps) table.routes) (steps_of steps) (played-needed_keys 0) refl played.distinct)
+      AllByRecursion-get_or (AreDistinctKeys table.keys) (sides_by_step steps) index [] (omega (arith, within, length-map steps step_sides))
+      (needed_keys-kept table.keys (timeline_of 0 cursor (sides_by_step steps) table.routes) (sides_by_step steps) (played-needed_keys 0) refl played.distinct)
 
-  pub well_formed-played : (floor : ℕ) → IsWellFormed (timeline_of floor cursor (steps_of steps) table.routes)
+  pub well_formed-played : (floor : ℕ) → IsWellFormed (timeline_of floor cursor (sides_by_step steps) table.routes)
   well_formed-played floor =
-      let as_many : length (timeline_of floor cursor (steps_of steps) table.routes).steps ≡ length (steps_of steps) = length-map (steps_of steps) (λ (sides : List Side). names.from_list (pairs_in sides)) in
+      let as_many : length (timeline_of floor cursor (sides_by_step steps) table.routes).steps ≡ length (sides_by_step steps) = length-map (sides_by_step steps) (λ (sides : List Side). names.from_list (pairs_in sides)) in
       record { floor = omega arith; cursor = omega (arith, within-played, as_many); tables = as-many-played ∙ omega (arith, as_many) }
 
   -- what is not claimed has no route
   unclaimed-played : (q : Pair) → claims_along q tables-played ≡ 0 → finite.get table.routes q ≡ None
   unclaimed-played q none =
-      ap (λ r. finite.get r q) (sym (at-cursor cursor (steps_of steps) table.routes within-played))
+      ap (λ r. finite.get r q) (sym (at-cursor cursor (sides_by_step steps) table.routes within-played))
       ∙ unclaimed q tables-played cursor (omega (arith, within-played, as-many-played)) none
 
   pub played-among : (q : Pair) → names.contains table.keys q ≡ false → finite.get table.routes q ≡ None
@@ -112,15 +112,15 @@ distinct-crossed steps index routes within all =
 module _ {table table' : Contents} {beyond : Pair → ℕ} {cursor index : ℕ} {steps steps' : List Step} (played : IsConsistentJournal table beyond cursor steps) (crossed : IsStepSwapped table table' steps steps' index) where
   -- the player elsewhere on the same tables
   crossed-played : (cursor' : ℕ) → index < length steps → cursor' ≤ length steps
-      → tables_over cursor' (set (steps_of steps) index (sides_across table.routes (sides_at (steps_of steps) index))) (routes_across (sides_at (steps_of steps) index) table.routes) ≡ tables-played played
+      → tables_over cursor' (set (sides_by_step steps) index (sides_across table.routes (sides_at (sides_by_step steps) index))) (routes_across (sides_at (sides_by_step steps) index) table.routes) ≡ tables-played played
       → IsConsistentJournal table' beyond cursor' steps'
   crossed-played cursor' there within same =
-      let tables : tables_over cursor' (steps_of steps') table'.routes ≡ tables-played played = ap₂ (tables_over cursor') crossed.sides crossed.routes ∙ same in
+      let tables : tables_over cursor' (sides_by_step steps') table'.routes ≡ tables-played played = ap₂ (tables_over cursor') crossed.sides crossed.routes ∙ same in
       record {
         within = omega (arith, within, ap length crossed.marks, length-map steps step_marks, length-map steps' step_marks);
-        distinct = subst (AllByRecursion AreDistinct) (sym crossed.sides) (distinct-crossed (steps_of steps) index table.routes (omega (arith, there, length-map steps step_sides)) played.distinct);
+        distinct = subst (AllByRecursion AreDistinct) (sym crossed.sides) (distinct-crossed (sides_by_step steps) index table.routes (omega (arith, there, length-map steps step_sides)) played.distinct);
         marked = subst (λ ts. AreMarked ts (marks_by_step steps')) (sym tables) (subst (AreMarked (tables-played played)) (sym crossed.marks) played.marked);
-        held = subst (λ k. AreHeld k beyond) (sym crossed.keys) played.held;
+        held = subst (λ k. OnlyKeysHaveExtraClaims k beyond) (sym crossed.keys) played.held;
         claimed = λ q. ap (λ k. held_claims k beyond q) crossed.keys ∙ played.claimed q ∙ ap (claims_along q) (sym tables);
       }
 
@@ -133,24 +133,24 @@ module _ {table table' : Contents} {beyond : Pair → ℕ} {cursor index : ℕ} 
   undone-played last =
       let within = within-played played in
       crossed-played index (omega (arith, last, played.within)) (omega (arith, last, played.within))
-      (tables-back index (steps_of steps) table.routes (omega (arith, last, within)) ∙ ap (λ n. tables_over n (steps_of steps) table.routes) last)
+      (tables-back index (sides_by_step steps) table.routes (omega (arith, last, within)) ∙ ap (λ n. tables_over n (sides_by_step steps) table.routes) last)
 
   -- that behind it was
   pub redone-played : index ≡ cursor → cursor < length steps → IsConsistentJournal table' beyond (cursor + 1) steps'
   redone-played here ahead =
       crossed-played (cursor + 1) (omega (arith, here, ahead)) (omega (arith, ahead))
-      (ap (λ n. tables_over (cursor + 1) (set (steps_of steps) n (sides_across table.routes (sides_at (steps_of steps) n))) (routes_across (sides_at (steps_of steps) n) table.routes)) here
-      ∙ tables-on cursor (steps_of steps) table.routes (omega (arith, ahead, length-map steps step_sides)))
+      (ap (λ n. tables_over (cursor + 1) (set (sides_by_step steps) n (sides_across table.routes (sides_at (sides_by_step steps) n))) (routes_across (sides_at (sides_by_step steps) n) table.routes)) here
+      ∙ tables-on cursor (sides_by_step steps) table.routes (omega (arith, ahead, length-map steps step_sides)))
 
 -- ---- a step that is forgotten
 
 module _ {n : ℕ} {first : Step} {steps : List Step} {table : Contents} {beyond : Pair → ℕ} (played : IsConsistentJournal table beyond (suc n) (first ∷ steps)) where
   -- the tables without that before it
-  rest : drop 1 (tables-played played) ≡ tables_over n (steps_of steps) table.routes
-  rest = tables-forgotten n (step_sides first) (steps_of steps) table.routes
+  rest : drop 1 (tables-played played) ≡ tables_over n (sides_by_step steps) table.routes
+  rest = tables-forgotten n (step_sides first) (sides_by_step steps) table.routes
 
   -- what is claimed besides the claims that go with it
-  forgotten : (q : Pair) → held_claims table.keys beyond q ≡ claims_along q (tables_over n (steps_of steps) table.routes) + one_if (any_releases_claim_of First (step_marks first) q)
+  forgotten : (q : Pair) → held_claims table.keys beyond q ≡ claims_along q (tables_over n (sides_by_step steps) table.routes) + one_if (any_releases_claim_of First (step_marks first) q)
   forgotten q =
       let tables = tables-played played in
       played.claimed q ∙ first-forgotten q tables (omega (arith, marked-length tables (marks_by_step (first ∷ steps)) played.marked))
@@ -164,22 +164,22 @@ module _ {n : ℕ} {first : Step} {steps : List Step} {table : Contents} {beyond
   -- and have no route where nothing is claimed beyond them
   pub forgotten-free : (q : Pair) → any_releases_claim_of First (step_marks first) q ≡ true → beyond q ≡ 0 → finite.get table.routes q ≡ None
   forgotten-free q gives none =
-      let within : n ≤ length (steps_of steps) = omega (arith, played.within, length-map steps step_sides) in
+      let within : n ≤ length (sides_by_step steps) = omega (arith, played.within, length-map steps step_sides) in
       let key = one_true _ (forgotten-keys q gives) in
-      ap (λ r. finite.get r q) (sym (at-cursor n (steps_of steps) table.routes within))
-      ∙ unclaimed q (tables_over n (steps_of steps) table.routes) n (omega (arith, within, length-tables n (steps_of steps) table.routes within))
+      ap (λ r. finite.get r q) (sym (at-cursor n (sides_by_step steps) table.routes within))
+      ∙ unclaimed q (tables_over n (sides_by_step steps) table.routes) n (omega (arith, within, length-tables n (sides_by_step steps) table.routes within))
       (omega (arith, forgotten q, one_true _ gives, key, none))
 
   -- the player without it
-  pub forgotten-played : (table' : Contents) (beyond' : Pair → ℕ) → table'.routes ≡ table.routes → AreHeld table'.keys beyond'
+  pub forgotten-played : (table' : Contents) (beyond' : Pair → ℕ) → table'.routes ≡ table.routes → OnlyKeysHaveExtraClaims table'.keys beyond'
       → ((q : Pair) → held_claims table'.keys beyond' q + one_if (any_releases_claim_of First (step_marks first) q) ≡ held_claims table.keys beyond q) → IsConsistentJournal table' beyond' n steps
   forgotten-played table' beyond' same held less = record {
     within = omega (arith, played.within);
     distinct = played.distinct.1;
-    marked = subst (λ ts. AreMarked ts (marks_by_step steps)) (rest ∙ ap (tables_over n (steps_of steps)) (sym same))
+    marked = subst (λ ts. AreMarked ts (marks_by_step steps)) (rest ∙ ap (tables_over n (sides_by_step steps)) (sym same))
         (marked-first (tables-played played) (step_marks first) (marks_by_step steps) played.marked).1;
     held = held;
-    claimed = λ q. omega (arith, less q, forgotten q, ap (λ r. claims_along q (tables_over n (steps_of steps) r)) same);
+    claimed = λ q. omega (arith, less q, forgotten q, ap (λ r. claims_along q (tables_over n (sides_by_step steps) r)) same);
   }
 
 -- ---- a step that is dropped
@@ -214,13 +214,13 @@ none-before q n tables none =
     unclaimed-none q (take n tables) (any-take (is_routed q) n tables (sym (claimed-somewhere q tables) ∙ ap (nat_lt 0) none))
 
 -- the pairs that it brings are keys
-pub dropped-keys : (steps : List (List Mark)) (gone : List Mark) (keys : Pairs) (beyond : Pair → ℕ) (cursor : ℕ) (routes : Routes) → AreHeld keys beyond
+pub dropped-keys : (steps : List (List Mark)) (gone : List Mark) (keys : Pairs) (beyond : Pair → ℕ) (cursor : ℕ) (routes : Routes) → OnlyKeysHaveExtraClaims keys beyond
     → CanDrop (steps ++ gone ∷ []) cursor (held_claims keys beyond) routes → (q : Pair) → any_releases_claim_of Last gone q ≡ true → names.contains keys q ≡ true
 dropped-keys steps gone keys beyond cursor routes held can q gives =
     some-key keys beyond q held (omega (arith, dropped steps gone (held_claims keys beyond) can.tables can.new q can.are, one_true _ gives))
 
 -- and have no route where nothing is claimed beyond them
-pub dropped-free : (steps : List (List Mark)) (gone : List Mark) (keys : Pairs) (beyond : Pair → ℕ) (cursor : ℕ) (routes : Routes) → AreHeld keys beyond → cursor ≤ length steps
+pub dropped-free : (steps : List (List Mark)) (gone : List Mark) (keys : Pairs) (beyond : Pair → ℕ) (cursor : ℕ) (routes : Routes) → OnlyKeysHaveExtraClaims keys beyond → cursor ≤ length steps
     → CanDrop (steps ++ gone ∷ []) cursor (held_claims keys beyond) routes → (q : Pair) → any_releases_claim_of Last gone q ≡ true → beyond q ≡ 0 → finite.get routes q ≡ None
 dropped-free steps gone keys beyond cursor routes held within can q gives none =
     let n = length steps in
@@ -286,15 +286,15 @@ module _ {table : Contents} {beyond : Pair → ℕ} {cursor : ℕ} {steps : List
   abbrev behind : List Routes
   behind = take (cursor + 1) (tables-played played)
 
-  behind-is : behind ≡ earlier cursor (steps_of steps) table.routes ++ table.routes ∷ []
-  behind-is = tables-behind cursor (steps_of steps) table.routes (within-played played)
+  behind-is : behind ≡ earlier cursor (sides_by_step steps) table.routes ++ table.routes ∷ []
+  behind-is = tables-behind cursor (sides_by_step steps) table.routes (within-played played)
 
   behind-long : length behind ≡ suc cursor
-  behind-long = ap length behind-is ∙ omega (arith, length-append (earlier cursor (steps_of steps) table.routes) (table.routes ∷ []), length-earlier cursor (steps_of steps) table.routes (within-played played))
+  behind-long = ap length behind-is ∙ omega (arith, length-append (earlier cursor (sides_by_step steps) table.routes) (table.routes ∷ []), length-earlier cursor (sides_by_step steps) table.routes (within-played played))
 
   behind-last : slice_index_or behind cursor finite.empty ≡ table.routes
   behind-last = ap (λ ts. slice_index_or ts cursor finite.empty) behind-is
-      ∙ get_or_at (earlier cursor (steps_of steps) table.routes) table.routes [] finite.empty cursor (length-earlier cursor (steps_of steps) table.routes (within-played played))
+      ∙ get_or_at (earlier cursor (sides_by_step steps) table.routes) table.routes [] finite.empty cursor (length-earlier cursor (sides_by_step steps) table.routes (within-played played))
 
   right : (marks : List Mark) → marks ≡ marks_across table.routes sides → AreMarksOf table.routes next marks
   right marks is = subst (AreMarksOf table.routes next) (sym is) (step-marked table.routes event sides step)
@@ -321,26 +321,26 @@ module _ {table : Contents} {beyond : Pair → ℕ} {cursor : ℕ} {steps : List
 
   -- once the steps ahead are dropped, it stands behind the cursor
   module _ (table' : Contents) (beyond' : Pair → ℕ) (steps' : List Step) (new : Step) (left : steps' ≡ take cursor steps) (after : table'.routes ≡ routes_across sides table.routes) (crossing : step_sides new ≡ sides_across table.routes sides) where
-    steps-play : steps_of (steps' ++ new ∷ []) ≡ added cursor (steps_of steps) (sides_across table.routes sides)
-    steps-play = map-append step_sides steps' (new ∷ []) ∙ ap₂ (λ a b. a ++ b ∷ []) (ap steps_of left ∙ sym (take-map step_sides cursor steps)) crossing
+    steps-play : sides_by_step (steps' ++ new ∷ []) ≡ added cursor (sides_by_step steps) (sides_across table.routes sides)
+    steps-play = map-append step_sides steps' (new ∷ []) ∙ ap₂ (λ a b. a ++ b ∷ []) (ap sides_by_step left ∙ sym (take-map step_sides cursor steps)) crossing
 
-    pub after_play-on : (floor : ℕ) → timeline_of floor (cursor + 1) (steps_of (steps' ++ new ∷ [])) table'.routes ≡ after_play (timeline_of floor cursor (steps_of steps) table.routes) event
+    pub after_play-on : (floor : ℕ) → timeline_of floor (cursor + 1) (sides_by_step (steps' ++ new ∷ [])) table'.routes ≡ after_play (timeline_of floor cursor (sides_by_step steps) table.routes) event
     after_play-on floor =
-        ap₂ (timeline_of floor (cursor + 1)) steps-play after ∙ timeline-after_play floor cursor (steps_of steps) sides table.routes event (within-played played) step
+        ap₂ (timeline_of floor (cursor + 1)) steps-play after ∙ timeline-after_play floor cursor (sides_by_step steps) sides table.routes event (within-played played) step
 
-    pub played-on : step_marks new ≡ marks_across table.routes sides → AreHeld table'.keys beyond'
+    pub played-on : step_marks new ≡ marks_across table.routes sides → OnlyKeysHaveExtraClaims table'.keys beyond'
         → AreClaimed (marks_by_step steps') (held_claims table'.keys beyond') (take (cursor + 1) (tables-played played)) (λ q. one_if (any_releases_claim_of Last (step_marks new) q)) → IsConsistentJournal table' beyond' (cursor + 1) (steps' ++ new ∷ [])
     played-on is held are =
-        let tables : tables_over (cursor + 1) (steps_of (steps' ++ new ∷ [])) table'.routes ≡ behind ++ next ∷ [] =
-        ap₂ (tables_over (cursor + 1)) steps-play after ∙ tables-added cursor (steps_of steps) sides table.routes (within-played played)
+        let tables : tables_over (cursor + 1) (sides_by_step (steps' ++ new ∷ [])) table'.routes ≡ behind ++ next ∷ [] =
+        ap₂ (tables_over (cursor + 1)) steps-play after ∙ tables-added cursor (sides_by_step steps) sides table.routes (within-played played)
         ∙ ap (λ r. behind ++ r ∷ []) (routes_across-step table.routes event sides step) in
         let marks : marks_by_step (steps' ++ new ∷ []) ≡ marks_by_step steps' ++ step_marks new ∷ [] = map-append step_marks steps' (new ∷ []) in
         let count : length (marks_by_step steps') ≡ cursor = omega (arith, marked-length behind (marks_by_step steps') are.marked, behind-long) in
         record {
           within = omega (arith, length-map steps' step_marks, count, length-append steps' (new ∷ []));
           distinct = subst (AllByRecursion AreDistinct) (sym (map-append step_sides steps' (new ∷ [])))
-              (AllByRecursion-push AreDistinct (steps_of steps') (step_sides new)
-              (subst (AllByRecursion AreDistinct) (take-map step_sides cursor steps ∙ ap steps_of (sym left)) (AllByRecursion-take AreDistinct cursor (steps_of steps) played.distinct))
+              (AllByRecursion-push AreDistinct (sides_by_step steps') (step_sides new)
+              (subst (AllByRecursion AreDistinct) (take-map step_sides cursor steps ∙ ap sides_by_step (sym left)) (AllByRecursion-take AreDistinct cursor (sides_by_step steps) played.distinct))
               (subst (IsDistinct (eq_by_cmp pair_cmp)) (sym (ap pairs_in crossing ∙ pairs_in-sides_across table.routes sides)) step.distinct));
           marked = subst (λ ts. AreMarked ts (marks_by_step (steps' ++ new ∷ []))) (sym tables) (subst (AreMarked (behind ++ next ∷ [])) (sym marks)
               (marked-push behind (marks_by_step steps') next (step_marks new) are.marked

@@ -24,11 +24,11 @@ use Rattle.mrt_events.specs.declared.event.Route.{Route}
 use Rattle.mrt_events.specs.Event.{peer_cmp}
 use Rattle.rib_player.specs.History.{pair_cmp, pair_of}
 use Rattle.prefix_store.specs.Stored.{put}
-use Rattle.rib_player.specs.Tables.{Routes, Pairs, PeerStores, store_at, has_key, stored_route, route_in, keys_in, routes_in}
+use Rattle.rib_player.specs.Tables.{Routes, Pairs, PeerStores, store_at, has_key, stored_route, pointed_route, keys_in, routes_in}
 use Rattle.rib_player.specs.Representation.{HaveKeys, IsUpdatedAt, route_presence}
 use Rattle.rib_player.specs.Lent.{IsLent}
 use Rattle.rib_player.specs.StoresByPeer.{stores_in}
-use Rattle.rib_player.specs.Noted.{routed_in}
+use Rattle.rib_player.specs.Noted.{routed_marks}
 use Rattle.rib_player.specs.declared.stores.Stores as numbered
 use Rattle.rib_player.specs.Lookups.{value_of}
 use Rattle.octet_forms.proofs.Booleans.{cond_untested}
@@ -260,13 +260,13 @@ key-has-store keys stores all q e there none =
 
 -- a route put into a store
 pub stored-put : (old new : stored.Routes (Rc Route Global)) (n : Network) (route : Option (Rc Route Global)) → new ≡ stored.put old n route
-    → (x : Network) → option_map value_of (finite.get new x) ≡ cond (same_network x n) (route_in route) (option_map value_of (finite.get old x))
+    → (x : Network) → option_map value_of (finite.get new x) ≡ cond (same_network x n) (pointed_route route) (option_map value_of (finite.get old x))
 stored-put old new n route e x =
     ap (λ r. option_map value_of (finite.get r x)) e
     ∙ ap (option_map value_of) (get-put network_cmp_total old n route x)
     ∙ at (same_network x n)
   where
-    at : (b : Bool) → option_map value_of (cond b route (finite.get old x)) ≡ cond b (route_in route) (option_map value_of (finite.get old x))
+    at : (b : Bool) → option_map value_of (cond b route (finite.get old x)) ≡ cond b (pointed_route route) (option_map value_of (finite.get old x))
     at true = refl
     at false = refl
 
@@ -343,15 +343,15 @@ module _ {S : Type 0} (routes : S → stored.Routes (Rc Route Global)) where
   module _ (old between new : numbered.Stores S) {peer : Peer} {after : S} (lent : IsLent old between peer after) where
     -- what was noted of the store that was written
     pub noted-after : (number : ℕ) (has : Bool) → lookup (same_peer peer) old.order.entries ≡ Some number → stores_in new ≡ stores_in between
-        → ((p : Peer) → lookup (same_peer p) between.order.entries ≡ Some number → IsUpdatedAt (routed_in between) (routed_in new) p (Some has)) → Some has ≡ route_presence routes (Some after)
-        → AreNoted routes (stores_in old) (routed_in old) → AreNoted routes (stores_in new) (routed_in new)
+        → ((p : Peer) → lookup (same_peer p) between.order.entries ≡ Some number → IsUpdatedAt (routed_marks between) (routed_marks new) p (Some has)) → Some has ≡ route_presence routes (Some after)
+        → AreNoted routes (stores_in old) (routed_marks old) → AreNoted routes (stores_in new) (routed_marks new)
     noted-after number has found same noted is all =
-        subst (λ stores. AreNoted routes stores (routed_in new)) (sym same)
-        (noted-other lent.written (subst (λ routed. IsUpdatedAt routed (routed_in new) peer (Some has)) lent.routed (noted peer (ap (lookup (same_peer peer)) lent.order ∙ found))) is all)
+        subst (λ stores. AreNoted routes stores (routed_marks new)) (sym same)
+        (noted-other lent.written (subst (λ routed. IsUpdatedAt routed (routed_marks new) peer (Some has)) lent.routed (noted peer (ap (lookup (same_peer peer)) lent.order ∙ found))) is all)
 
   -- it was written, and has the routes that it had
   pub noted-kept : (old new : numbered.Stores S) {peer : Peer} {before after : S} → IsLent old new peer after → Some before ≡ store_at (stores_in old) peer → routes after ≡ routes before
-      → AreNoted routes (stores_in old) (routed_in old) → AreNoted routes (stores_in new) (routed_in new)
+      → AreNoted routes (stores_in old) (routed_marks old) → AreNoted routes (stores_in new) (routed_marks new)
   noted-kept old new {peer = peer} {before = before} {after = after} lent found same all p =
       ap (lookup (same_peer p)) lent.routed ∙ all p ∙ at (same_peer peer p) refl ∙ ap (route_presence routes) (sym (lent.written.each p))
     where
@@ -381,9 +381,9 @@ module _ {S : Type 0} (routes : S → stored.Routes (Rc Route Global)) {old new 
   pub routes-kept : routes after ≡ routes before → routes_in routes new ≡ routes_in routes old
   routes-kept e = routes_in-same routes there.written (λ x. ap (λ r. option_map value_of (finite.get r x)) e ∙ ap (λ s. stored_route routes s x) there.found)
 
-  pub routes-put : (n : Network) (route : Option (Rc Route Global)) → routes after ≡ stored.put (routes before) n route → routes_in routes new ≡ put (routes_in routes old) (pair_of peer n) (route_in route)
-  routes-put n route e = routes_in-put routes there.written n (route_in route) (λ x.
-      stored-put (routes before) (routes after) n route e x ∙ ap (λ s. cond (same_network x n) (route_in route) (stored_route routes s x)) there.found)
+  pub routes-put : (n : Network) (route : Option (Rc Route Global)) → routes after ≡ stored.put (routes before) n route → routes_in routes new ≡ put (routes_in routes old) (pair_of peer n) (pointed_route route)
+  routes-put n route e = routes_in-put routes there.written n (pointed_route route) (λ x.
+      stored-put (routes before) (routes after) n route e x ∙ ap (λ s. cond (same_network x n) (pointed_route route) (stored_route routes s x)) there.found)
 
 -- it has no key any more, and goes
 none-left : (keys : stored.Keys) (x : Network) → set.len keys ≡ 0 → set.contains keys x ≡ false

@@ -43,16 +43,16 @@ noted_effect changes pair = effect_of (found (sides_of changes.entries.items) pa
 
 -- the first argument, or, if that is `None` and `absent` is true, `Some None`, which stands for a pair
 -- without a route
-abbrev pub or_absent : Option (Option Route) → Bool → Option (Option Route)
-or_absent (Some kept) absent = Some kept
-or_absent None true = Some None
-or_absent None false = None
+abbrev pub or_no_route : Option (Option Route) → Bool → Option (Option Route)
+or_no_route (Some kept) absent = Some kept
+or_no_route None true = Some None
+or_no_route None false = None
 
 -- what the changes give the pair `q`: the route or `None` of its first entry, in `Some`; without an entry,
 -- `Some None` if the session of its peer is lost and it has a route in the table `routes`, and else `None`
 abbrev pub found_with_lost : Changes → Routes → Pair → Option (Option Route)
 found_with_lost changes routes q =
-    or_absent (found (sides_of changes.entries.items) q) (is_lost changes.lost.keys q && is_some (get routes q))
+    or_no_route (found (sides_of changes.entries.items) q) (is_lost changes.lost.keys q && is_some (get routes q))
 
 -- the effect on a pair of items one after the other: that of the last one that sets or clears it, or `Keep`
 abbrev pub items_effect : Pair → List Item → Effect

@@ -132,5 +132,5 @@ abbrev pub claims_in : Contents → ExtraClaims → Pair → ℕ
 claims_in table claims = held_claims table.keys (claims_beyond claims)
 
 -- a pair that isn't in `keys` has no claims beyond the first: `beyond`, which gives their number, is 0 there
-abbrev pub AreHeld : Pairs → (Pair → ℕ) → Type 0
-AreHeld keys beyond = (pair : Pair) → set.contains keys pair ≡ false → beyond pair ≡ 0
+abbrev pub OnlyKeysHaveExtraClaims : Pairs → (Pair → ℕ) → Type 0
+OnlyKeysHaveExtraClaims keys beyond = (pair : Pair) → set.contains keys pair ≡ false → beyond pair ≡ 0

@@ -7,7 +7,7 @@ use Rattle.mrt_events.specs.declared.event.Route.{Route}
 use Rattle.rib_player.specs.Entries.{Entry}
 use Rattle.rib_player.specs.declared.entry.Step.{Step}
 use Rattle.prefix_store.specs.Stored.{put}
-use Rattle.rib_player.specs.Tables.{Routes, route_in}
+use Rattle.rib_player.specs.Tables.{Routes, pointed_route}
 use Rattle.rib_player.specs.Timeline.{Timeline}
 
 -- a pair of a peer and a prefix, and the route, if any, that it has on the other side of a step: before the
@@ -18,7 +18,7 @@ Side = Pair × Option Route
 -- the pair of an entry, and the route that the entry holds for it, if any: that on the other side of the
 -- step, which is before an applied step and after one that isn't applied
 abbrev pub side_of : Entry → Side
-side_of entry = (entry.pair, route_in entry.other)
+side_of entry = (entry.pair, pointed_route entry.other)
 
 -- for each entry of a step, in order, its pair and the route that it holds (`side_of`)
 abbrev pub sides_of : List Entry → List Side
@@ -69,5 +69,5 @@ step_sides step = sides_of step.entries.items
 
 -- for each step, in order, the list of the pairs of its entries, each with the route that the entry holds for
 -- it, if any
-abbrev pub steps_of : List Step → List (List Side)
-steps_of steps = map step_sides steps
+abbrev pub sides_by_step : List Step → List (List Side)
+sides_by_step steps = map step_sides steps

@@ -6,9 +6,9 @@ use Rattle.std.specs.FinMap.{get}
 use Rattle.rib_player.specs.declared.pair.Pair.{Pair}
 use Rattle.rib_player.specs.declared.entry.Step.{Step}
 use Rattle.rib_player.specs.Tables.{Routes, Contents}
-use Rattle.rib_player.specs.Claims.{claims_along, held_claims, AreHeld}
+use Rattle.rib_player.specs.Claims.{claims_along, held_claims, OnlyKeysHaveExtraClaims}
 use Rattle.rib_player.specs.Entries.{Entry}
-use Rattle.rib_player.specs.Journal.{tables_over, routes_across, sides_of, steps_of}
+use Rattle.rib_player.specs.Journal.{tables_over, routes_across, sides_of, sides_by_step}
 use Rattle.rib_player.specs.Sides.{sides_at, sides_across, AreDistinct, Mark, marks_of, marks_by_step, marks_across, AreMarked}
 
 -- a table, the claims beyond its keys, a cursor and steps fit together: the cursor is within the steps; each
@@ -16,17 +16,17 @@ use Rattle.rib_player.specs.Sides.{sides_at, sides_across, AreDistinct, Mark, ma
 -- many claims as the tables at all kept positions make
 pub record IsConsistentJournal (table : Contents) (beyond : Pair → ℕ) (cursor : ℕ) (steps : List Step) : Type 0 where
   pub within : cursor ≤ length steps
-  pub distinct : AllByRecursion AreDistinct (steps_of steps)
-  pub marked : AreMarked (tables_over cursor (steps_of steps) table.routes) (marks_by_step steps)
-  pub held : AreHeld table.keys beyond
-  pub claimed : (q : Pair) → held_claims table.keys beyond q ≡ claims_along q (tables_over cursor (steps_of steps) table.routes)
+  pub distinct : AllByRecursion AreDistinct (sides_by_step steps)
+  pub marked : AreMarked (tables_over cursor (sides_by_step steps) table.routes) (marks_by_step steps)
+  pub held : OnlyKeysHaveExtraClaims table.keys beyond
+  pub claimed : (q : Pair) → held_claims table.keys beyond q ≡ claims_along q (tables_over cursor (sides_by_step steps) table.routes)
 
 -- a table and steps were changed from old to new by undoing or redoing the step at an index: table and step
 -- exchanged the routes at its pairs, and the other steps are unchanged
 pub record IsStepSwapped (old new : Contents) (steps steps' : List Step) (index : ℕ) : Type 0 where
   pub keys : new.keys ≡ old.keys
-  pub routes : new.routes ≡ routes_across (sides_at (steps_of steps) index) old.routes
-  pub sides : steps_of steps' ≡ set (steps_of steps) index (sides_across old.routes (sides_at (steps_of steps) index))
+  pub routes : new.routes ≡ routes_across (sides_at (sides_by_step steps) index) old.routes
+  pub sides : sides_by_step steps' ≡ set (sides_by_step steps) index (sides_across old.routes (sides_at (sides_by_step steps) index))
   pub marks : marks_by_step steps' ≡ marks_by_step steps
 
 -- a table and the entries of a new step were changed from old to new by applying the step: they exchanged the

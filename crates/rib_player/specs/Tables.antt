@@ -82,8 +82,8 @@ pub record Contents : Type 0 where
   pub routes : Routes
 
 -- the route that an optional pointer points to; `None` if there is no pointer
-abbrev pub route_in : Option (Rc Route Global) → Option Route
-route_in slot = option_map (λ shared. shared.value) slot
+abbrev pub pointed_route : Option (Rc Route Global) → Option Route
+pointed_route slot = option_map (λ shared. shared.value) slot
 
 -- a list of stores, each with its peer
 abbrev pub PeerStores : Type 0 → Type 0

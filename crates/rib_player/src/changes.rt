@@ -11,7 +11,7 @@ ghost use Rattle.mrt_events.specs.SharedRoute.{AnnounceOneRoute};
 ghost use Rattle.rib_player.specs.declared.pair.Pair.{Pair};
 ghost use Rattle.mrt_events.specs.declared.peer.Peer.{Peer};
 ghost use Rattle.rib_player.specs.History.{pair_of, Clear, effect_if, item_effect, later, effect};
-ghost use Rattle.rib_player.specs.Tables.{route_in};
+ghost use Rattle.rib_player.specs.Tables.{pointed_route};
 ghost use Rattle.rib_player.specs.Changes.{noted_effect, effect_at, items_effect, HasRoute};
 
 use crate::entry::Entry;
@@ -67,7 +67,7 @@ impl Changes {
         route: Option<Rc<Route>>,
     ) -> Result<(), AllocError>
         ensures { OnOk result ((q : Pair) → noted_effect self.new q
-            ≡ later (effect_at (pair_of peer.now prefix.now) (route_in route) q)
+            ≡ later (effect_at (pair_of peer.now prefix.now) (pointed_route route) q)
             (noted_effect self.old q)) }
     {
         if self.is_peer_lost(peer) {

@@ -17,11 +17,11 @@ ghost use Rattle.prefix_store.specs.declared.store.TheConstants.{GREATEST_COUNT}
 ghost use Rattle.rib_player.specs.declared.pair.Pair.{Pair};
 ghost use Rattle.rib_player.specs.declared.entry.JournalEnd.TheVariants.{Last};
 ghost use Rattle.rib_player.specs.History.{pair_cmp};
-ghost use Rattle.rib_player.specs.Tables.{route_in};
+ghost use Rattle.rib_player.specs.Tables.{pointed_route};
 ghost use Rattle.rib_player.specs.Journal.{sides_of};
 ghost use Rattle.rib_player.specs.Sides.{AreDistinct, mark_of, marks_of, releases_claim_of, any_releases_claim_of};
 ghost use Rattle.rib_player.specs.JournalState.{AreApplied};
-ghost use Rattle.rib_player.specs.Claims.{one_if, count_of, v4_prefix_number, claims_beyond, claims_in, AreHeld};
+ghost use Rattle.rib_player.specs.Claims.{one_if, count_of, v4_prefix_number, claims_beyond, claims_in, OnlyKeysHaveExtraClaims};
 
 use crate::entry::{Entry, JournalEnd};
 use crate::key_counts::KeyCounts;
@@ -114,12 +114,12 @@ pub(crate) fn apply_entry<S: PrefixStore<Rc<Route>>>(
     claims: &mut ExtraClaims,
     entry: &mut Entry,
 ) -> Result<(), AllocError>
-    requires held { AreHeld table.old.keys (claims_beyond claims.old) }
+    requires held { OnlyKeysHaveExtraClaims table.old.keys (claims_beyond claims.old) }
     requires among { ContainsDomain table.old.keys table.old.routes }
     requires named { (is_some (finite.get table.old.routes entry.old.pair)
-        || is_some (route_in entry.old.other)) ≡ true }
+        || is_some (pointed_route entry.old.other)) ≡ true }
     requires few { claims_beyond claims.old entry.old.pair < GREATEST_COUNT }
-    ensures held { AreHeld table.new.keys (claims_beyond claims.new) }
+    ensures held { OnlyKeysHaveExtraClaims table.new.keys (claims_beyond claims.new) }
     ensures keys { OnOk result (table.new.keys ≡ set.insert table.old.keys entry.old.pair) }
     ensures claimed { OnOk result ((q : Pair) →
         claims_in table.new claims.new q ≡ claims_in table.old claims.old q
@@ -153,13 +153,13 @@ pub(crate) fn release_claims<S: PrefixStore<Rc<Route>>>(
     entries: &[Entry],
     end: JournalEnd,
 )
-    requires held { AreHeld table.old.keys (claims_beyond claims.old) }
+    requires held { OnlyKeysHaveExtraClaims table.old.keys (claims_beyond claims.old) }
     requires distinct { AreDistinct (sides_of entries.now) }
     requires keys { (q : Pair) → any_releases_claim_of end (marks_of entries.now) q ≡ true →
         set.contains table.old.keys q ≡ true }
     requires free { (q : Pair) → any_releases_claim_of end (marks_of entries.now) q ≡ true →
         claims_beyond claims.old q ≡ 0 → finite.get table.old.routes q ≡ None }
-    ensures held { AreHeld table.new.keys (claims_beyond claims.new) }
+    ensures held { OnlyKeysHaveExtraClaims table.new.keys (claims_beyond claims.new) }
     ensures claimed { (q : Pair) → claims_in table.new claims.new q
         + one_if (any_releases_claim_of end (marks_of entries.now) q)
         ≡ claims_in table.old claims.old q }

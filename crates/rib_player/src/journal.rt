@@ -10,8 +10,8 @@ ghost use Rattle.prefix_store.specs.Stored.{saturated_count, ContainsDomain};
 ghost use Rattle.prefix_store.specs.declared.store.TheConstants.{GREATEST_COUNT};
 ghost use Rattle.rib_player.specs.declared.pair.Pair.{Pair};
 ghost use Rattle.rib_player.specs.declared.entry.JournalEnd.TheVariants.{Last};
-ghost use Rattle.rib_player.specs.Claims.{one_if, claims_beyond, claims_in, AreHeld};
-ghost use Rattle.rib_player.specs.Journal.{sides_of, steps_of, routes_across};
+ghost use Rattle.rib_player.specs.Claims.{one_if, claims_beyond, claims_in, OnlyKeysHaveExtraClaims};
+ghost use Rattle.rib_player.specs.Journal.{sides_of, sides_by_step, routes_across};
 ghost use Rattle.rib_player.specs.Sides.{sides_at, sides_across, ClearAllOf, AreDistinctKeys, AreDistinct, marks_of, marks_by_step, any_releases_claim_of, entry_count};
 ghost use Rattle.rib_player.specs.JournalState.{IsStepSwapped, AreApplied, CanDrop, StayClaimed};
 
@@ -75,7 +75,8 @@ pub(crate) fn apply_or_undo_step<S: PrefixStore<Rc<Route>>>(
     first: usize,
 )
     requires within { index < length steps.old.items }
-    requires kept { AreDistinctKeys table.old.keys (sides_at (steps_of steps.old.items) index) }
+    requires kept { AreDistinctKeys table.old.keys
+        (sides_at (sides_by_step steps.old.items) index) }
     ensures { IsStepSwapped table.old table.new steps.old.items steps.new.items index }
 {
     let visited = prefetch_steps(table, steps, prefetched, index, first);
@@ -132,13 +133,13 @@ pub(crate) fn apply_entries<S: PrefixStore<Rc<Route>>>(
     requires cleared { IfSome lost (λ peer.
         ClearAllOf table.old.routes peer.now (sides_of entries.old)) }
     requires distinct { AreDistinct (sides_of entries.old) }
-    requires held { AreHeld table.old.keys (claims_beyond claims.old) }
+    requires held { OnlyKeysHaveExtraClaims table.old.keys (claims_beyond claims.old) }
     requires among { ContainsDomain table.old.keys table.old.routes }
     requires named { AllByRecursion (λ side.
         (is_some (finite.get table.old.routes side.0) || is_some side.1) ≡ true)
         (sides_of entries.old) }
     requires few { (q : Pair) → claims_beyond claims.old q < GREATEST_COUNT }
-    ensures held { AreHeld table.new.keys (claims_beyond claims.new) }
+    ensures held { OnlyKeysHaveExtraClaims table.new.keys (claims_beyond claims.new) }
     ensures claimed { OnOk result ((q : Pair) →
         claims_in table.new claims.new q ≡ claims_in table.old claims.old q
         + one_if (any_releases_claim_of Last (marks_of entries.new) q)) }
@@ -208,11 +209,11 @@ pub(crate) fn drop_steps_ahead<S: PrefixStore<Rc<Route>>>(
     known: &mut RouteInterner,
 )
     requires within { cursor ≤ length steps.old.items }
-    requires distinct { AllByRecursion AreDistinct (steps_of steps.old.items) }
-    requires held { AreHeld table.old.keys (claims_beyond claims.old) }
+    requires distinct { AllByRecursion AreDistinct (sides_by_step steps.old.items) }
+    requires held { OnlyKeysHaveExtraClaims table.old.keys (claims_beyond claims.old) }
     requires claimed { CanDrop (marks_by_step steps.old.items) cursor
         (claims_in table.old claims.old) table.old.routes }
-    ensures held { AreHeld table.new.keys (claims_beyond claims.new) }
+    ensures held { OnlyKeysHaveExtraClaims table.new.keys (claims_beyond claims.new) }
     ensures claimed { StayClaimed cursor steps.old.items (claims_in table.old claims.old)
         steps.new.items (claims_in table.new claims.new) }
     ensures routes { table.new.routes ≡ table.old.routes }

@@ -129,7 +129,7 @@ fn increment_in_map<K: Ord + Copy + Drop>(
 
 /// Subtracts one from the count of `key` in the map `counts`. Returns `true` if it did, or `false`
 /// if `key` isn't there or its count is 0. A key whose count is 0 afterwards is removed.
-fn decrement_in_map<K: Ord + Copy + Drop>(counts: &mut BTreeMap<K, u64>, key: &K) -> bool
+fn try_decrement_in_map<K: Ord + Copy + Drop>(counts: &mut BTreeMap<K, u64>, key: &K) -> bool
     ensures some { result ≡ nat_lt 0 (count_in K.cmp counts.old.entries key.now) }
     ensures counted { (k : K) → count_in K.cmp counts.new.entries k
         + one_if (result && eq_by_cmp K.cmp k key.now) ≡ count_in K.cmp counts.old.entries k }
@@ -277,7 +277,7 @@ impl<K: Ord + Copy + Drop> KeyCounts<K> {
                 taken
             }
             KeyCounts::Many(counts) => {
-                let taken = decrement_in_map(counts, key);
+                let taken = try_decrement_in_map(counts, key);
                 if counts.is_empty() {
                     *self = KeyCounts::None;
                 }

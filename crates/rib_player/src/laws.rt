@@ -110,7 +110,8 @@ pub fn law_which_pairs_are_keys()
 /// - Playing an event when no step is undone adds one if the pair has none before the event and one
 ///   after it.
 pub fn law_keys_and_claim_counts()
-    ensures needed_keys { (t : Timeline) (history : List Event) (pair : Pair) → StandsFor t history →
+    ensures needed_keys { (t : Timeline) (history : List Event) (pair : Pair) →
+        StandsFor t history →
         set.contains (needed_keys t) pair ≡ nat_lt 0 (claims t pair) }
     ensures forgotten { (t : Timeline) (pair : Pair) → IsWellFormed t → 0 < length t.steps →
         claims t pair ≡ claims (without_first 1 t) pair
@@ -200,7 +201,8 @@ pub fn law_forgetting_keeps_tables()
         table_at (after_forget t keep) i ≡ table_at t i }
     ensures current { (t : Timeline) (keep : ℕ) → t.floor ≤ t.cursor →
         current (after_forget t keep) ≡ current t }
-    ensures none { (t : Timeline) (keep : ℕ) → forgotten_count t keep ≡ 0 → after_forget t keep ≡ t }
+    ensures none { (t : Timeline) (keep : ℕ) → forgotten_count t keep ≡ 0 →
+        after_forget t keep ≡ t }
     ensures twice { (t : Timeline) (keep less : ℕ) → t.floor ≤ t.cursor →
         after_forget (after_forget t keep) less ≡ after_forget t (min keep less) }
 {}
@@ -213,5 +215,6 @@ pub fn law_steps_back_and_forth()
     ensures back { (t : Timeline) (history events : List Event) → StandsFor t history →
         current (after_calls t (play_undo_calls events)) ≡ current t }
     ensures forth { (t : Timeline) (history events : List Event) → StandsFor t history →
-        current (after_calls t (play_undo_redo_calls events)) ≡ table (take t.cursor history ++ events) }
+        current (after_calls t (play_undo_redo_calls events))
+        ≡ table (take t.cursor history ++ events) }
 {}

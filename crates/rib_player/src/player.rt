@@ -74,14 +74,15 @@ impl<S: PrefixStore<Rc<Route>>> Model for Player<S> {
 
     ghost use Rattle.std.specs.Prelude.{◌+◌, ◌≤◌, length};
     ghost use Rattle.prefix_store.specs.declared.store.TheConstants.{GREATEST_COUNT};
-    ghost use Rattle.rib_player.specs.Journal.{timeline_of, steps_of};
+    ghost use Rattle.rib_player.specs.Journal.{timeline_of, sides_by_step};
     ghost use Rattle.rib_player.specs.JournalState.{IsConsistentJournal};
 
     ghost view = { λ a. timeline_of a.journal.floor a.journal.cursor
-        (steps_of a.journal.steps.items) a.table.routes };
+        (sides_by_step a.journal.steps.items) a.table.routes };
 
     ghost invariant = { λ a. record {
-      played : IsConsistentJournal a.table (claims_beyond a.claims) a.journal.cursor a.journal.steps.items;
+      played : IsConsistentJournal a.table (claims_beyond a.claims) a.journal.cursor
+          a.journal.steps.items;
       saturated_count : a.journal.floor + length a.journal.steps.items ≤ GREATEST_COUNT;
     } };
 }

@@ -43,7 +43,8 @@ impl SeenNumbers {
     /// already, and for `usize::MAX`, which is never added. Numbers aren't bounded, but memory
     /// grows with the greatest. Fails if memory allocation fails; the set is unchanged then.
     pub(crate) fn newly_seen(&mut self, number: usize) -> Result<bool, AllocError>
-        ensures new { IfOk result (λ newly_seen. IsTrue newly_seen → was_seen self.old number ≡ false) }
+        ensures new { IfOk result (λ newly_seen. IsTrue newly_seen →
+            was_seen self.old number ≡ false) }
         ensures marked { IfOk result (λ newly_seen. IsTrue newly_seen →
             was_seen self.new number ≡ true) }
         ensures others { IfOk result (λ newly_seen. (n : ℕ) → IsTrue newly_seen →

@@ -78,7 +78,7 @@ fn session_loss_entries<S: PrefixStore<Rc<Route>>>(
 /// its announcements and withdrawals, followed by those that clear the routes in `table` of each
 /// peer in `changes.lost`, whose session the event ends. A pair of a peer and a prefix may have
 /// several entries, of which the first counts. Fails if memory allocation fails.
-fn with_lost_entries<S: PrefixStore<Rc<Route>>>(
+fn all_entries_of_event<S: PrefixStore<Rc<Route>>>(
     changes: Changes,
     table: &Table<S>,
 ) -> Result<Vec<Entry>, AllocError>
@@ -210,7 +210,7 @@ pub(crate) fn entries_for_event<S: PrefixStore<Rc<Route>>>(
             return Ok((entries, Some(peer)));
         }
     }
-    let then = with_lost_entries(changes, table)?;
+    let then = all_entries_of_event(changes, table)?;
     let noted = then.len();
     let mut routed = first_entry_per_pair(then, table, marks)?;
     if routed.len() < noted {

@@ -74,13 +74,13 @@ fn slot_of(peer: &Peer) -> usize {
 
 impl<S> Stores<S> {
     ghost use Rattle.rib_player.specs.StoresByPeer.{stores_in};
-    ghost use Rattle.rib_player.specs.Noted.{routed_in};
+    ghost use Rattle.rib_player.specs.Noted.{routed_marks};
     ghost use Rattle.rib_player.specs.Lent.{lends_store};
 
     /// Returns a map without stores, without allocating.
     pub(crate) fn new(alloc: Global) -> Self
         ensures stores { stores_in result ≡ [] }
-        ensures routed { routed_in result ≡ [] }
+        ensures routed { routed_marks result ≡ [] }
     {
         Stores {
             alloc,
@@ -225,7 +225,7 @@ impl<S> Stores<S> {
         ensures stores { stores_in self.new ≡ stores_in self.old }
         ensures noted { (peer : Peer) →
             lookup (eq_by_cmp peer_cmp peer) self.old.order.entries ≡ Some number →
-            IsUpdatedAt (routed_in self.old) (routed_in self.new) peer (Some has) }
+            IsUpdatedAt (routed_marks self.old) (routed_marks self.new) peer (Some has) }
     {
         self.routed.set_member(number, has);
     }
@@ -242,7 +242,7 @@ impl<S> Stores<S> {
         ensures stores { stores_in self.new ≡ stores_in self.old }
         ensures noted { (p : Peer) →
             lookup (eq_by_cmp peer_cmp p) self.old.order.entries ≡ Some number →
-            IsUpdatedAt (routed_in self.old) (routed_in self.new) p (Some (nat_lt 0 count)) }
+            IsUpdatedAt (routed_marks self.old) (routed_marks self.new) p (Some (nat_lt 0 count)) }
     {
         if count > 1 {
             return;
@@ -255,7 +255,7 @@ impl<S> Stores<S> {
     /// large for its elements. Stores and their indices stay.
     pub(crate) fn shrink_if_oversized(&mut self)
         ensures stores { stores_in self.new ≡ stores_in self.old }
-        ensures routed { routed_in self.new ≡ routed_in self.old }
+        ensures routed { routed_marks self.new ≡ routed_marks self.old }
     {
         shrink_if_oversized(&mut self.held);
         shrink_if_oversized(&mut self.names);
@@ -265,7 +265,7 @@ impl<S> Stores<S> {
 
 impl<S: Drop> Stores<S> {
     ghost use Rattle.rib_player.specs.StoresByPeer.{stores_in};
-    ghost use Rattle.rib_player.specs.Noted.{routed_in};
+    ghost use Rattle.rib_player.specs.Noted.{routed_marks};
 
     /// Adds `store`, which is taken to have no route yet, for `peer`. The store gets the next
     /// index, which is the number of stores before the call. Requires that `peer` has no store.
@@ -275,9 +275,9 @@ impl<S: Drop> Stores<S> {
         ensures added { OnOk result
             (IsUpdatedAt (stores_in self.old) (stores_in self.new) peer (Some store)) }
         ensures noted { OnOk result
-            (IsUpdatedAt (routed_in self.old) (routed_in self.new) peer (Some false)) }
+            (IsUpdatedAt (routed_marks self.old) (routed_marks self.new) peer (Some false)) }
         ensures refused { OnErr result (stores_in self.new ≡ stores_in self.old) }
-        ensures kept { OnErr result (routed_in self.new ≡ routed_in self.old) }
+        ensures kept { OnErr result (routed_marks self.new ≡ routed_marks self.old) }
     {
         self.held.reserve(1)?;
         self.names.reserve(1)?;
@@ -299,7 +299,7 @@ impl<S: Drop> Stores<S> {
     /// number (index) of the removed one, as in [`Vec::swap_remove`]. Allocates no memory.
     pub(crate) fn remove(&mut self, peer: &Peer)
         ensures stores { IsUpdatedAt (stores_in self.old) (stores_in self.new) peer.now None }
-        ensures routed { IsUpdatedAt (routed_in self.old) (routed_in self.new) peer.now None }
+        ensures routed { IsUpdatedAt (routed_marks self.old) (routed_marks self.new) peer.now None }
     {
         let Some(number) = self.order.remove(peer) else {
             return;

@@ -11,7 +11,7 @@ ghost use Rattle.mrt_events.specs.declared.peer.Peer.{Peer};
 ghost use Rattle.mrt_events.specs.Event.{peer_cmp};
 ghost use Rattle.rib_player.specs.History.{pair_of};
 ghost use Rattle.prefix_store.specs.Stored.{put, saturated_count};
-ghost use Rattle.rib_player.specs.Tables.{route_in, peer_routes};
+ghost use Rattle.rib_player.specs.Tables.{pointed_route, peer_routes};
 ghost use Rattle.rib_player.specs.StoresByPeer.{stores_of};
 ghost use Rattle.rib_player.specs.Lookups.{IsBest, counted_peers, pointed_routes, routes_above, routed_above, value_of};
 ghost use Rattle.rib_player.specs.Representation.{routed_stores, peer_count};
@@ -54,7 +54,7 @@ pub struct Table<S: PrefixStore<Rc<Route>>> {
 impl<S: PrefixStore<Rc<Route>>> Model for Table<S> {
     ghost use Rattle.rib_player.specs.Tables.{Contents, keys_in, routes_in};
     ghost use Rattle.rib_player.specs.StoresByPeer.{stores_in};
-    ghost use Rattle.rib_player.specs.Noted.{routed_in};
+    ghost use Rattle.rib_player.specs.Noted.{routed_marks};
     ghost use Rattle.rib_player.specs.Representation.{coded_contents, AreConsistentStores};
 
     ghost Value = { Contents };
@@ -66,7 +66,8 @@ impl<S: PrefixStore<Rc<Route>>> Model for Table<S> {
       routes = routes_in S.routes (stores_in a.stores);
     } };
 
-    ghost invariant = { λ a. AreConsistentStores S.keys S.routes (stores_in a.stores) (routed_in a.stores) };
+    ghost invariant = { λ a. AreConsistentStores S.keys S.routes (stores_in a.stores)
+        (routed_marks a.stores) };
 }
 
 impl<S: PrefixStore<Rc<Route>>> Table<S> {
@@ -105,8 +106,8 @@ impl<S: PrefixStore<Rc<Route>>> Table<S> {
     pub(crate) fn exchange(&mut self, pair: &Pair, hint: usize, route: &mut Option<Rc<Route>>)
         requires { set.contains self.old.keys pair.now ≡ true }
         ensures keys { self.new.keys ≡ self.old.keys }
-        ensures routes { self.new.routes ≡ put self.old.routes pair.now (route_in route.old) }
-        ensures taken_out { route_in route.new ≡ finite.get self.old.routes pair.now }
+        ensures routes { self.new.routes ≡ put self.old.routes pair.now (pointed_route route.old) }
+        ensures taken_out { pointed_route route.new ≡ finite.get self.old.routes pair.now }
     {
         let mut number = hint;
         let Some(store) = self.stores.get_mut(&mut number, &pair.peer) else {
@@ -131,8 +132,9 @@ impl<S: PrefixStore<Rc<Route>>> Table<S> {
         ensures keys { OnOk result (self.new.keys ≡ set.insert self.old.keys pair.now) }
         ensures made { IfOk result (λ made. made ≡ not (set.contains self.old.keys pair.now)) }
         ensures routes { OnOk result
-            (self.new.routes ≡ put self.old.routes pair.now (route_in route.old)) }
-        ensures taken_out { OnOk result (route_in route.new ≡ finite.get self.old.routes pair.now) }
+            (self.new.routes ≡ put self.old.routes pair.now (pointed_route route.old)) }
+        ensures taken_out { OnOk result (pointed_route route.new
+            ≡ finite.get self.old.routes pair.now) }
         ensures refused { OnErr result (self.new.keys ≡ self.old.keys) }
         ensures held { OnErr result (self.new.routes ≡ self.old.routes) }
         ensures kept { OnErr result (route.new ≡ route.old) }

@@ -65,7 +65,7 @@ impl<R: Drop> RadixStore<R> {
     /// visits: those whose prefixes contain the address, and at most one more. Requires that `met`
     /// is at most `u32::MAX` less 33 for an IPv4 address, or less 129 for IPv6, so that the sum
     /// doesn't overflow.
-    pub fn longest_counted(&self, addr: &Addr, met: &mut u32) -> Option<(Prefix, &R)>
+    pub fn longest_counting_nodes(&self, addr: &Addr, met: &mut u32) -> Option<(Prefix, &R)>
         requires { met.old + bit_count addr.now.family + 1 ≤ u32.MAX }
         ensures longest { IsLongestMatch self.now.routes addr.now
             (option_map (λ p. (p.0, p.1.now)) result) }
@@ -176,7 +176,7 @@ impl<R: Drop> PrefixStore<R> for RadixStore<R> {
 
     fn longest(&self, addr: &Addr) -> Option<(Prefix, &R)> {
         let mut met = 0;
-        self.longest_counted(addr, &mut met)
+        self.longest_counting_nodes(addr, &mut met)
     }
 
     fn after(&self, prefix: Option<&Prefix>) -> Option<(Prefix, &R)> {

@@ -50,7 +50,7 @@ impl CountsMet for RadixStore<u32> {
         if most > u64::from(u32::MAX) {
             return None;
         }
-        match self.longest_counted(addr, met) {
+        match self.longest_counting_nodes(addr, met) {
             Some(found) => Some((found.0, *found.1)),
             None => None,
         }

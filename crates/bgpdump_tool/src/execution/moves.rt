@@ -42,7 +42,8 @@ pub(crate) fn next<S: PrefixStore<Rc<Route>>, I: Input, O: Output, E: Output>(
     count: u32,
 ) -> Result<(), Outcome>
     requires room { HasRoom session.old.player session.old.source LONGEST_SCRIPT }
-    ensures carries_out { HoldsForRunStates I.left O.written E.written (ExecutesCommand (Next count))
+    ensures carries_out { HoldsForRunStates I.left O.written E.written
+        (ExecutesCommand (Next count))
         (session.old, input.old, out.old, err.old)
         (session.new, input.new, out.new, err.new) result }
     ensures room { (lost : ℕ) → HasRoom session.old.player session.old.source lost →
@@ -79,7 +80,8 @@ pub(crate) fn goto<S: PrefixStore<Rc<Route>>, I: Input, O: Output, E: Output>(
     position: u32,
 ) -> Result<(), Outcome>
     requires room { HasRoom session.old.player session.old.source LONGEST_SCRIPT }
-    ensures carries_out { HoldsForRunStates I.left O.written E.written (ExecutesCommand (Goto position))
+    ensures carries_out { HoldsForRunStates I.left O.written E.written
+        (ExecutesCommand (Goto position))
         (session.old, input.old, out.old, err.old)
         (session.new, input.new, out.new, err.new) result }
     ensures room { (lost : ℕ) → HasRoom session.old.player session.old.source lost →

@@ -9,7 +9,7 @@ ghost use Rattle.bgpdump_tool.specs.Replies.{longest_match, found_text, peer_lin
 
 use crate::replies::{write_labelled_numbers, write_none};
 use bgpdump_lines::{
-    Output, WriteFault, put_all, put_number_field, put_peer_fields, write_rib_line, write_rib_lines,
+    Output, WriteFault, put_all, put_peer_fields, put_u64_field, write_rib_line, write_rib_lines,
 };
 use ip_prefix::{Addr, Prefix, Text};
 use mrt_wire::{Peer, Route};
@@ -32,7 +32,8 @@ pub(crate) fn peers<S: PrefixStore<Rc<Route>>, O: Output>(
     out: &mut O,
     text: &mut Text,
 ) -> Result<(), WriteFault>
-    ensures text { PutsAllOrFront (O.written out.old) (O.written out.new) (peers_text table.now.routes)
+    ensures text { PutsAllOrFront (O.written out.old) (O.written out.new)
+        (peers_text table.now.routes)
         result }
     ensures failed { O.failed out.new ≡ (O.failed out.old || is_output_fault result) }
 {
@@ -51,7 +52,8 @@ fn write_peer_counts<O: Output>(
     out: &mut O,
     text: &mut Text,
 ) -> Result<(), WriteFault>
-    ensures text { PutsAllOrFront (O.written out.old) (O.written out.new) (peer_counts_text counts.now.entries)
+    ensures text { PutsAllOrFront (O.written out.old) (O.written out.new)
+        (peer_counts_text counts.now.entries)
         result }
     ensures failed { O.failed out.new ≡ (O.failed out.old || is_output_fault result) }
 {
@@ -73,7 +75,8 @@ fn write_each_peer<S: PrefixStore<Rc<Route>>, O: Output>(
     out: &mut O,
     text: &mut Text,
 ) -> Result<(), WriteFault>
-    ensures text { PutsAllOrFront (O.written out.old) (O.written out.new) (peers_text table.now.routes)
+    ensures text { PutsAllOrFront (O.written out.old) (O.written out.new)
+        (peers_text table.now.routes)
         result }
     ensures failed { O.failed out.new ≡ (O.failed out.old || is_output_fault result) }
 {
@@ -104,7 +107,7 @@ fn write_peer_line<O: Output>(
     text.clear();
     text.extend_from_slice(b"PEER")?;
     put_peer_fields(peer, text)?;
-    put_number_field(routes, text)?;
+    put_u64_field(routes, text)?;
     text.push(b'\n')?;
     put_all(out, text.as_slice())?;
     Ok(())

@@ -7,7 +7,7 @@ ghost use Rattle.std.specs.FinSet as set;
 ghost use Rattle.prefix_store.specs.Stored.{put};
 ghost use Rattle.rib_player.specs.Representation.{cleared_entry};
 ghost use Rattle.rib_player.specs.JournalState.{AreApplied};
-ghost use Rattle.rib_player.specs.Tables.{route_in};
+ghost use Rattle.rib_player.specs.Tables.{pointed_route};
 
 use crate::entry::{Entry, EntryRepr, RoutePresence};
 use crate::table::Table;
@@ -39,8 +39,9 @@ impl Entry {
         requires { set.contains table.old.keys self.old.pair ≡ true }
         ensures keys { table.new.keys ≡ table.old.keys }
         ensures routes { table.new.routes ≡
-            put table.old.routes self.old.pair (route_in self.old.other) }
-        ensures taken_out { route_in self.new.other ≡ finite.get table.old.routes self.old.pair }
+            put table.old.routes self.old.pair (pointed_route self.old.other) }
+        ensures taken_out { pointed_route self.new.other
+            ≡ finite.get table.old.routes self.old.pair }
         ensures pair { self.new.pair ≡ self.old.pair }
         ensures before { self.new.before ≡ self.old.before }
         ensures after { self.new.after ≡ self.old.after }

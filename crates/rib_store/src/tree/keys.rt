@@ -70,7 +70,8 @@ fn discard_leaf<K: PackedPrefix, R: Drop>(tree: &mut Tree<K, R>, prefix: K, key:
     ensures marked { HasCorrectMarks tree.new }
     ensures slots { IsUpdatedAt (at (shape_of K.network tree.old)) (way key.now) None
         (at (shape_of K.network tree.new)) }
-    ensures sides { (from : List Bool) (bit : Bool) → IsOnSide from bit (shape_of K.network tree.old)
+    ensures sides { (from : List Bool) (bit : Bool) →
+        IsOnSide from bit (shape_of K.network tree.old)
         → IsOnSide from bit (shape_of K.network tree.new) }
 {
     if let Turn::Here = prefix.turn(key) {
@@ -88,7 +89,8 @@ fn replace_by_only_child<K: PackedPrefix, R: Drop>(tree: &mut Tree<K, R>)
     ensures marked { HasCorrectMarks tree.new }
     ensures slots { (q : List Bool) → at (shape_of K.network tree.new) q
         ≡ at (shape_of K.network tree.old) q }
-    ensures sides { (from : List Bool) (bit : Bool) → IsOnSide from bit (shape_of K.network tree.old)
+    ensures sides { (from : List Bool) (bit : Bool) →
+        IsOnSide from bit (shape_of K.network tree.old)
         → IsOnSide from bit (shape_of K.network tree.new) }
 {
     match tree {

@@ -138,7 +138,8 @@ impl<K: PackedPrefix, R> Tree<K, R> {
     pub(crate) fn after(&self, low: &Prefix) -> Option<(Prefix, &R)>
         requires { HasCorrectMarks self.now }
         ensures { MatchOption result (first_after (shape_of K.network self.now) low.now ≡ None)
-            (λ found. first_after (shape_of K.network self.now) low.now ≡ Some (found.0, found.1.now)) }
+            (λ found. first_after (shape_of K.network self.now) low.now
+            ≡ Some (found.0, found.1.now)) }
     {
         match self {
             Tree::Empty | Tree::Bare(_) => None,

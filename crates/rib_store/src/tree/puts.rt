@@ -63,7 +63,7 @@ impl<K: PackedPrefix, R: Drop> Tree<K, R> {
                         }
                         put_and_update_mark(routed, &mut node.right, alloc, key, route)
                     }
-                    _ => put_at_root(self, alloc, key, route),
+                    _ => put_without_descent(self, alloc, key, route),
                 }
             }
             Tree::Forked(routed, prefix, fork) => {
@@ -81,10 +81,10 @@ impl<K: PackedPrefix, R: Drop> Tree<K, R> {
                         }
                         put_and_update_mark(routed, &mut fork.right, alloc, key, route)
                     }
-                    _ => put_at_root(self, alloc, key, route),
+                    _ => put_without_descent(self, alloc, key, route),
                 }
             }
-            _ => put_at_root(self, alloc, key, route),
+            _ => put_without_descent(self, alloc, key, route),
         }
     }
 }
@@ -131,7 +131,7 @@ fn put_and_update_mark<K: PackedPrefix, R: Drop>(
 /// doesn't cover `key`. Makes the nodes that a new prefix needs. Returns `true` if the tree didn't
 /// keep `key` before. Fails if memory allocation fails; the tree and `route` are unchanged then.
 #[inline(never)]
-fn put_at_root<K: PackedPrefix, R: Drop>(
+fn put_without_descent<K: PackedPrefix, R: Drop>(
     tree: &mut Tree<K, R>,
     alloc: Global,
     key: &Prefix,
@@ -173,7 +173,7 @@ fn put_at_root<K: PackedPrefix, R: Drop>(
             let node = &mut **node;
             let brought = route.is_some();
             match prefix.turn(key) {
-                Turn::Outside => insert_outside(tree, &prefix.unpack(), alloc, key, route),
+                Turn::Outside => insert_above_root(tree, &prefix.unpack(), alloc, key, route),
                 Turn::Here => {
                     let made = node.slot.put(route);
                     *routed = node.has_routes();
@@ -185,7 +185,7 @@ fn put_at_root<K: PackedPrefix, R: Drop>(
         Tree::Forked(_, prefix, _) => {
             let prefix = *prefix;
             match prefix.turn(key) {
-                Turn::Outside => insert_outside(tree, &prefix.unpack(), alloc, key, route),
+                Turn::Outside => insert_above_root(tree, &prefix.unpack(), alloc, key, route),
                 Turn::Here => make_fork_a_key(tree, prefix, alloc, route),
                 _ => unreachable!(),
             }
@@ -199,7 +199,7 @@ fn put_at_root<K: PackedPrefix, R: Drop>(
 /// prefix the tree doesn't keep) above both. Leaves `None` in `route`, and returns `true`, for
 /// callers that return whether `key` is new. Fails if memory allocation fails; the tree and `route`
 /// are unchanged then.
-fn insert_outside<K: PackedPrefix, R: Drop>(
+fn insert_above_root<K: PackedPrefix, R: Drop>(
     tree: &mut Tree<K, R>,
     prefix: &Prefix,
     alloc: Global,
@@ -307,7 +307,7 @@ fn put_at_leaf<K: PackedPrefix, R: Drop>(
 {
     let side = prefix.turn(key);
     match side {
-        Turn::Outside => insert_outside(tree, &prefix.unpack(), alloc, key, route),
+        Turn::Outside => insert_above_root(tree, &prefix.unpack(), alloc, key, route),
         Turn::Here => {
             exchange_leaf(tree, prefix, route);
             Ok(false)

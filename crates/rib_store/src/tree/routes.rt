@@ -24,7 +24,8 @@ impl<K: PackedPrefix, R: Drop> Tree<K, R> {
         requires key { IsSome (at (shape_of K.network self.old) (way key.now)) }
         ensures shaped { IsRadixTree (shape_of K.network self.new) }
         ensures marked { HasCorrectMarks self.new }
-        ensures slots { IsUpdatedAt (at (shape_of K.network self.old)) (way key.now) (Some route.old)
+        ensures slots { IsUpdatedAt (at (shape_of K.network self.old)) (way key.now)
+            (Some route.old)
             (at (shape_of K.network self.new)) }
         ensures taken_out { at (shape_of K.network self.old) (way key.now) ≡ Some route.new }
         ensures brought { is_some route.old ≡ true → has_routes self.new ≡ true }

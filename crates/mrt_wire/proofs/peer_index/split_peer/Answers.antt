@@ -6,7 +6,7 @@ use Rattle.mrt_events.specs.declared.peer.Peer.{Peer}
 use Rattle.mrt_wire.specs.declared.fields.ValueAndRest.{ValueAndRest}
 use Rattle.mrt_wire.specs.Fields.{SpellsOctet, AreOctets, SpellsPeerOf}
 use Rattle.mrt_wire.specs.Decoding.{FindsValue}
-use Rattle.mrt_wire.specs.Rib.{peer_family, peer_width, SpellsPeer, SpellsPeerFields}
+use Rattle.mrt_wire.specs.Rib.{peer_family, peer_as_width, SpellsPeer, SpellsPeerFields}
 use Rattle.mrt_wire.proofs.FieldFronts.{octet_front, octets_front}
 use Rattle.mrt_wire.proofs.PeerIndexLaws.{no_peer}
 use Rattle.mrt_wire.proofs.peer_index.split_peer.Goals as goal
@@ -22,7 +22,7 @@ returns-in_err-after_id c =
 
 -- behind the type and the ID stands a peer of that type, or none
 behind : (kind : ℕ) (id after_kind after octets : List ℕ) (found : Option (ValueAndRest Peer)) → Begins SpellsOctet kind after_kind octets → Begins (AreOctets ID_SIZE) id after after_kind
-    → FindsValue (SpellsPeerOf (peer_family kind) (peer_width kind)) after found → FindsValue SpellsPeer octets found
+    → FindsValue (SpellsPeerOf (peer_family kind) (peer_as_width kind)) after found → FindsValue SpellsPeer octets found
 behind kind id after_kind after octets None first second none =
     no_peer octets (none_second _ _ octet_front kind after_kind octets first (none_second _ _ (octets_front ID_SIZE) id after after_kind second none))
 behind kind id after_kind after octets (Some peer) first second found =
@@ -35,4 +35,4 @@ returns c =
     let kind = c.in_ok-kind.kind in
     let id = c.in_ok-after_id.ensures.some in
     behind kind.value id.0 kind.rest.now c.in_ok-after_id.after_id.now c.args.octets.now c.split_address_and_asn.result c.in_ok-kind.ensures id.1
-    (rw (c.peer_family-family.ensures, c.peer_width-width.ensures) at c.split_address_and_asn.ensures)
+    (rw (c.peer_family-family.ensures, c.peer_as_width-width.ensures) at c.split_address_and_asn.ensures)

@@ -3,7 +3,7 @@ use Rattle.std.specs.FinMap as finite
 use Rattle.std.specs.FinSet as set
 use Rattle.rib_player.specs.declared.pair.Pair.{Pair}
 use Rattle.rib_player.specs.Claims.{one_if, claims_beyond, held_claims}
-use Rattle.rib_player.specs.Tables.{route_in}
+use Rattle.rib_player.specs.Tables.{pointed_route}
 use Rattle.rib_player.specs.Journal.{side_of}
 use Rattle.rib_player.specs.Sides.{Mark, mark_of}
 use Rattle.prefix_store.specs.Stored.{put}
@@ -91,9 +91,9 @@ returns-in-Err-clause-kept g c =
     let routes = c.args.table.now.routes in
     let p = c.args.entry.now.pair in
     c.exchange.ensures.routes
-    ∙ ap₂ (λ r q. put r q (route_in c.put.new.self.other)) c.in_ok-made.ensures.put.routes c.in_ok-made.ensures.pair
-    ∙ ap (λ l. put (put routes p (route_in c.args.entry.now.other)) p (get_or l 0 (side_of c.put.new.self)).1) c.in_ok-made.ensures.put.sides
-    ∙ routes_across-sides_across ((p, route_in c.args.entry.now.other) ∷ []) routes
+    ∙ ap₂ (λ r q. put r q (pointed_route c.put.new.self.other)) c.in_ok-made.ensures.put.routes c.in_ok-made.ensures.pair
+    ∙ ap (λ l. put (put routes p (pointed_route c.args.entry.now.other)) p (get_or l 0 (side_of c.put.new.self)).1) c.in_ok-made.ensures.put.sides
+    ∙ routes_across-sides_across ((p, pointed_route c.args.entry.now.other) ∷ []) routes
 
 pub returns-clause-held : goal.returns-clause-held
 returns-clause-held g c =

@@ -2,7 +2,7 @@ use Rattle.std.proofs.Common.{◌≡◌, ℕ, ◌+◌, take, true, false, ◌||�
 use Rattle.std.specs.FinMap as finite
 use Rattle.std.specs.FinSet as set
 use Rattle.rib_player.specs.declared.pair.Pair.{Pair}
-use Rattle.rib_player.specs.Claims.{one_if, claims_beyond, held_claims, AreHeld}
+use Rattle.rib_player.specs.Claims.{one_if, claims_beyond, held_claims, OnlyKeysHaveExtraClaims}
 use Rattle.rib_player.specs.declared.claims.ExtraClaims.{ExtraClaims}
 use Rattle.rib_player.specs.Tables.{Contents}
 use Rattle.std.proofs.Math.Bool.{or-false}
@@ -80,8 +80,8 @@ entries-preserved g c =
     → held_claims c.if-releases_claim.table.keys (claims_beyond c.if-releases_claim.claims) q + one_if (any_releases_claim_of end (marks_of (take (c.entries.entry-index + 1) c.args.entries.now)) q)
     ≡ held_claims t.keys (claims_beyond k) q + one_if (any_releases_claim_of end (marks_of (take (c.entries.entry-index + 1) c.args.entries.now)) q) =
     λ t k is is' q. ap₂ (λ (t : Contents) (k : ExtraClaims). held_claims t.keys (claims_beyond k) q + one_if (any_releases_claim_of end (marks_of (take (c.entries.entry-index + 1) c.args.entries.now)) q)) is is' in
-    let held : (t : Contents) (k : ExtraClaims) → c.if-releases_claim.table ≡ t → c.if-releases_claim.claims ≡ k → AreHeld t.keys (claims_beyond k) → AreHeld c.if-releases_claim.table.keys (claims_beyond c.if-releases_claim.claims) =
-    λ t k is is' h. subst (λ t. AreHeld t.keys (claims_beyond c.if-releases_claim.claims)) (sym is) (subst (λ k. AreHeld t.keys (claims_beyond k)) (sym is') h) in
+    let held : (t : Contents) (k : ExtraClaims) → c.if-releases_claim.table ≡ t → c.if-releases_claim.claims ≡ k → OnlyKeysHaveExtraClaims t.keys (claims_beyond k) → OnlyKeysHaveExtraClaims c.if-releases_claim.table.keys (claims_beyond c.if-releases_claim.claims) =
+    λ t k is is' h. subst (λ t. OnlyKeysHaveExtraClaims t.keys (claims_beyond c.if-releases_claim.claims)) (sym is) (subst (λ k. OnlyKeysHaveExtraClaims t.keys (claims_beyond k)) (sym is') h) in
     elim c.if-releases_claim.branch [
       | then-releases_claim+then-not-try_decrement w ↦
           let gives = sym c.releases_claim.ensures ∙ w.if-releases_claim.true in

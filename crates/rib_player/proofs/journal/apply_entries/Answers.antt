@@ -9,7 +9,7 @@ use Rattle.rib_player.specs.declared.entry.JournalEnd.TheVariants.{Last}
 use Rattle.prefix_store.specs.Stored.{put}
 use Rattle.rib_player.specs.Claims.{one_if, claims_beyond, held_claims}
 use Rattle.rib_player.specs.Entries.{Entry}
-use Rattle.rib_player.specs.Tables.{route_in}
+use Rattle.rib_player.specs.Tables.{pointed_route}
 use Rattle.rib_player.specs.Journal.{Side, side_of, sides_of, pairs_in, routes_across}
 use Rattle.rib_player.specs.Sides.{sides_across, Mark, mark_of, marks_of, marks_across, releases_claim, any_releases_claim_of}
 use Rattle.rib_player.proofs.PairLaws.{same_pair}
@@ -151,7 +151,7 @@ entries-preserved g c =
     let marks_more : marks_of (take (made + 1) (set entries made new)) ≡ marks ++ mark_of new ∷ [] = marks-more entries made new within in
     let mark : Side → Mark = λ side. record { pair = side.0; before = is_some (finite.get routes side.0); after = is_some side.1 } in
     let mark_is : mark_of new ≡ mark (side_of old) =
-    ap (λ l. get_or l 0 (mark_of new)) said.put.marks ∙ (λ k. record { pair = old.pair; before = is_some (same_route g b k); after = is_some (route_in old.other) }) in
+    ap (λ l. get_or l 0 (mark_of new)) said.put.marks ∙ (λ k. record { pair = old.pair; before = is_some (same_route g b k); after = is_some (pointed_route old.other) }) in
     record {
       within = omega (arith, length-set entries made new);
       unchanged = drop-set-lt (made + 1) entries made new (omega arith) ∙ sym (drop-drop 1 made entries) ∙ ap (drop 1) known.unchanged ∙ drop-drop 1 made first;
@@ -161,7 +161,7 @@ entries-preserved g c =
           (all-then (λ p. names.contains c.entries.table.keys p ≡ true) (λ p. names.contains c.apply_entry.new.table.keys p ≡ true) (pairs_in sides)
           (λ q. still-inserted c.entries.table.keys c.apply_entry.new.table.keys old.pair q said.keys) known.keys)
           (inserted c.entries.table.keys c.apply_entry.new.table.keys old.pair said.keys)));
-      among = put-among c.entries.table.keys c.apply_entry.new.table.keys c.entries.table.routes c.apply_entry.new.table.routes old.pair (route_in old.other) said.keys said.put.routes known.among;
+      among = put-among c.entries.table.keys c.apply_entry.new.table.keys c.entries.table.routes c.apply_entry.new.table.routes old.pair (pointed_route old.other) said.keys said.put.routes known.among;
       held = said.held;
       claimed = λ q.
           let one = ap (λ ms. one_if (any_releases_claim_of Last ms q)) marks_more ∙ ap one_if (any_releases_claim_of-push Last marks (mark_of new) q)
@@ -169,7 +169,7 @@ entries-preserved g c =
           omega (arith, one, said.claimed q, known.claimed q);
       marks = marks_more ∙ ap₂ (λ (ms : List Mark) (m : Mark). ms ++ m ∷ []) known.marks mark_is
           ∙ sym (map-append mark sides (side_of old ∷ [])) ∙ sym (ap (marks_across routes) sides_more);
-      routes = said.put.routes ∙ ap (λ r. put r old.pair (route_in old.other)) known.routes ∙ sym (routes_across-push sides (side_of old) routes)
+      routes = said.put.routes ∙ ap (λ r. put r old.pair (pointed_route old.other)) known.routes ∙ sym (routes_across-push sides (side_of old) routes)
           ∙ sym (ap (λ s. routes_across s routes) sides_more);
       crossed = ap sides_of (take_more_set entries made new within) ∙ map-append side_of (take made entries) (new ∷ [])
           ∙ ap₂ (λ (s : List Side) (t : Side). s ++ t ∷ []) known.crossed (side_is ∙ ap (λ r. (old.pair, r)) (same_route g b))

@@ -1,7 +1,7 @@
 use Rattle.std.proofs.Common.{◌≡◌, ◌+◌, ◌-◌, ◌≤◌, true, length, take, drop}
 use Rattle.rib_player.specs.declared.pair.Pair.{Pair}
 use Rattle.rib_player.specs.declared.entry.JournalEnd.TheVariants.{Last}
-use Rattle.rib_player.specs.Claims.{one_if, claims_beyond, held_claims, AreHeld}
+use Rattle.rib_player.specs.Claims.{one_if, claims_beyond, held_claims, OnlyKeysHaveExtraClaims}
 use Rattle.std.specs.List.{AllByRecursion}
 use Rattle.std.specs.FinSet.{contains}
 use Rattle.prefix_store.specs.Stored.{ContainsDomain}
@@ -16,7 +16,7 @@ invariant-entries g l = record {
   unchanged : drop l.made l.entries ≡ drop l.made l.fn.entries;
   keys : AllByRecursion (λ p. contains l.table.keys p ≡ true) (pairs_in (sides_of (take l.made l.fn.entries)));
   among : ContainsDomain l.table.keys l.table.routes;
-  held : AreHeld l.table.keys (claims_beyond l.claims);
+  held : OnlyKeysHaveExtraClaims l.table.keys (claims_beyond l.claims);
   claimed : (q : Pair) → held_claims l.table.keys (claims_beyond l.claims) q
       ≡ held_claims l.fn.table.keys (claims_beyond l.fn.claims) q + one_if (any_releases_claim_of Last (marks_of (take l.made l.entries)) q);
   marks : marks_of (take l.made l.entries) ≡ marks_across l.fn.table.routes (sides_of (take l.made l.fn.entries));

@@ -1,6 +1,6 @@
 use Rattle.std.proofs.Common.{◌≡◌, [], ap, ap₂, sym, subst, ◌∙◌, set}
 use Rattle.std.proofs.lemmas.List.{get_or-map, map-set, with_items_is, set-get_or}
-use Rattle.rib_player.specs.Journal.{sides_of, steps_of, step_sides, routes_across}
+use Rattle.rib_player.specs.Journal.{sides_of, sides_by_step, step_sides, routes_across}
 use Rattle.rib_player.specs.Sides.{sides_at, sides_across, AreDistinctKeys, marks_of, step_marks, marks_by_step}
 use Rattle.rib_player.specs.Tables.{Contents}
 use Rattle.rib_player.proofs.journal.apply_or_undo_step.Goals as goal
@@ -8,7 +8,7 @@ use Rattle.rib_player.proofs.journal.apply_or_undo_step.Given.{Over}
 use Rattle.rib_player.proofs.journal.apply_or_undo_step.Goals.{After-as_mut_slice}
 
 -- the entries that are crossed
-at_index : (g : Over) (c : After-as_mut_slice g) → sides_at (steps_of c.args.steps.now.items) c.args.index ≡ sides_of c.as_mut_slice.result.now
+at_index : (g : Over) (c : After-as_mut_slice g) → sides_at (sides_by_step c.args.steps.now.items) c.args.index ≡ sides_of c.as_mut_slice.result.now
 at_index g c =
     get_or-map step_sides c.args.steps.now.items c.args.index c.index_mut-step.result.now _ c.requires.within
     ∙ ap step_sides (sym c.index_mut-step.ensures.value)
@@ -29,7 +29,7 @@ returns g c =
       keys = c.swap_routes.ensures.keys ∙ ap (λ (t : Contents). t.keys) c.add_prefetched_nodes.ensures;
       routes = c.swap_routes.ensures.routes ∙ ap₂ routes_across (sym there) routes;
       sides = map-set step_sides steps c.args.index _
-          ∙ ap (set (steps_of steps) c.args.index) (ap sides_of items ∙ c.swap_routes.ensures.entries ∙ ap₂ sides_across routes (sym there));
+          ∙ ap (set (sides_by_step steps) c.args.index) (ap sides_of items ∙ c.swap_routes.ensures.entries ∙ ap₂ sides_across routes (sym there));
       marks = map-set step_marks steps c.args.index _
           ∙ ap (set (marks_by_step steps) c.args.index)
           (ap marks_of items ∙ c.swap_routes.ensures.marks ∙ ap marks_of c.as_mut_slice.ensures.value ∙ ap step_marks c.index_mut-step.ensures.value

@@ -2,7 +2,7 @@ use Rattle.std.proofs.Common.{◌≡◌, ◌+◌, ◌≤◌, List, [], ◌∷◌
 use Rattle.std.specs.List.{AllByRecursion, IsDistinct}
 use Rattle.std.proofs.lemmas.List.{take-append-le, take_all, take-take, length_push, length-map, map-append}
 use Rattle.rib_player.specs.Claims.{claims_beyond, held_claims}
-use Rattle.rib_player.specs.Journal.{Side, sides_of, pairs_in, steps_of, step_sides}
+use Rattle.rib_player.specs.Journal.{Side, sides_of, pairs_in, sides_by_step, step_sides}
 use Rattle.rib_player.specs.Sides.{AreDistinct, marks_of, marks_by_step, step_marks}
 use Rattle.rib_player.specs.JournalState.{AreClaimed, CanDrop}
 use Rattle.rib_player.proofs.MarkLaws.{tied, all-front, all-last, marked-length}
@@ -23,8 +23,8 @@ marks-split g c =
 left : (g : Over) (c : After-deref g) → c.args.cursor ≤ length c.pop_back.new.self.items
 left g c = omega (arith, ap length (split g c), length_push c.pop_back.new.self.items c.in-Some.step, c.len.ensures)
 
-all-distinct : (g : Over) (c : After-deref g) → AllByRecursion AreDistinct (steps_of c.pop_back.new.self.items ++ step_sides c.in-Some.step ∷ [])
-all-distinct g c = subst (AllByRecursion AreDistinct) (ap steps_of (split g c) ∙ map-append step_sides c.pop_back.new.self.items (c.in-Some.step ∷ [])) c.steps.invariant.distinct
+all-distinct : (g : Over) (c : After-deref g) → AllByRecursion AreDistinct (sides_by_step c.pop_back.new.self.items ++ step_sides c.in-Some.step ∷ [])
+all-distinct g c = subst (AllByRecursion AreDistinct) (ap sides_by_step (split g c) ∙ map-append step_sides c.pop_back.new.self.items (c.in-Some.step ∷ [])) c.steps.invariant.distinct
 
 can : (g : Over) (c : After-deref g)
     → CanDrop (marks_by_step c.pop_back.new.self.items ++ marks_of c.deref.result.now ∷ []) c.args.cursor (held_claims c.steps.table.keys (claims_beyond c.steps.claims)) c.steps.table.routes
@@ -34,7 +34,7 @@ pub release_claims-requires-clause-distinct : goal.release_claims-requires-claus
 release_claims-requires-clause-distinct g c =
     let b = (goal.at.release_claims-requires-clause-distinct g c).After-deref in
     subst (λ es. IsDistinct tied (pairs_in (sides_of es))) (sym c.deref.ensures.value)
-    (all-last (λ (sides : List Side). IsDistinct tied (pairs_in sides)) (steps_of c.pop_back.new.self.items) (step_sides c.in-Some.step) (all-distinct g b))
+    (all-last (λ (sides : List Side). IsDistinct tied (pairs_in sides)) (sides_by_step c.pop_back.new.self.items) (step_sides c.in-Some.step) (all-distinct g b))
 
 pub release_claims-requires-clause-keys : goal.release_claims-requires-clause-keys
 release_claims-requires-clause-keys g c =
@@ -72,7 +72,7 @@ steps-preserved-in-Some g c =
     let many : length marks ≡ length steps = length-map steps step_marks in
     record {
       within = left g b;
-      distinct = all-front (λ (sides : List Side). IsDistinct tied (pairs_in sides)) (steps_of steps) (step_sides c.in-Some.step) (all-distinct g b);
+      distinct = all-front (λ (sides : List Side). IsDistinct tied (pairs_in sides)) (sides_by_step steps) (step_sides c.in-Some.step) (all-distinct g b);
       held = c.release_claims.ensures.held;
       can = can-dropped marks gone count now c.args.cursor c.steps.table.routes c.release_claims.new.table.routes (omega (arith, left g b, many)) c.release_claims.ensures.routes c.release_claims.ensures.claimed (can g b);
       claimed = λ tables new are.

@@ -6,7 +6,7 @@ use Rattle.rib_player.specs.declared.entry.JournalEnd.TheVariants.{First}
 use Rattle.rib_player.specs.Claims.{one_if, claims_beyond, held_claims}
 use Rattle.rib_player.specs.JournalState.{IsConsistentJournal}
 use Rattle.rib_player.specs.Timeline.{without_first}
-use Rattle.rib_player.specs.Journal.{step_sides, steps_of, timeline_of}
+use Rattle.rib_player.specs.Journal.{step_sides, sides_by_step, timeline_of}
 use Rattle.rib_player.specs.Sides.{marks_of, any_releases_claim_of}
 use Rattle.rib_player.proofs.ForgetLaws.{timeline-forgotten}
 use Rattle.rib_player.proofs.PlayedLaws.{forgotten-keys, forgotten-free, forgotten-played}
@@ -51,7 +51,7 @@ pub returns-in-Some : goal.returns-in-Some
 returns-in-Some g c =
     let b = (goal.at.returns-in-Some g c).After-deref in
     let journal = c.self.inside.journal in
-    ap (timeline_of (journal.floor + 1) (journal.cursor - 1) (steps_of c.pop_front.new.self.items)) c.release_claims.ensures.routes
-    ∙ timeline-forgotten journal.floor (journal.cursor - 1) (step_sides c.in-Some.step) (steps_of c.pop_front.new.self.items) c.self.inside.table.routes
-    ∙ ap₂ (λ n steps. without_first 1 (timeline_of journal.floor n (steps_of steps) c.self.inside.table.routes)) (sym (before g b)) (sym (split g b))
+    ap (timeline_of (journal.floor + 1) (journal.cursor - 1) (sides_by_step c.pop_front.new.self.items)) c.release_claims.ensures.routes
+    ∙ timeline-forgotten journal.floor (journal.cursor - 1) (step_sides c.in-Some.step) (sides_by_step c.pop_front.new.self.items) c.self.inside.table.routes
+    ∙ ap₂ (λ n steps. without_first 1 (timeline_of journal.floor n (sides_by_step steps) c.self.inside.table.routes)) (sym (before g b)) (sym (split g b))
     ∙ ap (without_first 1) c.self.view_is

@@ -7,7 +7,7 @@ use Rattle.rib_player.specs.declared.entry.Step.{Step}
 use Rattle.rib_player.specs.declared.entry.JournalEnd.TheVariants.{Last}
 use Rattle.rib_player.specs.Timeline.{after_play}
 use Rattle.rib_player.specs.Claims.{one_if, claims_beyond, held_claims}
-use Rattle.rib_player.specs.Journal.{sides_of, steps_of, timeline_of}
+use Rattle.rib_player.specs.Journal.{sides_of, sides_by_step, timeline_of}
 use Rattle.rib_player.specs.Sides.{IsStepFor, marks_of, marks_by_step, step_marks, any_releases_claim_of}
 use Rattle.rib_player.specs.JournalState.{IsConsistentJournal, AreClaimed, CanDrop}
 use Rattle.rib_player.proofs.PlayedLaws.{tables-played, played-few, played-among, step-named, can-play, after_play-on, played-on}
@@ -58,8 +58,8 @@ drop_steps_ahead-requires-clause-claimed g c =
 abbrev new : (g : Over) (c : After-push_back_reserved g) → Step
 new g c = record { entries = with_items c.in_ok-entries.entries c.apply_entries.new.entries }
 
-with_lost_entries : (g : Over) (c : After-push_back_reserved g) → (new g c).entries.items ≡ c.apply_entries.new.entries
-with_lost_entries g c = with_items_is c.in_ok-entries.entries c.apply_entries.new.entries (c.apply_entries.auto.entries ∙ c.as_mut_slice.ensures.len)
+all_entries_of_event : (g : Over) (c : After-push_back_reserved g) → (new g c).entries.items ≡ c.apply_entries.new.entries
+all_entries_of_event g c = with_items_is c.in_ok-entries.entries c.apply_entries.new.entries (c.apply_entries.auto.entries ∙ c.as_mut_slice.ensures.len)
 
 -- the steps before the cursor are left
 left : (g : Over) (c : After-push_back_reserved g) → c.drop_steps_ahead.new.steps.items ≡ take c.self.inside.journal.cursor c.self.inside.journal.steps.items
@@ -80,7 +80,7 @@ claimed_then g c =
     let before = held_claims c.apply_entries.new.table.keys (claims_beyond c.apply_entries.new.claims) in
     let marks = marks_by_step c.drop_steps_ahead.new.steps.items in
     let one : List Entry → Pair → ℕ = λ es q. one_if (any_releases_claim_of Last (marks_of es) q) in
-    subst (λ es. AreClaimed marks now (take (journal.cursor + 1) tables) (one es)) (sym (with_lost_entries g c))
+    subst (λ es. AreClaimed marks now (take (journal.cursor + 1) tables) (one es)) (sym (all_entries_of_event g c))
     (c.drop_steps_ahead.ensures.claimed tables (one c.apply_entries.new.entries)
     (subst (λ ss. AreClaimed (marks_by_step ss) before tables (one c.apply_entries.new.entries)) (sym c.in_ok-reserve_step.ensures.steps)
     (record {
@@ -90,12 +90,12 @@ claimed_then g c =
 
 -- the event's step stands behind the cursor
 then : (g : Over) (c : After-push_back_reserved g) (floor : ℕ)
-    → timeline_of floor (c.self.inside.journal.cursor + 1) (steps_of c.push_back_reserved.new.self.items) c.drop_steps_ahead.new.table.routes
-    ≡ after_play (timeline_of floor c.self.inside.journal.cursor (steps_of c.self.inside.journal.steps.items) c.self.inside.table.routes) c.args.event.now
+    → timeline_of floor (c.self.inside.journal.cursor + 1) (sides_by_step c.push_back_reserved.new.self.items) c.drop_steps_ahead.new.table.routes
+    ≡ after_play (timeline_of floor c.self.inside.journal.cursor (sides_by_step c.self.inside.journal.steps.items) c.self.inside.table.routes) c.args.event.now
 then g c floor =
-    ap (λ items. timeline_of floor (c.self.inside.journal.cursor + 1) (steps_of items) c.drop_steps_ahead.new.table.routes) c.push_back_reserved.ensures.items
+    ap (λ items. timeline_of floor (c.self.inside.journal.cursor + 1) (sides_by_step items) c.drop_steps_ahead.new.table.routes) c.push_back_reserved.ensures.items
     ∙ after_play-on c.self.invariant.played (step_then g c) c.drop_steps_ahead.new.table (claims_beyond c.drop_steps_ahead.new.claims) c.drop_steps_ahead.new.steps.items (new g c) (left g c)
-    (c.drop_steps_ahead.ensures.routes ∙ c.in_ok-apply_entries.ensures.put.routes) (ap sides_of (with_lost_entries g c) ∙ c.in_ok-apply_entries.ensures.put.sides) floor
+    (c.drop_steps_ahead.ensures.routes ∙ c.in_ok-apply_entries.ensures.put.routes) (ap sides_of (all_entries_of_event g c) ∙ c.in_ok-apply_entries.ensures.put.sides) floor
 
 pub invariant_of-self-2 : goal.invariant_of-self-2
 invariant_of-self-2 g c =
@@ -103,8 +103,8 @@ invariant_of-self-2 g c =
     record {
       played = subst (IsConsistentJournal c.drop_steps_ahead.new.table (claims_beyond c.drop_steps_ahead.new.claims) (c.self.inside.journal.cursor + 1)) (sym c.push_back_reserved.ensures.items)
           (played-on c.self.invariant.played (step_then g b) c.drop_steps_ahead.new.table (claims_beyond c.drop_steps_ahead.new.claims) c.drop_steps_ahead.new.steps.items (new g b) (left g b)
-          (c.drop_steps_ahead.ensures.routes ∙ c.in_ok-apply_entries.ensures.put.routes) (ap sides_of (with_lost_entries g b) ∙ c.in_ok-apply_entries.ensures.put.sides)
-          (ap marks_of (with_lost_entries g b) ∙ c.in_ok-apply_entries.ensures.put.marks) c.drop_steps_ahead.ensures.held (claimed_then g b));
+          (c.drop_steps_ahead.ensures.routes ∙ c.in_ok-apply_entries.ensures.put.routes) (ap sides_of (all_entries_of_event g b) ∙ c.in_ok-apply_entries.ensures.put.sides)
+          (ap marks_of (all_entries_of_event g b) ∙ c.in_ok-apply_entries.ensures.put.marks) c.drop_steps_ahead.ensures.held (claimed_then g b));
       saturated_count = omega (
         arith,
         c.requires,

@@ -1,7 +1,7 @@
 use Rattle.std.proofs.Common.{◌+◌, refl, ap, ap₂, ◌∙◌, arith}
 use Rattle.std.proofs.lemmas.List.{length-map}
 use Rattle.rib_player.specs.Timeline.{after_redo}
-use Rattle.rib_player.specs.Journal.{step_sides, steps_of, timeline_of}
+use Rattle.rib_player.specs.Journal.{step_sides, sides_by_step, timeline_of}
 use Rattle.rib_player.proofs.PlayedLaws.{played-kept, redone-played, length-crossed}
 use Rattle.rib_player.proofs.CursorLaws.{timeline-after_redo}
 use Rattle.rib_player.proofs.player.Player.redo.Goals as goal
@@ -21,4 +21,4 @@ pub returns-clause-after_redo : goal.returns-clause-after_redo
 returns-clause-after_redo g c =
     let journal = c.self.inside.journal in
     ap₂ (timeline_of journal.floor (journal.cursor + 1)) c.apply_or_undo_step.ensures.sides c.apply_or_undo_step.ensures.routes
-    ∙ timeline-after_redo journal.floor journal.cursor (steps_of journal.steps.items) c.self.inside.table.routes (omega (arith, c.self.invariant.played.within, journal.steps.ok.0, length-map journal.steps.items step_sides)) ∙ ap after_redo c.self.view_is
+    ∙ timeline-after_redo journal.floor journal.cursor (sides_by_step journal.steps.items) c.self.inside.table.routes (omega (arith, c.self.invariant.played.within, journal.steps.ok.0, length-map journal.steps.items step_sides)) ∙ ap after_redo c.self.view_is

@@ -2,7 +2,7 @@ use Rattle.std.proofs.Common.{refl, Some, sym, ap, ◌∙◌, arith}
 use Rattle.std.specs.Option.{option_copied_mut}
 use Rattle.std.specs.FinSet as set
 use Rattle.rib_player.specs.StoresByPeer.{stores_in}
-use Rattle.rib_player.specs.Noted.{routed_in}
+use Rattle.rib_player.specs.Noted.{routed_marks}
 use Rattle.rib_player.specs.Lent.{IsLent}
 use Rattle.rib_player.proofs.StoreLaws.{IsStored, AreNoted, stored-lent, when_some, noted-other, noted-kept, key-has-store, contains-found, get-found, no_value, held-other, held-gone, keys-less, keys-gone, routes-kept, routes-gone}
 use Rattle.rib_player.proofs.table.Table.discard.Given.{Over}
@@ -28,7 +28,7 @@ there : (g : Over) (c : After-discard g) → IsStored (stores_in c.self.inside.s
 there g c =
     stored-lent c.self.inside.stores (c.get_mut.follows.lender c.discard.new.self) c.get_mut.result c.in-Some.store c.in-Some.is c.get_mut.ensures.value (c.get_mut.follows.holds c.discard.new.self)
 
-noted : (g : Over) (c : After-discard g) → AreNoted g.S.PrefixStore.routes (stores_in (c.get_mut.follows.lender c.discard.new.self)) (routed_in (c.get_mut.follows.lender c.discard.new.self))
+noted : (g : Over) (c : After-discard g) → AreNoted g.S.PrefixStore.routes (stores_in (c.get_mut.follows.lender c.discard.new.self)) (routed_marks (c.get_mut.follows.lender c.discard.new.self))
 noted g c =
     noted-kept g.S.PrefixStore.routes c.self.inside.stores (c.get_mut.follows.lender c.discard.new.self) (lent g c) (there g c).found c.discard.ensures.routes c.self.invariant.noted
 

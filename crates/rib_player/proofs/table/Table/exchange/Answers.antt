@@ -2,7 +2,7 @@ use Rattle.std.proofs.Common.{◌≡◌, ◌+◌, ◌≤◌, nat_lt, Some, sym, 
 use Rattle.std.specs.Map.{lookup}
 use Rattle.std.specs.Option.{option_copied_mut}
 use Rattle.std.specs.FinMap as finite
-use Rattle.rib_player.specs.Tables.{route_in}
+use Rattle.rib_player.specs.Tables.{pointed_route}
 use Rattle.rib_player.specs.StoresByPeer.{stores_in}
 use Rattle.prefix_store.specs.Stored.{put}
 use Rattle.rib_player.specs.Lent.{IsLent}
@@ -64,9 +64,9 @@ returns-clause-keys g c =
 pub returns-clause-routes : goal.returns-clause-routes
 returns-clause-routes g c =
     routes-put g.S.PrefixStore.routes (there g (goal.at.returns-clause-routes g c).After-update_routed) c.args.pair.now.prefix c.args.route.now c.exchange.ensures.routes
-    ∙ ap (λ s. put s.routes c.args.pair.now (route_in c.args.route.now)) c.self.view_is
+    ∙ ap (λ s. put s.routes c.args.pair.now (pointed_route c.args.route.now)) c.self.view_is
 
 pub returns-clause-taken_out : goal.returns-clause-taken_out
 returns-clause-taken_out g c =
-    ap route_in c.exchange.ensures.taken_out
+    ap pointed_route c.exchange.ensures.taken_out
     ∙ get-found g.S.PrefixStore.routes (stores_in c.self.inside.stores) c.args.self.now.routes c.args.pair.now (Some c.in-Some.store.now) (there g (goal.at.returns-clause-taken_out g c).After-update_routed).found (ap (λ s. s.routes) c.self.view_is)

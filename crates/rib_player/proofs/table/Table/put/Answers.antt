@@ -3,9 +3,9 @@ use Rattle.std.specs.Map.{lookup}
 use Rattle.std.specs.Option.{option_copied_mut}
 use Rattle.std.specs.FinMap as finite
 use Rattle.std.specs.FinSet as set
-use Rattle.rib_player.specs.Tables.{route_in, keys_in, routes_in}
+use Rattle.rib_player.specs.Tables.{pointed_route, keys_in, routes_in}
 use Rattle.rib_player.specs.StoresByPeer.{stores_in}
-use Rattle.rib_player.specs.Noted.{routed_in}
+use Rattle.rib_player.specs.Noted.{routed_marks}
 use Rattle.rib_player.specs.Representation.{IsUpdatedAt}
 use Rattle.prefix_store.specs.Stored.{put}
 use Rattle.std.proofs.lemmas.Result.{on_ok_weaker, on_err_weaker, IfOk-weaker}
@@ -72,12 +72,12 @@ returns-in-Some-clause-made g c =
 pub returns-in-Some-clause-routes : goal.returns-in-Some-clause-routes
 returns-in-Some-clause-routes g c =
     on_ok_weaker c.put-made.result (λ e.
-    routes-put g.S.PrefixStore.routes (there g (goal.at.returns-in-Some-clause-routes g c).After-update_routed) c.args.pair.now.prefix c.args.route.now e ∙ ap (λ s. put s.routes c.args.pair.now (route_in c.args.route.now)) c.self.view_is) c.put-made.ensures.routes
+    routes-put g.S.PrefixStore.routes (there g (goal.at.returns-in-Some-clause-routes g c).After-update_routed) c.args.pair.now.prefix c.args.route.now e ∙ ap (λ s. put s.routes c.args.pair.now (pointed_route c.args.route.now)) c.self.view_is) c.put-made.ensures.routes
 
 pub returns-in-Some-clause-taken_out : goal.returns-in-Some-clause-taken_out
 returns-in-Some-clause-taken_out g c =
     on_ok_weaker c.put-made.result (λ e.
-    ap route_in e ∙ get-found g.S.PrefixStore.routes (stores_in c.self.inside.stores) c.args.self.now.routes c.args.pair.now (Some c.in-Some.store.now) (there g (goal.at.returns-in-Some-clause-taken_out g c).After-update_routed).found (ap (λ s. s.routes) c.self.view_is)) c.put-made.ensures.taken_out
+    ap pointed_route e ∙ get-found g.S.PrefixStore.routes (stores_in c.self.inside.stores) c.args.self.now.routes c.args.pair.now (Some c.in-Some.store.now) (there g (goal.at.returns-in-Some-clause-taken_out g c).After-update_routed).found (ap (λ s. s.routes) c.self.view_is)) c.put-made.ensures.taken_out
 
 pub returns-in-Some-clause-refused : goal.returns-in-Some-clause-refused
 returns-in-Some-clause-refused g c =
@@ -106,7 +106,7 @@ invariant_of-self-2 g c =
     record {
       held = held-other g.S.PrefixStore.keys (added g a) c.self.invariant.held (some-insert set.empty (g.S.PrefixStore.keys c.ensure.new.self) c.args.pair.now.prefix (one_key g a));
       noted = noted-other g.S.PrefixStore.routes (added g a)
-          (subst (λ routed. IsUpdatedAt routed (routed_in c.insert.new.self) c.args.pair.now.peer (Some false)) c.get_mut.follows.holds-at-none.routed c.in_ok-insert.ensures.noted)
+          (subst (λ routed. IsUpdatedAt routed (routed_marks c.insert.new.self) c.args.pair.now.peer (Some false)) c.get_mut.follows.holds-at-none.routed c.in_ok-insert.ensures.noted)
           (none-noted g.S.PrefixStore.routes c.ensure.new.self (c.ensure.ensures.routes ∙ c.new-store.ensures.routes)) c.self.invariant.noted;
     }
 
@@ -124,7 +124,7 @@ returns-clause-made g c =
 
 pub returns-clause-routes : goal.returns-clause-routes
 returns-clause-routes g c =
-    c.exchange.ensures.routes ∙ ap (λ r. put r c.args.pair.now (route_in c.args.route.now)) (routes_then g (goal.at.returns-clause-routes g c).In_ok-insert)
+    c.exchange.ensures.routes ∙ ap (λ r. put r c.args.pair.now (pointed_route c.args.route.now)) (routes_then g (goal.at.returns-clause-routes g c).In_ok-insert)
 
 pub returns-clause-taken_out : goal.returns-clause-taken_out
 returns-clause-taken_out g c =

@@ -4,7 +4,7 @@ use Rattle.ip_prefix.specs.Sequences.{Begins, SpellsAll}
 use Rattle.octet_forms.proofs.Sequences.{one_more}
 use Rattle.bgp_paths.specs.Path.{SpellsAsn}
 use Rattle.bgp_paths.proofs.Counting.{less_one, number_less}
-use Rattle.bgp_paths.proofs.as_numbers.write_numbers.Goals as goal
+use Rattle.bgp_paths.proofs.as_numbers.parse_numbers_into.Goals as goal
 
 pub loop-rest-preserved : goal.loop-rest-preserved
 loop-rest-preserved c =

@@ -5,7 +5,7 @@ use Rattle.bgpdump_lines.specs.Heading.{line_under_heading}
 use Rattle.bgpdump_lines.specs.Run.{AppendsPrefix}
 use Rattle.bgpdump_lines.specs.WrittenSoFar.{PutsThroughBufferOrFront}
 use Rattle.bgpdump_lines.proofs.WritingLaws.{AppendsPrefix-longer, AppendsPrefix-passed, PutsThroughBuffer-printed, PutsThroughBuffer-trans, PutsThroughBufferOrFront-then}
-use Rattle.bgpdump_lines.proofs.write.buffer_shared_route.Goals as goal
+use Rattle.bgpdump_lines.proofs.write.buffer_shared_route_lines.Goals as goal
 
 pub returns-in_err-write_if_long-clause-text : goal.returns-in_err-write_if_long-clause-text
 returns-in_err-write_if_long-clause-text g c =

@@ -2,7 +2,7 @@ use Rattle.std.proofs.Common.{◌≡◌, ◌+◌, ◌/◌, ◌%◌, length, take
 use Rattle.ip_prefix.specs.Sequences.{Begins, SpellsAll}
 use Rattle.bgp_paths.specs.Path.{SpellsAsn, asn_size}
 use Rattle.bgp_paths.specs.declared.as_numbers.TheConstants.{MOST_IN_PLACE}
-use Rattle.bgp_paths.proofs.as_numbers.write_numbers.Given as goal
+use Rattle.bgp_paths.proofs.as_numbers.parse_numbers_into.Given as goal
 
 -- the numbers so far are spelled by the octets before the rest, which are a whole number of numbers, and for these there are places
 abbrev pub invariant-loop-rest : goal.invariant-loop-rest

@@ -12,7 +12,7 @@ use Rattle.rib_store.specs.Store.{Trees, trees_of, tree_of, contents_of, AreRadi
 use Rattle.rib_store.specs.Walks.{deepest_route, visit_count}
 use Rattle.rib_store.proofs.DeepestLaws.{host, longest-is}
 use Rattle.rib_store.proofs.VisitLaws.{met_nodes, are_nodes_to, visit_count-met, visit_count-few}
-use Rattle.rib_store.proofs.radix_store.RadixStore.longest_counted.Goals as goal
+use Rattle.rib_store.proofs.radix_store.RadixStore.longest_counting_nodes.Goals as goal
 
 -- the nodes that a look-up meets are those of the address in the tree of its family
 same_visits : {R : Type 0} (trees : Trees R) (address : Address) (family : Family) (key : Network) → family ≡ address.family → key ≡ host address → visit_count (tree_of family trees) (way key) ≡ visit_count (tree_of address.family trees) (way (host address))

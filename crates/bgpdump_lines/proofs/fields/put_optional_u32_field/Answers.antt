@@ -1,7 +1,7 @@
 use Rattle.std.proofs.Common.{◌≡◌, ◌++◌, ◌∷◌, OnOk, sym, subst, arith, rules}
 use Rattle.std.proofs.lemmas.Fmt.{decimal_digit}
 use Rattle.bgpdump_lines.specs.Lines.{bar, number_or_zero}
-use Rattle.bgpdump_lines.proofs.fields.put_number_or_zero_field.Goals as goal
+use Rattle.bgpdump_lines.proofs.fields.put_optional_u32_field.Goals as goal
 
 pub returns-in-None : goal.returns-in-None
 returns-in-None c =

@@ -5,9 +5,9 @@ use Rattle.rib_store.specs.Tree.{Empty, shape_of, leaf_route, has_routes, slot_o
 use Rattle.rib_store.proofs.WayLaws.{way-shared}
 use Rattle.rib_store.proofs.ShapeLaws.{rooted_leaf}
 use Rattle.rib_store.proofs.GrowthLaws.{placed_over, is_key, is_branch, shared_covers}
-use Rattle.rib_store.proofs.tree.puts.insert_outside.Given.{Over}
-use Rattle.rib_store.proofs.tree.puts.insert_outside.Goals.{After-common-common}
-use Rattle.rib_store.proofs.tree.puts.insert_outside.Goals as goal
+use Rattle.rib_store.proofs.tree.puts.insert_above_root.Given.{Over}
+use Rattle.rib_store.proofs.tree.puts.insert_above_root.Goals.{After-common-common}
+use Rattle.rib_store.proofs.tree.puts.insert_above_root.Goals as goal
 
 pub returns-in-Here-clause-placed : goal.returns-in-Here-clause-placed
 returns-in-Here-clause-placed g c =

@@ -4,7 +4,7 @@ use Rattle.ip_prefix.specs.declared.turn.Turn.TheVariants.{Here}
 use Rattle.ip_prefix.specs.Turns.{way, turn_of}
 use Rattle.rib_store.specs.Tree.{Rooted, shape_of, slot_of, IsRooted}
 use Rattle.rib_store.proofs.GrowthLaws.{placed_here}
-use Rattle.rib_store.proofs.tree.puts.put_at_root.Goals as goal
+use Rattle.rib_store.proofs.tree.puts.put_without_descent.Goals as goal
 
 pub returns-in-Here-clause-placed : goal.returns-in-Here-clause-placed
 returns-in-Here-clause-placed g c =
