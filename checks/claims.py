@@ -54,6 +54,7 @@ CLAIMS = {
         Ground(HISTORY, 'route', (), 'the last event that does not keep the pair decides'),
         Ground(HISTORY, 'item_effect', (),
                'an announcement sets it; a withdrawal, or a loss of the peer\'s session, clears it'),
+        Ground('mrt_events/specs/Event.antt', 'peer_cmp', (), 'whose session: a peer is an address and an AS number'),
         Ground(HISTORY, 'is_loss', (), 'the session leaves Established'),
         Ground(PLAYER, 'table', ('routes',), 'callers get the table at the cursor'),
         Ground('rib_player/src/table.rt', 'get', ('',), 'its route at a pair'),
@@ -61,7 +62,7 @@ CLAIMS = {
         Ground(MEANING, 'routes_at', (), 'what a script asks: the table of the events before the cursor'),
         Ground(MEANING, 'meaning', (), 'what each command replies, and what it makes of the history'),
     ),
-    'Undo and redo move the cursor one step where there is one, need no memory and restore every route': (
+    'Undo and redo move the cursor one step where there is one, can\'t be refused for want of memory and restore every route': (
         Ground(PLAYER, 'undo', ('after_undo', 'can'),
                'the cursor is one lower and all else as it was, exactly where it was above the floor. The error, '
                '`Nothing`, has no value for want of memory'),
@@ -71,7 +72,7 @@ CLAIMS = {
                'any list of events, played and undone, and redone'),
         Ground(PLAYER_LAWS, 'law_forgetting_keeps_tables', ('tables',), 'positions that are left keep their tables'),
     ),
-    'Malformed records and refused steps change nothing': (
+    'Malformed records and refused steps change no table': (
         Ground(RESULTS, 'ReadsAs', (), 'a record makes an event or has a fault'),
         Ground(RESULTS, 'index_after', (), 'one with a fault leaves the peer index'),
         Ground('mrt_wire/src/source.rt', 'next', ('next', 'first'),
@@ -80,7 +81,7 @@ CLAIMS = {
         Ground(PLAYER, 'play', ('refused',), 'the player is as it was, steps ahead included'),
         Ground(PLAYER, 'table', ('keys',), 'so are its keys, which are stated after each call'),
     ),
-    'What is written is the stated function of the bytes read': (
+    'Lines, replies and reports are the stated function of the bytes read, the script and `-t`': (
         Ground(DUMP, 'run_dump', ('octets', 'text', 'whole_records', 'taken'), 'lines and reports: *octets* is the plain clause, '
                '*text* states besides that nothing written depends on octets that were not taken'),
         Ground(PLAY, 'run_play', ('octets', 'text', 'began', 'whole_records', 'wanted', 'taken'), 'replies and reports'),
@@ -99,7 +100,7 @@ CLAIMS = {
                'decided'),
         Ground('bgpdump_tool/src/laws.rt', 'law_one_script', ('one', 'some'), 'likewise a script and its lines'),
     ),
-    'No line waits: before a read that may wait, both outputs are flushed': (
+    'No line waits: before a read that may wait, both outputs are flushed, if they show what they hold back': (
         Ground(DUMP, 'run_dump', ('flushed',),
                'where a read failed, the outputs hold nothing back. Nothing was flushed after it: a flush may fail, '
                'and by *read_fault* and *write_fault* the run would then have to end in two ways. Any read that '
@@ -118,7 +119,15 @@ CLAIMS = {
     'For every input and every script of up to 1 MiB, even when memory allocation fails': (
         Ground(DUMP, 'run_dump', ('input_sound', 'out_sound', 'err_sound'),
                'its only conditions: no device has failed before. No clause supposes that there is memory'),
-        Ground(PLAY, 'run_play', ('input_sound', 'out_sound', 'err_sound'), 'likewise; `dump` and `play` have none'),
+        Ground(PLAY, 'run_play', ('input_sound', 'out_sound', 'err_sound'), 'likewise; the program\'s `dump` and `play` have none'),
+        Ground(PLAYER, 'play', ('',), '`Player::play` has one: the cursor is below 2^64 - 1'),
+    ),
+    'One damaged record costs that record': (
+        Ground(RESULTS, 'record_result', (), 'the fault has number and offset of its record'),
+        Ground(RESULTS, 'state_after', (), 'the next record is that after the octets which this one states'),
+        Ground('mrt_frames/specs/Record.antt', 'rest_fault', (), 'unless it is cut or too long'),
+        Ground(RESULTS, 'index_after', (), 'a damaged peer index leaves the one before'),
+        Ground('bgpdump_lines/specs/Run.antt', 'fault_report', (), 'the report'),
     ),
 }
 

@@ -76,23 +76,24 @@ pub fn run_play<S: PrefixStore<Rc<Route>>, I: Input, O: Output, E: Output>(
         (ScriptWritesBeforeInputFault stamp script.now result)
         (input.old, out.old, err.old) (input.new, out.new, err.new) }
 
-    // In a run that comes to its end, no record is taken that no command wants, and commands have
-    // taken all that the octets give; where the input fails or is too long, a command wanted more.
-    // If memory or an output fails, `began` says which lines were executed.
+    // In a run that is done or has reported faults, the commands take every result of the octets
+    // taken. If the input failed or is too long, a command wanted more results. If memory or an
+    // output failed, this states nothing, and `began` which lines were executed.
     ensures wanted { TakesOnlyWantedRecords stamp script.now result
         (I.left input.old) (I.left input.new) }
 
-    // No reply waits: of outputs that tell what they hold back, nothing is held back at the end,
-    // nor where a read failed, as any read may that asks the device.
+    // No reply waits: outputs that tell what they hold back hold nothing back after a run that is
+    // done or has reported faults, nor where a read failed, as any read may that asks the device.
     ensures flushed { LeavesFlushed result (O.pending out.new) (E.pending err.new) }
 
     // At most 2^40 octets are taken: whole records, and then the octets after them, but none after
-    // a header with a length that is too great.
+    // a header with a length that is too great. After an error the last record may be taken in
+    // part, and after `Memory` or `WriteFault` as a whole, with nothing written of it.
     ensures taken { length script.now ≤ LONGEST_SCRIPT →
         (taken : List ℕ) × Consumes (I.left input.old) (I.left input.new) taken
         × IsTaken stamp result taken }
 
-    // The faults with which the run ends, and when.
+    // The faults with which the run ends, and exactly when, but of `too_long` only what it implies.
     ensures read_fault { (result ≡ Outcome.ReadFault) ↔ IsTrue (I.failed input.new) }
     ensures write_fault { (result ≡ Outcome.WriteFault)
         ↔ IsTrue (O.failed out.new || E.failed err.new) }

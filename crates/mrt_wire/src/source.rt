@@ -122,8 +122,11 @@ impl Source {
     /// again, and each call after an error fails with `Spent`.
     #[inline(always)]
     pub fn next<I: Input>(&mut self, input: &mut I) -> Result<Next, SourceFault>
-        // One record is taken, and its event or fault is returned; or octets that begin with no
-        // whole record, and their fault or the end; or the call fails.
+        // While it reads: either the octets of one record were taken, its event or fault is
+        // returned, and number, offset and peer index are those after it; or the octets after the
+        // last record were taken, their fault or the end is returned, and the phase is `Ended`; or
+        // the call failed, after the beginning of a record (with `Memory` maybe a whole one), the
+        // number and the peer index stay, and the phase is `Spent`.
         ensures next { self.old.phase ≡ Phase.Reading →
             IsNextCall self.old self.new (I.left input.old) (I.left input.new) result }
 
@@ -139,7 +142,8 @@ impl Source {
         ensures spent { self.old.phase ≡ Phase.Spent →
             (result ≡ Err SourceFault.Spent) × (self.new ≡ self.old) × (input.new ≡ input.old) }
 
-        // The input has failed after the call if it had before, or if the call fails with `Read`.
+        // The input has failed after the call exactly if it had before or the call fails with
+        // `Read`.
         ensures failed { I.failed input.new ≡ (I.failed input.old || is_err_read result) }
 
         // No read fails if the next record is buffered as a whole.
