@@ -33,7 +33,7 @@ KNOWN = {
     # Of an error of `clap` that says so.
     ('bgpdump_command_line/src/command_line.rt', 'fault_of_parse_error'): 1,
     # Of an error of the system, or of std's readers, that says so.
-    ('bgpdump/src/files.rt', 'outcome_of_read_error'): 1,
+    ('bgpdump/src/files.rt', 'outcome_of_setup_error'): 1,
     ('bgpdump/src/files.rt', 'ending_of_open_error'): 1,
     ('bgpdump/src/files.rt', 'ending_of_read_error'): 1,
     # The status of words that were refused for it.

@@ -117,7 +117,7 @@ pub(crate) fn push_empty_segment(alloc: Global, list: &mut Vec<Segment>) -> Resu
 /// known type and with at least one AS number, and with `Memory` if memory allocation fails. On
 /// error, `list` is unspecified.
 #[inline(always)]
-fn fill_list(
+fn replace_segments(
     alloc: Global,
     list: &mut Vec<Segment>,
     width: AsWidth,
@@ -174,8 +174,8 @@ fn refill_segments(
     }
     let mut list = segments.take_list(alloc)?;
     let result = match width {
-        AsWidth::Two => fill_list(alloc, &mut list, AsWidth::Two, octets),
-        AsWidth::Four => fill_list(alloc, &mut list, AsWidth::Four, octets),
+        AsWidth::Two => replace_segments(alloc, &mut list, AsWidth::Two, octets),
+        AsWidth::Four => replace_segments(alloc, &mut list, AsWidth::Four, octets),
     };
     segments.held = Held::Listed(list);
     result

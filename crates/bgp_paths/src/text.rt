@@ -9,7 +9,7 @@ ghost use Rattle.bgp_paths.specs.Readers.{StillBegins, JoinsWords};
 
 use crate::path::AsPath;
 use crate::segment::{Segment, SegmentKind};
-use ip_prefix::{COLON, SPACE, Text, WORD_ROOM, WordFormat, put_octets, write_ended_decimal};
+use ip_prefix::{COLON, SPACE, Text, WORD_ROOM, WordFormat, copy_octets_at, write_ended_decimal};
 use std::alloc::AllocError;
 
 /// The well-known community NO_EXPORT, of routes that are not to be announced outside the AS or
@@ -177,11 +177,11 @@ impl WordFormat for CommunityFormat {
     #[tactic(auto, unfolding(crate::specs::Text::community_text))]
     fn write_ended(community: u32, end: u8, text: &mut [u8], at: usize) -> usize {
         match community {
-            _ if community < NO_EXPORT => write_halves(community, end, text, at),
+            _ if community < NO_EXPORT => write_community_number(community, end, text, at),
             NO_EXPORT => write_community_name(b"no-export", end, text, at),
             NO_ADVERTISE => write_community_name(b"no-advertise", end, text, at),
             NO_EXPORT_SUBCONFED => write_community_name(b"local-AS", end, text, at),
-            _ => write_halves(community, end, text, at),
+            _ => write_community_number(community, end, text, at),
         }
     }
 }
@@ -191,7 +191,7 @@ impl WordFormat for CommunityFormat {
 /// `end`. Requires that `text` has [`WORD_ROOM`] octets from `at` on, of which those after `end`
 /// are then unspecified.
 #[inline(always)]
-fn write_halves(number: u32, end: u8, text: &mut [u8], at: usize) -> usize
+fn write_community_number(number: u32, end: u8, text: &mut [u8], at: usize) -> usize
     requires { at + WORD_ROOM ≤ length text.old }
     ensures written { IsWritten text.old at (halves_text number ++ end ∷ []) text.new result }
     ensures short { result ≤ at + WORD_ROOM }
@@ -210,7 +210,7 @@ fn write_community_name(name: &[u8], end: u8, text: &mut [u8], at: usize) -> usi
     ensures short { result ≡ at + length name.now + 1 }
 {
     let behind = at + name.len();
-    put_octets(name, text, at);
+    copy_octets_at(name, text, at);
     text[behind] = end;
     behind + 1
 }

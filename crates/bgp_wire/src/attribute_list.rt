@@ -15,7 +15,7 @@ use crate::framing::{
 };
 use crate::seen_types::SeenTypes;
 use crate::values::{
-    read_aggregator, read_ipv4, read_origin, read_u32, set_atomic_if_empty, set_if_found,
+    read_aggregator, read_ipv4, read_origin, read_u32, set_atomic_if_empty, set_or_fail,
 };
 use bgp_paths::{AsWidth, WireFault, fill_numbers};
 use std::alloc::Global;
@@ -67,13 +67,13 @@ fn read_attribute<'a>(
 {
     let value = framed.value;
     match framed.kind {
-        ORIGIN => set_if_found(&mut attrs.origin, read_origin(value))?,
+        ORIGIN => set_or_fail(&mut attrs.origin, read_origin(value))?,
         AS_PATH => attrs.path.fill(alloc, width, value)?,
-        NEXT_HOP => set_if_found(&mut attrs.next_hop, read_ipv4(value))?,
-        MULTI_EXIT_DISC => set_if_found(&mut attrs.med, read_u32(value))?,
-        LOCAL_PREF => set_if_found(&mut attrs.local_pref, read_u32(value))?,
+        NEXT_HOP => set_or_fail(&mut attrs.next_hop, read_ipv4(value))?,
+        MULTI_EXIT_DISC => set_or_fail(&mut attrs.med, read_u32(value))?,
+        LOCAL_PREF => set_or_fail(&mut attrs.local_pref, read_u32(value))?,
         ATOMIC_AGGREGATE => set_atomic_if_empty(&mut attrs.atomic, value)?,
-        AGGREGATOR => set_if_found(&mut attrs.aggregator, read_aggregator(value))?,
+        AGGREGATOR => set_or_fail(&mut attrs.aggregator, read_aggregator(value))?,
         COMMUNITIES => fill_numbers(
             &mut attrs.communities.items,
             AsWidth::Four,

@@ -90,10 +90,7 @@ pub(crate) fn read_aggregator(value: &[u8]) -> Option<Aggregator>
 /// Sets `place` to `found`, the result of a parser, if that is `Some`. Fails with [`IllFormed`] if
 /// it is `None`; `place` is then unchanged.
 #[inline(always)]
-pub(crate) fn set_if_found<T: Copy>(
-    place: &mut Option<T>,
-    found: Option<T>,
-) -> Result<(), IllFormed>
+pub(crate) fn set_or_fail<T: Copy>(place: &mut Option<T>, found: Option<T>) -> Result<(), IllFormed>
     ensures put { OnOk result (IsSome found × (place.new ≡ found)) }
     ensures none { OnErr result (found ≡ None) }
 {

@@ -32,7 +32,7 @@ struct FileIdentity {
 
 /// Converts an error of reading the command line or the script, or of allocating a buffer, into the
 /// outcome of the program: `Memory` for `ErrorKind::OutOfMemory`, or else `ReadFault`.
-pub fn outcome_of_read_error(error: &io::Error) -> Outcome
+pub fn outcome_of_setup_error(error: &io::Error) -> Outcome
     ensures memory { (result ≡ Outcome.Memory) ↔ (error_kind error.now ≡ ErrorKind.OutOfMemory) }
     ensures other { IsOutcomeOfReadError result }
 {
@@ -65,7 +65,7 @@ pub fn ending_of_read_error<'a>(text: InstructionText, error: &io::Error) -> End
         result ≡ Ending.NotRead text error.now }
     ensures either { IsEndingOfReadError text result }
 {
-    match outcome_of_read_error(error) {
+    match outcome_of_setup_error(error) {
         Outcome::Memory => Ending::Ran(Outcome::Memory),
         _ => Ending::NotRead(text, *error),
     }

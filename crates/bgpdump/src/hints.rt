@@ -1,6 +1,6 @@
 //! What the hints for a person are based on: whether standard error is a terminal, and with which octets
 //! the input begins or by which error it fails. `main.rt` reads the input through a [`NotedReader`] that
-//! notes these. The hints are in `run_hints.rt` and `script_hints.rt`; read [`InputNotes`] first.
+//! notes these. The hints are in `run_hints.rt` and `script_hints.rt`; read [`FirstOctetsAndError`] first.
 
 ghost use Rattle.std.specs.Prelude.{◌≡◌, IfOk};
 
@@ -111,7 +111,7 @@ impl FirstOctets {
 /// the reader. Hints to the user are made from these notes after the program's work, such as that
 /// the input looks compressed.
 #[derive(Clone, Copy, Default)]
-pub struct InputNotes {
+pub struct FirstOctetsAndError {
     /// The first octets of the input.
     pub front: FirstOctets,
     /// The last error of its reader, or `None` if it hasn't failed.
@@ -119,25 +119,25 @@ pub struct InputNotes {
 }
 
 /// A reader over another one, of type `R`, that notes the first octets read and the last error in
-/// [`InputNotes`] which it shares with its creator.
+/// [`FirstOctetsAndError`] which it shares with its creator.
 #[derive(Drop)]
 pub struct NotedReader<R> {
     /// The cell with the notes, shared with whoever made this reader.
-    notes: Rc<Cell<InputNotes>>,
+    notes: Rc<Cell<FirstOctetsAndError>>,
     /// The reader that is read from.
     pub(crate) reader: R,
 }
 
 impl<R> NotedReader<R> {
-    /// Returns a reader that reads from `reader`, and updates the [`InputNotes`] in `notes` at each
+    /// Returns a reader that reads from `reader`, and updates the [`FirstOctetsAndError`] in `notes` at each
     /// read.
-    pub fn new(notes: Rc<Cell<InputNotes>>, reader: R) -> Self
+    pub fn new(notes: Rc<Cell<FirstOctetsAndError>>, reader: R) -> Self
         ensures { result.reader ≡ reader }
     {
         NotedReader { notes, reader }
     }
 
-    /// Stores `error` in the shared [`InputNotes`] as the last error of the wrapped reader.
+    /// Stores `error` in the shared [`FirstOctetsAndError`] as the last error of the wrapped reader.
     fn note_error(&self, error: io::Error) {
         let mut notes = self.notes.get();
         notes.error = Some(error);
@@ -145,7 +145,7 @@ impl<R> NotedReader<R> {
     }
 
     /// Appends `octets`, which were just read, to the first octets of the input in the shared
-    /// [`InputNotes`], until there are 12 ([`HEADER_SIZE`]) in all. Ignores the octets after these.
+    /// [`FirstOctetsAndError`], until there are 12 ([`HEADER_SIZE`]) in all. Ignores the octets after these.
     fn note_octets(&self, octets: &[u8]) {
         let mut notes = self.notes.get();
         notes.front.add_octets(octets);
@@ -176,7 +176,7 @@ impl<R: Read> Read for NotedReader<R> {
 #[derive(Drop)]
 pub struct DevicesAndInputNotes<R, O, E> {
     /// The notes of the input so far: its first octets, and the last error of its reader.
-    pub notes: Rc<Cell<InputNotes>>,
+    pub notes: Rc<Cell<FirstOctetsAndError>>,
     /// The devices. Their reader updates `notes`.
     pub devices: Devices<NotedReader<R>, O, E>,
 }
@@ -189,7 +189,7 @@ impl<R: Drop, O: Drop, E: Drop> DevicesAndInputNotes<R, O, E> {
         ensures out { IfOk result (λ noted. noted.devices.out ≡ devices.out) }
         ensures err { IfOk result (λ noted. noted.devices.err ≡ devices.err) }
     {
-        let notes = Rc::new(alloc, Cell::new(InputNotes::default()))?;
+        let notes = Rc::new(alloc, Cell::new(FirstOctetsAndError::default()))?;
         let Devices { reader, out, err } = devices;
         let reader = NotedReader::new(notes.clone()?, reader);
         let devices = Devices { reader, out, err };

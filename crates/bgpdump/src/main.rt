@@ -15,7 +15,7 @@ mod script_hints;
 use bgpdump_tool::{LONGEST_SCRIPT, Mode, Outcome, STANDARD_INPUT, Settings, settings};
 use ending::{Ending, InstructionText};
 use files::{create, ending_of_read_error, open, read_script, reserve_standard_descriptors};
-use hints::{DevicesAndInputNotes, InputNotes, are_hints_wanted};
+use hints::{DevicesAndInputNotes, FirstOctetsAndError, are_hints_wanted};
 use run::{Devices, dump, play};
 use run_hints::{write_ending_hint, write_input_hints};
 use script_hints::write_script_hints;
@@ -30,7 +30,7 @@ struct OutcomeAndInputNotes {
     /// How it ended.
     outcome: Outcome,
     /// The notes of the input: its first octets, and the last error of its reader.
-    notes: InputNotes,
+    notes: FirstOctetsAndError,
 }
 
 /// Does what the command line asks for, and returns the program's exit status.

@@ -8,7 +8,7 @@ ghost use Rattle.bgpdump_tool.specs.Course.{HoldsForLines, texts_before_input_fa
 ghost use Rattle.bgpdump_tool.specs.Run.{dump_texts, outputs_of};
 ghost use Rattle.bgpdump.specs.Endings.{outcome_without_writers, HoldsForInput, Leaves, LeavesTexts, LeavesWholeRecords, TookInputLimit, KeepsBoth, HoldsForWriters, buffered_outputs, has_failed};
 
-use crate::files::outcome_of_read_error;
+use crate::files::outcome_of_setup_error;
 use bgpdump_tool::{BufferedOutput, LONGEST_SCRIPT, Outcome, Output, run_dump, run_play};
 use mrt_wire::{BufferedInput, Input, Route, Stamp};
 use rib_store::{LeakingStore, RadixStore};
@@ -184,13 +184,13 @@ fn buffer_devices<R: Read + Drop, O: Write + Drop, E: Write + Drop>(
 {
     let Devices { reader, out, err } = devices;
     let reader = BufReader::with_capacity(alloc, BUFFER_SIZE, reader).map_err(
-        |error| outcome_of_read_error(&error),
+        |error| outcome_of_setup_error(&error),
     )?;
     let out = BufWriter::with_capacity(alloc, BUFFER_SIZE, out).map_err(
-        |error| outcome_of_read_error(&error),
+        |error| outcome_of_setup_error(&error),
     )?;
     let err = BufWriter::with_capacity(alloc, BUFFER_SIZE, err).map_err(
-        |error| outcome_of_read_error(&error),
+        |error| outcome_of_setup_error(&error),
     )?;
     Ok(BufferedStreams {
         input: BufferedInput::new(reader),

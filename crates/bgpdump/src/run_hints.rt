@@ -4,7 +4,7 @@
 
 use crate::command_words::{PipedCommand, ShellQuoted};
 use crate::ending::{Ending, InstructionText, OpenFailure};
-use crate::hints::{CompressedFormat, InputNotes};
+use crate::hints::{CompressedFormat, FirstOctetsAndError};
 use bgpdump_tool::{LONGEST_SCRIPT, Outcome, STANDARD_INPUT, Settings, UsageFault};
 use mrt_frames::LONGEST_BODY;
 use std::io::{self, ErrorKind};
@@ -58,7 +58,7 @@ pub fn write_ending_hint(rt: &HostRuntime, ending: &Ending<'_>) {
 /// Writes hints to standard error on what seems to be wrong with the input that `settings` name:
 /// the last error of its reader, if there was one, and that it looks compressed, or like no MRT
 /// file, by its first octets. Both are in `notes`. What can't be written is lost.
-pub fn write_input_hints(rt: &HostRuntime, settings: &Settings, notes: &InputNotes) {
+pub fn write_input_hints(rt: &HostRuntime, settings: &Settings, notes: &FirstOctetsAndError) {
     if let Some(error) = &notes.error {
         let _ = write_read_error(rt, "the input", error);
     }

@@ -55,7 +55,7 @@ statuses.";
 
 /// Returns the argument `-m`, a flag that selects writing each route, withdrawal and state change
 /// as a line.
-fn lines_argument<'a>(alloc: Global) -> Arg<'a>
+fn line_output_flag<'a>(alloc: Global) -> Arg<'a>
     ensures rule { rule_of result ≡ lines_rule }
     ensures alone { ExcludesNone result }
 {
@@ -127,7 +127,7 @@ pub(crate) fn command<'a>(alloc: Global) -> Result<Command<'a>, AllocError>
         .about(ABOUT)
         .override_usage(USAGE)
         .after_help(AFTER_HELP)
-        .arg(lines_argument(alloc))?
+        .arg(line_output_flag(alloc))?
         .arg(script_argument(alloc))?
         .arg(times_argument(alloc))?
         .arg(output_argument(alloc))?

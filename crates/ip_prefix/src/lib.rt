@@ -21,7 +21,7 @@ pub use laws::{
     law_printed_text_parses, law_text_has_one_value, law_turns_are_by_covering,
 };
 pub use octet_text::{
-    DECIMAL_ROOM, SPACE, Text, WORD_ROOM, WordFormat, WriteTextAt, put_decimal, put_octets,
+    DECIMAL_ROOM, SPACE, Text, WORD_ROOM, WordFormat, WriteTextAt, copy_octets_at, put_decimal,
     write_decimal, write_ended_decimal,
 };
 pub use prefix::Prefix;

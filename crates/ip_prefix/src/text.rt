@@ -12,7 +12,7 @@ use crate::addr::{Addr, Family, GROUP_COUNT, V4_OCTETS};
 use crate::prefix::Prefix;
 use crate::zero_runs::ZERO_RUNS;
 use octet_text::{
-    HEX_PAIR, ROW, WriteTextAt, hex_pair, put_octets, write_below_thousand, write_hex_octet,
+    HEX_PAIR, ROW, WriteTextAt, copy_octets_at, hex_pair, write_below_thousand, write_hex_octet,
 };
 use std::alloc::AllocError;
 
@@ -172,7 +172,7 @@ fn write_v6(address: &Addr, text: &mut [u8], at: usize) -> usize
         return write_groups(&groups, text, at);
     }
     let gap = write_groups(&groups[..first], text, at);
-    put_octets(&[COLON, COLON], text, gap);
+    copy_octets_at(&[COLON, COLON], text, gap);
     write_groups(&groups[first + len..], text, gap + 2)
 }
 

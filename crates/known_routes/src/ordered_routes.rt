@@ -65,7 +65,7 @@ impl HashedRoute {
 /// Returns the index in `run` of the first route that isn't less than `route`, or the length of
 /// `run` if all are less. `hash` is the hash of `route`. `run` is sorted by hash and then by
 /// [`compare_routes`].
-fn find_index(run: &[HashedRoute], hash: u32, route: &Route) -> usize
+fn insertion_index(run: &[HashedRoute], hash: u32, route: &Route) -> usize
     ensures { result ≤ length run.now }
 {
     run.partition_point(|hashed| hashed.compare_to(hash, route) == Ordering::Less)
@@ -157,7 +157,7 @@ impl OverflowRoutes {
         ensures { IfSome result (λ known. known.now.value ≡ route.now) }
     {
         let run = self.runs.get(self.find_run(hash, route))?;
-        let hashed = run.get(find_index(run, hash, route))?;
+        let hashed = run.get(insertion_index(run, hash, route))?;
         if hashed.hash == hash && same_route(&hashed.route, route) {
             return Some(&hashed.route);
         }
@@ -199,7 +199,7 @@ impl OverflowRoutes {
         }
         let index = self.find_run_with_room(hash, &route)?;
         if let Some(run) = self.runs.get_mut(index) {
-            let position = find_index(run, hash, &route);
+            let position = insertion_index(run, hash, &route);
             run.insert(position, HashedRoute { hash, route })?;
             self.count = self.count.saturating_add(1);
         }
@@ -214,7 +214,7 @@ impl OverflowRoutes {
             return false;
         }
         let run = &mut self.runs[index];
-        let position = find_index(run, hash, route);
+        let position = insertion_index(run, hash, route);
         if position >= run.len() || !Rc::ptr_eq(&run[position].route, route) {
             return false;
         }

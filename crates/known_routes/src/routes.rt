@@ -257,7 +257,7 @@ impl RouteInterner {
         self.added_octets = 0;
         // A smaller table takes less memory. If allocating it fails, all routes are dropped: the
         // play needs none of them, so that it gets no error.
-        if !self.routes.is_compact() && self.routes.resize(self.alloc).is_err() {
+        if !self.routes.has_few_slots() && self.routes.resize(self.alloc).is_err() {
             self.routes = InternTable::empty(self.alloc);
         }
         self.stood = self.routes.taken;

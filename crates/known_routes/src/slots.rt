@@ -312,7 +312,7 @@ impl InternTable {
     /// Returns `true` if the table has few enough slots for the routes in them: at most
     /// [`MOST_TIMES`] for each route, plus [`MIN_SLOTS`]. Returns `false` if a smaller table is to
     /// replace it.
-    pub(crate) fn is_compact(&self) -> bool
+    pub(crate) fn has_few_slots(&self) -> bool
         ensures { IsTrue result →
             vec_len self.now.slots ≤ MOST_TIMES * self.now.taken + MIN_SLOTS }
     {
@@ -336,7 +336,7 @@ impl InternTable {
         let count = (self.taken.saturating_mul(7) / 3).clamp(MIN_SLOTS, MAX_SLOTS);
         let mut others = InternTable::with_slots(alloc, count)?;
         others.move_from(mem::replace(self, InternTable::empty(alloc)))?;
-        if !others.is_compact() {
+        if !others.has_few_slots() {
             others = others.move_to_min_slots(alloc)?;
         }
         *self = others;

@@ -8,7 +8,7 @@ use Rattle.std.proofs.Math.Seq.{take-append-add}
 use borrow.Rule.Slice.PartMut.{put_mid, post_of}
 use lib.Seq.{take-add, take-append-le}
 use Rattle.mrt_frames.specs.declared.fault.SourceFault.{SourceFault}
-use Rattle.mrt_frames.specs.Taken.{Takes, FillsWithin}
+use Rattle.mrt_frames.specs.Taken.{Takes, FillsWithinLimit}
 
 -- the front that was filled, and then the front of what was written behind it
 pub take-put_mid : (at room n : ℕ) (buffer part : List ℕ) → at ≤ length buffer → n ≤ length part → take (at + n) (put_mid at room buffer part) ≡ take at buffer ++ take n part
@@ -35,9 +35,9 @@ Takes-parts a b c k l m at n old new kept before now =
     subst (Takes a c k m) (ap (λ l. l ++ take n (drop at new)) (sym kept) ∙ sym (take-add at n new)) (Takes-trans a b c k l m (take at old) (take n (drop at new)) before now)
 
 -- a fault behind what was filled before
-pub FillsWithin-stopped_place : (a b c : Option (List ℕ)) (k l m : ℕ) (done part whole : List ℕ) (at end size limit : ℕ) (fault : SourceFault) → length done ≡ at → at ≤ end → end ≤ size
-    → Takes a b k l done → FillsWithin b c l m part (end - at) limit (Err fault) → FillsWithin a c k m whole size limit (Err fault)
-FillsWithin-stopped_place a b c k l m done part whole at end size limit fault len ahead within before (front, short, stops, now) =
+pub FillsWithinLimit-stopped_place : (a b c : Option (List ℕ)) (k l m : ℕ) (done part whole : List ℕ) (at end size limit : ℕ) (fault : SourceFault) → length done ≡ at → at ≤ end → end ≤ size
+    → Takes a b k l done → FillsWithinLimit b c l m part (end - at) limit (Err fault) → FillsWithinLimit a c k m whole size limit (Err fault)
+FillsWithinLimit-stopped_place a b c k l m done part whole at end size limit fault len ahead within before (front, short, stops, now) =
     (done ++ front, omega (arith, length-append done front), stops, Takes-trans a b c k l m done front before now)
 
 -- octets of which n were passed over

@@ -62,9 +62,9 @@ MayFailAt other taken limit = taken ≤ limit
 -- `Ok` the octets taken, fewer than `size` only at the end of the input, are the first of the buffer, as many as it
 -- returns. On `Err` fewer than `size` were taken, which needn't be in the buffer, and the error fits `after` and
 -- `limit` (`MayFailAt`).
-abbrev pub FillsWithin : Option (List ℕ) → Option (List ℕ) → ℕ → ℕ → List ℕ → ℕ → ℕ → Result ℕ SourceFault → Type 0
-FillsWithin old new before after buffer size limit (Ok count) = (count ≤ size) × (after ≤ limit) × Takes old new before after (take count buffer) × (count < size → IsAtEnd new)
-FillsWithin old new before after buffer size limit (Err fault) = (front : List ℕ) × (length front < size) × MayFailAt fault after limit × Takes old new before after front
+abbrev pub FillsWithinLimit : Option (List ℕ) → Option (List ℕ) → ℕ → ℕ → List ℕ → ℕ → ℕ → Result ℕ SourceFault → Type 0
+FillsWithinLimit old new before after buffer size limit (Ok count) = (count ≤ size) × (after ≤ limit) × Takes old new before after (take count buffer) × (count < size → IsAtEnd new)
+FillsWithinLimit old new before after buffer size limit (Err fault) = (front : List ℕ) × (length front < size) × MayFailAt fault after limit × Takes old new before after front
 
 -- whether the result is the error `Read`: a read of the input failed
 abbrev pub is_err_read : {A : Type 0} → Result A SourceFault → Bool

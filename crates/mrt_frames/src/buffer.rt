@@ -2,7 +2,7 @@
 //! reads headers and bodies of records with these functions. Read [`fill_within`] first.
 
 ghost use Rattle.std.specs.Prelude.{◌≡◌, ◌≤◌, ◌<◌, ◌+◌, ◌-◌, ◌*◌, ◌||◌, false, IfOk, length, max, take, drop, vec_len};
-ghost use Rattle.mrt_frames.specs.Taken.{FillsBuffered, FillsWithin, is_err_read, source_answer};
+ghost use Rattle.mrt_frames.specs.Taken.{FillsBuffered, FillsWithinLimit, is_err_read, source_answer};
 
 use crate::fault::{SourceFault, TakeFault};
 use crate::header::LONGEST_BODY;
@@ -26,7 +26,7 @@ pub(crate) fn fill_within<I: Input>(
     limit: u64,
 ) -> Result<usize, TakeFault>
     requires room { taken.old ≤ limit }
-    ensures octets { FillsWithin (I.left input.old) (I.left input.new) taken.old taken.new
+    ensures octets { FillsWithinLimit (I.left input.old) (I.left input.new) taken.old taken.new
         buffer.new (length buffer.new) limit (source_answer result) }
     ensures failed { I.failed input.new
         ≡ (I.failed input.old || is_err_read (source_answer result)) }
@@ -90,7 +90,7 @@ pub(crate) fn fill_part<I: Input>(
     requires room { taken.old ≤ limit }
     ensures kept { take part.start buffer.new.items ≡ take part.start buffer.old.items }
     ensures size { vec_len buffer.new ≡ vec_len buffer.old }
-    ensures octets { FillsWithin (I.left input.old) (I.left input.new) taken.old taken.new
+    ensures octets { FillsWithinLimit (I.left input.old) (I.left input.new) taken.old taken.new
         (drop part.start buffer.new.items) (part.end - part.start) limit (source_answer result) }
     ensures failed { I.failed input.new
         ≡ (I.failed input.old || is_err_read (source_answer result)) }
@@ -118,7 +118,7 @@ pub(crate) fn fill_body<I: Input>(
 ) -> Result<usize, SourceFault>
     requires small { size ≤ LONGEST_BODY }
     requires room { taken.old ≤ limit }
-    ensures octets { FillsWithin (I.left input.old) (I.left input.new) taken.old taken.new
+    ensures octets { FillsWithinLimit (I.left input.old) (I.left input.new) taken.old taken.new
         buffer.new.items size limit result }
     ensures held { IfOk result (λ count. count ≤ vec_len buffer.new) }
     ensures growth { IfOk result (λ count.

@@ -12,9 +12,9 @@ use Rattle.bgp_wire.specs.Reach.{family_code}
 use Rattle.bgp_wire.proofs.OneContent.{one_message_of}
 use Rattle.bgp_wire.proofs.Reaching.{same_family}
 use Rattle.mrt_events.specs.declared.peer.Peer.{Peer}
-use Rattle.mrt_wire.specs.declared.record_types.SessionRecordKind.{SessionRecordKind}
-use Rattle.mrt_wire.specs.declared.record_types.SessionRecordKind.TheVariants.{StateChange, Message}
-use Rattle.mrt_wire.specs.declared.record_types.SessionFormat.{SessionFormat}
+use Rattle.mrt_wire.specs.declared.record_types.Bgp4mpRecordKind.{Bgp4mpRecordKind}
+use Rattle.mrt_wire.specs.declared.record_types.Bgp4mpRecordKind.TheVariants.{StateChange, Message}
+use Rattle.mrt_wire.specs.declared.record_types.Bgp4mpFormat.{Bgp4mpFormat}
 use Rattle.mrt_wire.specs.declared.session.TheConstants.{INTERFACE_SIZE}
 use Rattle.mrt_wire.specs.Session.{Change, Receipt, SpellsFamily, AreAsnFields, AreAddressFields, SpellsSessionPeer, SpellsStateChange, SpellsPeerMessage, SpellsSessionContent, SpellsMicros, SpellsSessionBody}
 use Rattle.mrt_wire.proofs.FieldFronts.{octets_front, address_front, asn_front, short_front, word_front}
@@ -70,7 +70,7 @@ one_peer_message width a b octets s t =
     let one = then_one _ _ (session_front width) (λ peer m n l. one_message_of width l m n) (a.peer, a.message) (b.peer, b.message) octets s t in
     λ i. record { message = (one i).1; peer = (one i).0 }
 
-one_happening : (kind : SessionRecordKind) (width : AsWidth) → IsUnambiguous (SpellsSessionContent kind width)
+one_happening : (kind : Bgp4mpRecordKind) (width : AsWidth) → IsUnambiguous (SpellsSessionContent kind width)
 one_happening StateChange width a b octets s t = s.1 ∙ ap Change (one_state_change width s.0 t.0 octets s.2 t.2) ∙ sym t.1
 one_happening Message width a b octets s t = s.1 ∙ ap Receipt (one_peer_message width s.0 t.0 octets s.2 t.2) ∙ sym t.1
 
@@ -82,7 +82,7 @@ micros_front true a b x y octets p q =
     (p.spelled.1 ∙ ap Some one.0 ∙ sym q.spelled.1, one.1)
 
 -- no octets are of two bodies of one form
-pub one_session_body : (form : SessionFormat) → IsUnambiguous (SpellsSessionBody form)
+pub one_session_body : (form : Bgp4mpFormat) → IsUnambiguous (SpellsSessionBody form)
 one_session_body form a b octets s t =
     let one = then_one _ _ (micros_front form.timed) (λ micros. one_happening form.kind form.width) (a.micros, a.content) (b.micros, b.content) octets s t in
     λ i. record { content = (one i).1; micros = (one i).0 }

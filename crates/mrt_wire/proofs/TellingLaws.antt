@@ -9,7 +9,7 @@ use Rattle.mrt_events.specs.declared.event.Item.{Item}
 use Rattle.ip_prefix.specs.Sequences.{Begins, SpellsAll}
 use Rattle.octet_forms.proofs.Sequences.{one_more}
 use Rattle.mrt_wire.specs.declared.rib.TableContext.{TableContext}
-use Rattle.mrt_wire.specs.declared.rib.EntryItems.{EntryItems}
+use Rattle.mrt_wire.specs.declared.rib.ParsedEntries.{ParsedEntries}
 use Rattle.mrt_events.specs.Event.{ItemValue, item_value}
 use Rattle.mrt_wire.specs.Rib.{RibEntry, SpellsEntry}
 use Rattle.mrt_wire.specs.Items.{first_unknown}
@@ -32,14 +32,14 @@ one_more_prefix f old items new item prefixes k prefix a n s g less =
 -- ---- entries read so far
 
 -- so many entries stand before the rest, and this is what they say
-pub record ItemsSoFar (context : TableContext) (prefix : Network) (count : ℕ) (parsed : EntryItems) (rest octets : List ℕ) : Type 0 where
+pub record ItemsSoFar (context : TableContext) (prefix : Network) (count : ℕ) (parsed : ParsedEntries) (rest octets : List ℕ) : Type 0 where
   pub entries : List RibEntry
   pub size : length entries ≡ count
   pub read : Begins (SpellsAll (SpellsEntry context.family)) entries rest octets
   pub tells : AreItemsOf context (record { prefix = prefix; entries = entries }) parsed
 
 -- with an entry more
-pub ItemsSoFar-push : (context : TableContext) (prefix : Network) (count : ℕ) (parsed parsed' : EntryItems) (rest more octets : List ℕ) (entry : RibEntry) → ItemsSoFar context prefix count parsed rest octets
+pub ItemsSoFar-push : (context : TableContext) (prefix : Network) (count : ℕ) (parsed parsed' : ParsedEntries) (rest more octets : List ℕ) (entry : RibEntry) → ItemsSoFar context prefix count parsed rest octets
     → Begins (SpellsEntry context.family) entry more rest
     → map item_value parsed'.items.items ≡ map item_value parsed.items.items ++ context_items context prefix entry
     → parsed'.unknown ≡ option_or parsed.unknown (first_unknown context.peers.now (entry ∷ [])) → ItemsSoFar context prefix (count + 1) parsed' more octets

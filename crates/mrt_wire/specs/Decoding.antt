@@ -23,10 +23,10 @@ use Rattle.mrt_wire.specs.declared.decoding.DecodeError.TheVariants as refusal
 use Rattle.mrt_wire.specs.declared.next.Next.{Next}
 use Rattle.mrt_wire.specs.declared.next.Next.TheVariants as next
 use Rattle.mrt_wire.specs.declared.rib.TableContext.{TableContext}
-use Rattle.mrt_wire.specs.declared.rib.EntryItems.{EntryItems}
+use Rattle.mrt_wire.specs.declared.rib.ParsedEntries.{ParsedEntries}
 use Rattle.mrt_wire.specs.declared.rib.ParsedEntry.{ParsedEntry}
 use Rattle.mrt_wire.specs.declared.rib_route.RawAttrs.{RawAttrs}
-use Rattle.mrt_wire.specs.declared.session.SessionItems.{SessionItems}
+use Rattle.mrt_wire.specs.declared.session.ItemsAndMicroseconds.{ItemsAndMicroseconds}
 use Rattle.mrt_wire.specs.declared.update.AnnouncedPrefixes.{AnnouncedPrefixes}
 use Rattle.bgp_wire.specs.declared.attrs.Attrs.{Attrs}
 use Rattle.mrt_wire.specs.declared.table_dump.TableDumpFields.{TableDumpFields}
@@ -97,7 +97,7 @@ SpellsMapped {A} Spells says parsed octets = (value : A) × Spells value octets 
 
 -- what the body of a BGP4MP or BGP4MP_ET record with this timestamp is parsed into: the values of its items, and the
 -- microseconds
-abbrev pub parsed_session : ℕ → SessionBody → SessionItems
+abbrev pub parsed_session : ℕ → SessionBody → ItemsAndMicroseconds
 parsed_session seconds body = record { items = session_items seconds body.content; micros = body.micros }
 
 -- the RIB entry that was parsed: the attributes of its route, its Originated Time, and its peer index
@@ -116,13 +116,13 @@ context_items context = entry_items context.peers.now context.stamp context.seco
 
 -- the items are the announcements of all RIB entries in this context, and `unknown` is the first peer index that
 -- isn't in the table, or `None` where all are
-pub record AreItemsOf (context : TableContext) (rib : PrefixEntries) (parsed : EntryItems) : Type 0 where
+pub record AreItemsOf (context : TableContext) (rib : PrefixEntries) (parsed : ParsedEntries) : Type 0 where
   pub items : map item_value parsed.items.items ≡ entries_items context.peers.now context.stamp context.seconds rib
   pub unknown : parsed.unknown ≡ first_unknown context.peers.now rib.entries
 
 -- the octets are the number of RIB entries, the entries and then any octets, and `parsed` has the items that these
 -- entries make for this prefix and their first peer index that isn't in the table (`AreItemsOf`)
-abbrev pub SpellsEntryItems : TableContext → Network → EntryItems → List ℕ → Type 0
+abbrev pub SpellsEntryItems : TableContext → Network → ParsedEntries → List ℕ → Type 0
 SpellsEntryItems context prefix parsed octets =
     (entries : List RibEntry) × SpellsEntries context.family entries octets
     × AreItemsOf context (record { prefix = prefix; entries = entries }) parsed

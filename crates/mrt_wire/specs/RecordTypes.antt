@@ -4,7 +4,7 @@ use Rattle.ip_prefix.specs.declared.addr.Family.TheVariants.{V4, V6}
 use Rattle.bgp_wire.specs.declared.AsWidth.TheVariants.{Two, Four}
 use Rattle.mrt_wire.specs.declared.record_types.BodyFormat.{BodyFormat}
 use Rattle.mrt_wire.specs.declared.record_types.BodyFormat.TheVariants.{Entry, Peers, Entries, Session}
-use Rattle.mrt_wire.specs.declared.record_types.SessionRecordKind.TheVariants.{StateChange, Message}
+use Rattle.mrt_wire.specs.declared.record_types.Bgp4mpRecordKind.TheVariants.{StateChange, Message}
 use Rattle.mrt_wire.specs.declared.record_types.TheConstants.{TABLE_DUMP, AFI_IPV4, AFI_IPV6, TABLE_DUMP_V2, BGP4MP, BGP4MP_ET, PEER_INDEX_TABLE, RIB_IPV4_UNICAST, RIB_IPV6_UNICAST, BGP4MP_STATE_CHANGE, BGP4MP_MESSAGE, BGP4MP_MESSAGE_AS4, BGP4MP_STATE_CHANGE_AS4}
 use Rattle.mrt_frames.specs.Record.{Record}
 

@@ -10,9 +10,9 @@ use Rattle.bgp_wire.specs.Path.{SpellsAsn, SpellsU32, asn_size}
 use Rattle.bgp_wire.specs.Reach.{family_code}
 use Rattle.bgp_wire.specs.Update.{SpellsMessage}
 use Rattle.mrt_events.specs.declared.peer.Peer.{Peer}
-use Rattle.mrt_wire.specs.declared.record_types.SessionRecordKind.{SessionRecordKind}
-use Rattle.mrt_wire.specs.declared.record_types.SessionRecordKind.TheVariants as kind
-use Rattle.mrt_wire.specs.declared.record_types.SessionFormat.{SessionFormat}
+use Rattle.mrt_wire.specs.declared.record_types.Bgp4mpRecordKind.{Bgp4mpRecordKind}
+use Rattle.mrt_wire.specs.declared.record_types.Bgp4mpRecordKind.TheVariants as kind
+use Rattle.mrt_wire.specs.declared.record_types.Bgp4mpFormat.{Bgp4mpFormat}
 use Rattle.mrt_wire.specs.declared.session.TheConstants.{INTERFACE_SIZE, MICROS_PER_SECOND}
 use Rattle.mrt_wire.specs.Fields.{SpellsShort, AreOctets, SpellsAddressOf}
 
@@ -78,7 +78,7 @@ SpellsPeerMessage width m octets =
 
 -- the octets are a BGP4MP body without microseconds: a state change or a message, as the kind says, with AS numbers
 -- of this width
-abbrev pub SpellsSessionContent : SessionRecordKind → AsWidth → SessionContent → List ℕ → Type 0
+abbrev pub SpellsSessionContent : Bgp4mpRecordKind → AsWidth → SessionContent → List ℕ → Type 0
 SpellsSessionContent kind.StateChange width said octets =
     (change : StateChange) × (said ≡ Change change) × SpellsStateChange width change octets
 SpellsSessionContent kind.Message width said octets =
@@ -92,6 +92,6 @@ SpellsMicros true micros octets = (n : ℕ) × (micros ≡ Some n) × (n < MICRO
 
 -- the octets are the body of a BGP4MP or BGP4MP_ET record of this format: the microseconds, if `form.timed`, and then
 -- a state change or a message, as `form.kind` says, with AS numbers of `form.width`
-abbrev pub SpellsSessionBody : SessionFormat → SessionBody → List ℕ → Type 0
+abbrev pub SpellsSessionBody : Bgp4mpFormat → SessionBody → List ℕ → Type 0
 SpellsSessionBody form body octets =
     SpellsPair (SpellsMicros form.timed) (λ micros. SpellsSessionContent form.kind form.width) (body.micros, body.content) octets

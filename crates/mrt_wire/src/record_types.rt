@@ -59,7 +59,7 @@ const BGP4MP_STATE_CHANGE_AS4: u16 = 5;
 
 /// What a BGP4MP record reports of a BGP session: a state change or a message.
 #[derive(Clone, Copy)]
-pub(crate) enum SessionRecordKind {
+pub(crate) enum Bgp4mpRecordKind {
     /// A state change (RFC 6396, sections 4.4.1 and 4.4.4).
     StateChange,
     /// A BGP message from the peer (RFC 6396, sections 4.4.2 and 4.4.3).
@@ -68,9 +68,9 @@ pub(crate) enum SessionRecordKind {
 
 /// The format of the body of a BGP4MP or BGP4MP_ET record, which its type and subtype determine.
 #[derive(Clone, Copy)]
-pub(crate) struct SessionFormat {
+pub(crate) struct Bgp4mpFormat {
     /// What the record reports: a state change or a BGP message.
-    pub(crate) kind: SessionRecordKind,
+    pub(crate) kind: Bgp4mpRecordKind,
     /// The width of AS numbers, two or four octets, both in the session fields and in the paths of
     /// an UPDATE.
     pub(crate) width: AsWidth,
@@ -90,7 +90,7 @@ pub(crate) enum BodyFormat {
     /// (RFC 6396, section 4.3.2).
     Entries(Family),
     /// A state change or a message of a session: BGP4MP or BGP4MP_ET (RFC 6396, section 4.4).
-    Session(SessionFormat),
+    Session(Bgp4mpFormat),
 }
 
 /// The supported MRT types and subtypes, each with the [`BodyFormat`] of its bodies. The reader of
@@ -123,11 +123,11 @@ fn session_format(timed: bool, subtype: u16) -> Option<BodyFormat>
     ensures { result ≡ session_format timed subtype }
 {
     let (kind, width) = match subtype {
-        BGP4MP_STATE_CHANGE => (SessionRecordKind::StateChange, AsWidth::Two),
-        BGP4MP_MESSAGE => (SessionRecordKind::Message, AsWidth::Two),
-        BGP4MP_MESSAGE_AS4 => (SessionRecordKind::Message, AsWidth::Four),
-        BGP4MP_STATE_CHANGE_AS4 => (SessionRecordKind::StateChange, AsWidth::Four),
+        BGP4MP_STATE_CHANGE => (Bgp4mpRecordKind::StateChange, AsWidth::Two),
+        BGP4MP_MESSAGE => (Bgp4mpRecordKind::Message, AsWidth::Two),
+        BGP4MP_MESSAGE_AS4 => (Bgp4mpRecordKind::Message, AsWidth::Four),
+        BGP4MP_STATE_CHANGE_AS4 => (Bgp4mpRecordKind::StateChange, AsWidth::Four),
         _ => return None,
     };
-    Some(BodyFormat::Session(SessionFormat { kind, width, timed }))
+    Some(BodyFormat::Session(Bgp4mpFormat { kind, width, timed }))
 }

@@ -60,7 +60,7 @@ pub(crate) struct TableContext<'a> {
 /// The result of parsing the entries of a RIB record: the items of its event, and the first peer
 /// index of an entry that isn't in the peer index table, if there is one.
 #[derive(Drop)]
-pub(crate) struct EntryItems {
+pub(crate) struct ParsedEntries {
     /// The announcements of the entries whose peer index is in the peer index table.
     pub(crate) items: Vec<Item>,
     /// The first peer index among the entries that isn't in the peer index table, or `None` if all
@@ -83,7 +83,7 @@ pub(crate) fn route_time(stamp: Stamp, seconds: u32, originated: u32) -> u32
 
 /// The fields of a RIB entry, and `rest`, the octets after the entry (RFC 6396, section 4.3.4).
 #[derive(Clone, Copy)]
-struct EntryFields<'a> {
+struct EntryFieldsAndRest<'a> {
     /// The path attributes, unparsed, without their length.
     attributes: &'a [u8],
     rest: &'a [u8],
@@ -97,7 +97,7 @@ struct EntryFields<'a> {
 /// (RFC 6396, section 4.3.4). The octets after the entry are in `rest`. Returns `None` if `octets`
 /// is shorter than the entry.
 #[inline]
-fn split_entry_fields(octets: &[u8]) -> Option<EntryFields<'_>>
+fn split_entry_fields(octets: &[u8]) -> Option<EntryFieldsAndRest<'_>>
     ensures some { IfSome result (λ f.
         Begins AreEntryFields (f.index, (f.time, f.attributes.now)) f.rest.now octets.now) }
     ensures none { IfNone result (BeginsWithNone AreEntryFields octets.now) }
@@ -105,7 +105,7 @@ fn split_entry_fields(octets: &[u8]) -> Option<EntryFields<'_>>
     let index = split_u16(octets)?;
     let time = split_u32(index.rest)?;
     let (attributes, rest) = split_length_prefixed(time.rest)?;
-    Some(EntryFields {
+    Some(EntryFieldsAndRest {
         attributes,
         rest,
         time: time.value,
@@ -156,7 +156,7 @@ fn peer_by_index(peers: &[Peer], number: u16) -> Option<Peer>
     peers.get(usize::from(number)).copied()
 }
 
-impl EntryItems {
+impl ParsedEntries {
     /// Appends to `items` the announcement of `prefix` by the peer of `entry`, with the route of
     /// `entry`. If the peer index of `entry` isn't in the table of `context`, appends nothing and
     /// sets `unknown` to this index, unless `unknown` has an earlier one. Fails if memory
@@ -194,7 +194,7 @@ fn read_entries(
     context: TableContext<'_>,
     prefix: Prefix,
     octets: &[u8],
-) -> Result<EntryItems, WireFault>
+) -> Result<ParsedEntries, WireFault>
     ensures parsed { IfOk result (λ parsed. SpellsEntryItems context.entry prefix parsed
         octets.now) }
     ensures refused { IfErr result (Refuses (SpellsEntries context.entry.family) octets.now) }
@@ -204,7 +204,7 @@ fn read_entries(
     let most = count.rest.len() / SMALLEST_ENTRY;
     let mut items = pool.take_items(alloc);
     items.reserve(most.min(usize::from(count.value)))?;
-    let mut parsed = EntryItems {
+    let mut parsed = ParsedEntries {
         items,
         unknown: None,
     };
@@ -227,7 +227,7 @@ pub(crate) fn read_rib(
     pool: &mut Pool,
     context: TableContext<'_>,
     octets: &[u8],
-) -> Result<EntryItems, WireFault>
+) -> Result<ParsedEntries, WireFault>
     ensures parsed { IfOk result (λ parsed. (rib : PrefixEntries)
         × SpellsRib context.entry.family rib octets.now × AreItemsOf context.entry rib parsed) }
     ensures refused { IfErr result (Refuses (SpellsRib context.entry.family) octets.now) }

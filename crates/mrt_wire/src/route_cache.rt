@@ -47,7 +47,7 @@ pub(crate) const MOST_SPARES: usize = 64;
 /// By then the other owners of the oldest route have mostly dropped it; if not, [`fill_or_replace`]
 /// makes a new one.
 #[derive(Drop)]
-struct ReplacementRoutes {
+struct SpareRoutes {
     /// The routes of the ring, at most [`MOST_SPARES`].
     routes: Vec<Rc<Route>>,
     /// The index of the route that is swapped out next.
@@ -56,10 +56,10 @@ struct ReplacementRoutes {
     ghost within: { next < MOST_SPARES },
 }
 
-impl ReplacementRoutes {
+impl SpareRoutes {
     /// Returns a ring without routes, without allocating memory.
-    fn new(alloc: Global) -> ReplacementRoutes {
-        ReplacementRoutes {
+    fn new(alloc: Global) -> SpareRoutes {
+        SpareRoutes {
             routes: Vec::new(alloc),
             next: 0,
         }
@@ -70,7 +70,7 @@ impl ReplacementRoutes {
     /// oldest route of the ring, which is removed from it and may still have other owners. Fails if
     /// memory allocation fails; `route` holds an unspecified route then.
     #[inline(always)]
-    fn swap_route(&mut self, alloc: Global, route: &mut Rc<Route>) -> Result<(), AllocError> {
+    fn swap_for_spare(&mut self, alloc: Global, route: &mut Rc<Route>) -> Result<(), AllocError> {
         match self.routes.get_mut(self.next) {
             Some(spare) => mem::swap(spare, route),
             None => self.swap_for_new_route(alloc, route)?,
@@ -183,7 +183,7 @@ impl CachedRoute {
     fn parse(
         &mut self,
         alloc: Global,
-        spares: &mut ReplacementRoutes,
+        spares: &mut SpareRoutes,
         raw: RawAttrs<'_>,
         time: u32,
     ) -> Result<Rc<Route>, WireFault>
@@ -192,7 +192,7 @@ impl CachedRoute {
     {
         self.known = false;
         if Rc::strong_count(&self.route) > 1 {
-            spares.swap_route(alloc, &mut self.route)?;
+            spares.swap_for_spare(alloc, &mut self.route)?;
         }
         fill_or_replace(&mut self.route, alloc, raw, time)?;
         self.octets.clear();
@@ -254,7 +254,7 @@ pub(crate) struct RouteCache {
     /// The slots, up to the last that was needed. A slot without a route is `None`.
     slots: Vec<Option<CachedRoute>>,
     /// Routes that take the place of cached routes which have other owners.
-    spares: ReplacementRoutes,
+    spares: SpareRoutes,
     /// The routes of entries that aren't cached, whose memory later records reuse.
     pub(crate) routes: RoutePool,
     ghost bounded: { vec_len slots ≤ PEER_SLOTS },
@@ -265,7 +265,7 @@ impl RouteCache {
     pub(crate) fn new(alloc: Global) -> RouteCache {
         RouteCache {
             slots: Vec::new(alloc),
-            spares: ReplacementRoutes::new(alloc),
+            spares: SpareRoutes::new(alloc),
             routes: RoutePool::new(alloc),
         }
     }

@@ -16,7 +16,7 @@ ghost use Rattle.mrt_wire.specs.Session.{SpellsFamily, AreAsnFields, AreAddressF
 use crate::fields::{ValueAndRest, fill_address, skip, split_asn, split_u16, split_u32};
 use crate::peers::blank_peer;
 use crate::pool::Pool;
-use crate::record_types::{SessionFormat, SessionRecordKind};
+use crate::record_types::{Bgp4mpFormat, Bgp4mpRecordKind};
 use crate::update::items_of_update;
 use bgp_wire::{AsWidth, MessageKind, WireFault, read_message_into};
 use ip_prefix::{Addr, Family};
@@ -38,7 +38,7 @@ const LONGEST_KEPT: usize = 4096;
 /// The result of parsing the body of a BGP4MP or BGP4MP_ET record: the items of its event, and the
 /// microseconds of its timestamp.
 #[derive(Debug, Drop)]
-pub(crate) struct SessionItems {
+pub(crate) struct ItemsAndMicroseconds {
     /// The state change, or the withdrawals and announcements of the UPDATE; empty for another
     /// message.
     pub(crate) items: Items,
@@ -106,7 +106,7 @@ fn read_peer_message(
     width: AsWidth,
     octets: &[u8],
 ) -> Result<Items, WireFault>
-    ensures { ParsesOrFails (SpellsMapped (SpellsSessionContent SessionRecordKind.Message width)
+    ensures { ParsesOrFails (SpellsMapped (SpellsSessionContent Bgp4mpRecordKind.Message width)
         (session_items seconds))
         octets.now result }
 {
@@ -148,7 +148,7 @@ fn split_micros(timed: bool, octets: &[u8]) -> Option<ValueAndRest<'_, Option<u3
 /// address family is unknown, or with `Memory` if memory allocation fails.
 fn read_state_change(alloc: Global, width: AsWidth, octets: &[u8]) -> Result<Items, WireFault>
     ensures { (seconds : ℕ) → ParsesOrFails (SpellsMapped
-        (SpellsSessionContent SessionRecordKind.StateChange width)
+        (SpellsSessionContent Bgp4mpRecordKind.StateChange width)
         (session_items seconds)) octets.now result }
 {
     let mut peer = blank_peer();
@@ -169,7 +169,7 @@ fn read_session_content(
     alloc: Global,
     pool: &mut Pool,
     seconds: u32,
-    form: SessionFormat,
+    form: Bgp4mpFormat,
     octets: &[u8],
 ) -> Result<Items, WireFault>
     ensures { ParsesOrFails (SpellsMapped (SpellsSessionContent form.kind form.width)
@@ -177,8 +177,8 @@ fn read_session_content(
         octets.now result }
 {
     match form.kind {
-        SessionRecordKind::StateChange => read_state_change(alloc, form.width, octets),
-        SessionRecordKind::Message => {
+        Bgp4mpRecordKind::StateChange => read_state_change(alloc, form.width, octets),
+        Bgp4mpRecordKind::Message => {
             let result = read_peer_message(alloc, pool, seconds, form.width, octets);
             if octets.len() > LONGEST_KEPT {
                 pool.free_message_memory(alloc);
@@ -198,14 +198,14 @@ pub(crate) fn read_session(
     alloc: Global,
     pool: &mut Pool,
     seconds: u32,
-    form: SessionFormat,
+    form: Bgp4mpFormat,
     octets: &[u8],
-) -> Result<SessionItems, WireFault>
+) -> Result<ItemsAndMicroseconds, WireFault>
     ensures { ParsesOrFails (SpellsMapped (SpellsSessionBody form) (parsed_session seconds))
         octets.now result }
 {
     let micros = split_micros(form.timed, octets).ok_or(WireFault::Malformed)?;
     let items = read_session_content(alloc, pool, seconds, form, micros.rest)?;
     let micros = micros.value;
-    Ok(SessionItems { items, micros })
+    Ok(ItemsAndMicroseconds { items, micros })
 }

@@ -5,7 +5,7 @@ ghost use Rattle.std.specs.Prelude.{◌≡◌, ◌+◌, ◌-◌, ◌*◌, ◌<�
 ghost use Rattle.octet_text.specs.Written.{IsWritten, ended_words};
 
 use crate::cursor::{
-    DECIMAL_ROOM, ENDED_ROOM, WORD_ROOM, WordFormat, WriteTextAt, put_octets, write_decimal,
+    DECIMAL_ROOM, ENDED_ROOM, WORD_ROOM, WordFormat, WriteTextAt, copy_octets_at, write_decimal,
     write_ended_decimal,
 };
 use itoa::Buffer;
@@ -269,7 +269,7 @@ impl Text {
     {
         let at = self.len;
         make_room(&mut self.buffer, at, octets.len())?;
-        put_octets(octets, self.buffer.as_mut_slice(), at);
+        copy_octets_at(octets, self.buffer.as_mut_slice(), at);
         self.len = at + octets.len();
         Ok(())
     }
@@ -398,7 +398,7 @@ fn write_first_octets_at(octets: &[u8], len: usize, text: &mut [u8], at: usize) 
     requires room { at + length octets.now ≤ length text.old }
     ensures { IsWritten text.old at (take len octets.now) text.new result }
 {
-    put_octets(octets, text, at);
+    copy_octets_at(octets, text, at);
     at + len
 }
 

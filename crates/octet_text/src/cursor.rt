@@ -114,7 +114,7 @@ pub fn write_below_thousand(number: u32, text: &mut [u8], at: usize) -> usize
     ensures short { result ≤ at + 3 }
 {
     let row = left_aligned_row(number);
-    put_octets(&row, text, at);
+    copy_octets_at(&row, text, at);
     at + usize::from(row[3]) - ZERO
 }
 
@@ -126,7 +126,7 @@ fn write_three_digits(number: u32, text: &mut [u8], at: usize) -> usize
     requires { (number < THOUSAND) × (at + ROW ≤ length text.old) }
     ensures { IsWritten text.old at (three_digits number) text.new result }
 {
-    put_octets(&zero_padded_row(number), text, at);
+    copy_octets_at(&zero_padded_row(number), text, at);
     at + 3
 }
 
@@ -160,7 +160,7 @@ pub fn write_hex_octet(number: u16, text: &mut [u8], at: usize) -> usize
     ensures written { IsWritten text.old at (two_hex_digits number) text.new result }
     ensures short { result ≡ at + HEX_PAIR }
 {
-    put_octets(&hex_pair(number), text, at);
+    copy_octets_at(&hex_pair(number), text, at);
     at + HEX_PAIR
 }
 
@@ -177,7 +177,7 @@ pub fn hex_pair(number: u16) -> [u8; HEX_PAIR]
 /// Copies all of `octets` into `text` at offset `at`, over what is there. Requires that `text` has
 /// that many octets from `at` on.
 #[inline(always)]
-pub fn put_octets(octets: &[u8], text: &mut [u8], at: usize)
+pub fn copy_octets_at(octets: &[u8], text: &mut [u8], at: usize)
     requires { at + length octets.now ≤ length text.old }
     ensures { text.new ≡ take at text.old ++ octets.now ++ drop (at + length octets.now) text.old }
 {

@@ -9,6 +9,6 @@ mod digits;
 
 pub use buffer::{Text, put_decimal};
 pub use cursor::{
-    DECIMAL_ROOM, HEX_PAIR, ROW, SPACE, WORD_ROOM, WordFormat, WriteTextAt, hex_pair, put_octets,
-    write_below_thousand, write_decimal, write_ended_decimal, write_hex_octet,
+    DECIMAL_ROOM, HEX_PAIR, ROW, SPACE, WORD_ROOM, WordFormat, WriteTextAt, copy_octets_at,
+    hex_pair, write_below_thousand, write_decimal, write_ended_decimal, write_hex_octet,
 };

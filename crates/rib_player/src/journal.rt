@@ -17,7 +17,7 @@ ghost use Rattle.rib_player.specs.JournalState.{IsStepSwapped, AreApplied, CanDr
 
 use crate::claims::{ExtraClaims, apply_entry, release_claims};
 use crate::entry::{Entry, JournalEnd, Step};
-use crate::prefetching::{PrefetchedGroups, prefetch_next_entries, prefetch_steps};
+use crate::prefetching::{PrefetchedGroups, prefetch_at_batch_start, prefetch_steps};
 use crate::spare_capacity::{LEAST_ROOM, MOST_TIMES};
 use crate::table::Table;
 use known_routes::RouteInterner;
@@ -54,7 +54,7 @@ pub(crate) fn swap_routes<S: PrefixStore<Rc<Route>>>(table: &mut Table<S>, entri
 {
     let mut visited = 0u64;
     'entries: for index in 0..entries.len() {
-        visited = visited.wrapping_add(prefetch_next_entries(table, entries, index));
+        visited = visited.wrapping_add(prefetch_at_batch_start(table, entries, index));
         entries[index].exchange(table);
     }
     table.add_prefetched_nodes(visited);
@@ -154,7 +154,7 @@ pub(crate) fn apply_entries<S: PrefixStore<Rc<Route>>>(
     let mut made = 0;
     let mut visited = 0u64;
     'entries: while made < entries.len() {
-        visited = visited.wrapping_add(prefetch_next_entries(table, entries, made));
+        visited = visited.wrapping_add(prefetch_at_batch_start(table, entries, made));
         if let Err(refused) = apply_entry(table, claims, &mut entries[made]) {
             let put = &mut entries[..made];
             swap_routes(table, put);

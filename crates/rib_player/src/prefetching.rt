@@ -1,7 +1,7 @@
 //! Prefetches of the memory that the routes of steps (played events) need in the table, before
 //! undo, redo or play swap them with the table's, so that the processor waits for the nodes (of a
 //! store's tree of prefixes) of several pairs of a peer and a prefix at once. They change nothing.
-//! `journal.rt` calls [`prefetch_next_entries`] and [`prefetch_steps`].
+//! `journal.rt` calls [`prefetch_at_batch_start`] and [`prefetch_steps`].
 //!
 //! Nodes are prefetched only for entries of one peer, as those of a BGP message, whose store has
 //! many keys (prefixes with memory for a route). A RIB record names one prefix of many peers, and
@@ -86,7 +86,7 @@ fn store_worth_prefetching<'a, S: PrefixStore<Rc<Route>>>(
 /// - the first and the last of all entries are of one peer, whose store has at least [`LEAST_KEYS`]
 ///   keys (prefixes with memory for a route).
 #[inline]
-pub(crate) fn prefetch_next_entries<S: PrefixStore<Rc<Route>>>(
+pub(crate) fn prefetch_at_batch_start<S: PrefixStore<Rc<Route>>>(
     table: &Table<S>,
     entries: &[Entry],
     index: usize,
@@ -124,7 +124,7 @@ pub(crate) struct PrefetchedGroups {
 /// is the step that the caller undoes or redoes next. Does nothing and returns 0 if its index in
 /// the group isn't `first` (0 for a caller that redoes, `STEPS_TOGETHER - 1` for one that undoes),
 /// if it has no entries, or if the group is in `prefetched` already. Steps of at least
-/// [`ENTRIES_AT_ONCE`] entries are left to [`prefetch_next_entries`]. Requires that `next` is the
+/// [`ENTRIES_AT_ONCE`] entries are left to [`prefetch_at_batch_start`]. Requires that `next` is the
 /// index of a step.
 pub(crate) fn prefetch_steps<S: PrefixStore<Rc<Route>>>(
     table: &Table<S>,

@@ -52,7 +52,7 @@ pub(crate) struct Stores<S> {
     /// events changed) share. The index of a peer is its number.
     pub(crate) names: Vec<Rc<NumberedPeer>>,
     /// The numbers of the stores that have a route. A caller that changes a store's routes has to
-    /// call [`Stores::set_routed`] or [`Stores::update_routed`] then.
+    /// call [`Stores::set_routed`] or [`Stores::note_route_count`] then.
     pub(crate) routed: SparseSet,
     /// A small hash table: for each slot ([`slot_of`]), the number that was set last for a peer of
     /// this slot, or 0. It may be another peer's, so a reader checks which peer has it; a peer that
@@ -236,7 +236,7 @@ impl<S> Stores<S> {
     /// since the store had a route before too. Requires that `number` is the index of a store, and
     /// that this store is in the set already if `count` is two or more. Allocates no memory.
     #[inline]
-    pub(crate) fn update_routed(&mut self, number: usize, count: u64)
+    pub(crate) fn note_route_count(&mut self, number: usize, count: u64)
         requires within { number < length self.old.held.items }
         requires noted { 1 < count → slice_get (choices self.old.routed) number ≡ Some true }
         ensures stores { stores_in self.new ≡ stores_in self.old }

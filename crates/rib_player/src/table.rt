@@ -115,7 +115,7 @@ impl<S: PrefixStore<Rc<Route>>> Table<S> {
         };
         store.exchange(&pair.prefix, route);
         let count = store.route_count();
-        self.stores.update_routed(number, count);
+        self.stores.note_route_count(number, count);
     }
 
     /// Swaps the table's route of `pair`, a peer and a prefix, with `route`, either of which may be
@@ -144,7 +144,7 @@ impl<S: PrefixStore<Rc<Route>>> Table<S> {
         if let Some(store) = self.stores.get_mut(&mut number, &pair.peer) {
             let made = store.put(&pair.prefix, route);
             let count = store.route_count();
-            self.stores.update_routed(number, count);
+            self.stores.note_route_count(number, count);
             return made;
         }
         let mut store = S::new(self.alloc);

@@ -151,7 +151,7 @@ impl<K, R> Fork<K, R> {
     /// the caller sets the mark to whether the changed child has one.
     #[inline]
     #[tactic(auto, using(crate::proofs::MarkLaws::none_beside))]
-    fn keeps_mark(&self, routed: bool, adds_route: bool, turn: Turn) -> bool
+    fn has_routes_after_change(&self, routed: bool, adds_route: bool, turn: Turn) -> bool
         requires { routed ≡ any_has_routes NoKey self.now.left self.now.right }
         ensures routed { result ≡ true → routed ≡ true }
         ensures beside { result ≡ true → adds_route ≡ false →
@@ -199,7 +199,7 @@ impl<K, R> Node<K, R> {
     /// sets the mark to whether the changed part has one.
     #[inline]
     #[tactic(auto, using(crate::proofs::MarkLaws::none_beside))]
-    fn keeps_mark(&self, routed: bool, adds_route: bool, turn: Turn) -> bool
+    fn has_routes_after_change(&self, routed: bool, adds_route: bool, turn: Turn) -> bool
         requires { routed ≡ any_has_routes self.now.slot self.now.left self.now.right }
         ensures routed { result ≡ true → routed ≡ true }
         ensures beside { result ≡ true → adds_route ≡ false →

@@ -44,7 +44,7 @@ impl<K: PackedPrefix, R: Drop> Tree<K, R> {
                     Turn::Right => node.right.discard(key),
                 }
                 *routed = node.has_routes();
-                replace_by_only_child(self);
+                drop_needless_root(self);
                 unbox_leaf(self);
             }
             Tree::Forked(routed, prefix, fork) => {
@@ -55,7 +55,7 @@ impl<K: PackedPrefix, R: Drop> Tree<K, R> {
                     _ => return,
                 }
                 *routed = fork.has_routes();
-                replace_by_only_child(self);
+                drop_needless_root(self);
             }
         }
     }
@@ -82,7 +82,7 @@ fn discard_leaf<K: PackedPrefix, R: Drop>(tree: &mut Tree<K, R>, prefix: K, key:
 /// Removes the root if its prefix isn't a key (a prefix that the tree keeps) and it has fewer than
 /// two children: its only child becomes the root, or the tree becomes empty. Otherwise does
 /// nothing. Keys and routes stay as they are.
-fn replace_by_only_child<K: PackedPrefix, R: Drop>(tree: &mut Tree<K, R>)
+fn drop_needless_root<K: PackedPrefix, R: Drop>(tree: &mut Tree<K, R>)
     requires shaped { IsRadixTreeBelowRoot (shape_of K.network tree.old) }
     requires marked { HasCorrectMarks tree.old }
     ensures shaped { IsRadixTree (shape_of K.network tree.new) }

@@ -52,13 +52,13 @@ impl<K: PackedPrefix, R: Drop> Tree<K, R> {
                 let node = &mut **node;
                 match prefix.turn(key) {
                     Turn::Left => {
-                        if node.keeps_mark(*routed, route.is_some(), Turn::Left) {
+                        if node.has_routes_after_change(*routed, route.is_some(), Turn::Left) {
                             return node.left.put(alloc, key, route);
                         }
                         put_and_update_mark(routed, &mut node.left, alloc, key, route)
                     }
                     Turn::Right => {
-                        if node.keeps_mark(*routed, route.is_some(), Turn::Right) {
+                        if node.has_routes_after_change(*routed, route.is_some(), Turn::Right) {
                             return node.right.put(alloc, key, route);
                         }
                         put_and_update_mark(routed, &mut node.right, alloc, key, route)
@@ -70,13 +70,13 @@ impl<K: PackedPrefix, R: Drop> Tree<K, R> {
                 let fork = &mut **fork;
                 match prefix.turn(key) {
                     Turn::Left => {
-                        if fork.keeps_mark(*routed, route.is_some(), Turn::Left) {
+                        if fork.has_routes_after_change(*routed, route.is_some(), Turn::Left) {
                             return fork.left.put(alloc, key, route);
                         }
                         put_and_update_mark(routed, &mut fork.left, alloc, key, route)
                     }
                     Turn::Right => {
-                        if fork.keeps_mark(*routed, route.is_some(), Turn::Right) {
+                        if fork.has_routes_after_change(*routed, route.is_some(), Turn::Right) {
                             return fork.right.put(alloc, key, route);
                         }
                         put_and_update_mark(routed, &mut fork.right, alloc, key, route)

@@ -52,13 +52,13 @@ impl<K: PackedPrefix, R: Drop> Tree<K, R> {
                         *routed = node.has_routes();
                     }
                     Turn::Left => {
-                        if node.keeps_mark(*routed, route.is_some(), Turn::Left) {
+                        if node.has_routes_after_change(*routed, route.is_some(), Turn::Left) {
                             return node.left.exchange(key, route);
                         }
                         exchange_and_update_mark(routed, &mut node.left, key, route);
                     }
                     Turn::Right => {
-                        if node.keeps_mark(*routed, route.is_some(), Turn::Right) {
+                        if node.has_routes_after_change(*routed, route.is_some(), Turn::Right) {
                             return node.right.exchange(key, route);
                         }
                         exchange_and_update_mark(routed, &mut node.right, key, route);
@@ -69,13 +69,13 @@ impl<K: PackedPrefix, R: Drop> Tree<K, R> {
                 let fork = &mut **fork;
                 match prefix.turn_covered(key) {
                     Turn::Left => {
-                        if fork.keeps_mark(*routed, route.is_some(), Turn::Left) {
+                        if fork.has_routes_after_change(*routed, route.is_some(), Turn::Left) {
                             return fork.left.exchange(key, route);
                         }
                         exchange_and_update_mark(routed, &mut fork.left, key, route);
                     }
                     Turn::Right => {
-                        if fork.keeps_mark(*routed, route.is_some(), Turn::Right) {
+                        if fork.has_routes_after_change(*routed, route.is_some(), Turn::Right) {
                             return fork.right.exchange(key, route);
                         }
                         exchange_and_update_mark(routed, &mut fork.right, key, route);

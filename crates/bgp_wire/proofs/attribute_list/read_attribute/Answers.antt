@@ -21,13 +21,13 @@ refused_value : {A R : Type 0} (Spells : A → List ℕ → Type 0) (width : AsW
 refused_value Spells width kind value fault (Ok done) p has none = tt
 refused_value Spells width kind value fault (Err y) p has none = λ first e. refused_part (AreUnmergedAttrsOf width) Spells first value y (has first e) (subst (Refuses Spells value) (sym p) none)
 
-pub returns-in_err-set_if_found-in-7-clause-refused : goal.returns-in_err-set_if_found-in-7-clause-refused
-returns-in_err-set_if_found-in-7-clause-refused c =
+pub returns-in_err-set_or_fail-in-7-clause-refused : goal.returns-in_err-set_or_fail-in-7-clause-refused
+returns-in_err-set_or_fail-in-7-clause-refused c =
     let value = c.args.framed.value.now in
-    let passed = c.from_residual-in_err-set_if_found-in-7 in
+    let passed = c.from_residual-in_err-set_or_fail-in-7 in
     refused_value SpellsAggregator c.args.width c.args.framed.kind value Malformed passed.result passed.ensures.1
     (λ first e attrs s. spelled_there SpellsAggregator attrs.aggregator (first AGGREGATOR) value s.aggregator (ap first (sym c.in-7.is) ∙ e))
-    (refused_always SpellsAggregator value Malformed (subst (ParsesTo SpellsAggregator value) c.in_err-set_if_found-in-7.ensures.none c.read_aggregator.ensures))
+    (refused_always SpellsAggregator value Malformed (subst (ParsesTo SpellsAggregator value) c.in_err-set_or_fail-in-7.ensures.none c.read_aggregator.ensures))
 
 pub returns-in_err-fill_numbers-in-8-clause-refused : goal.returns-in_err-fill_numbers-in-8-clause-refused
 returns-in_err-fill_numbers-in-8-clause-refused c =

@@ -32,7 +32,7 @@ returns-clause-written c =
     let eight : length groups ≡ 8 = omega arith in
     let size : length (take run.0 groups) ≡ run.0 = length-take-le run.0 groups (omega (arith, c.longest_zero_run-first.ensures.within)) in
     let room : gap + 2 ≤ length mid = omega (arith, size, c.requires, c.longest_zero_run-first.ensures.within, c.write_groups-gap.ensures.short, c.write_groups-gap.ensures.written.size) in
-    let colons = written_row mid (58 ∷ 58 ∷ []) c.put_octets.new.text gap 2 room (omega arith) c.put_octets.ensures in
+    let colons = written_row mid (58 ∷ 58 ∷ []) c.copy_octets_at.new.text gap 2 room (omega arith) c.copy_octets_at.ensures in
     let whole = append_assoc front (58 ∷ 58 ∷ []) _
     ∙ ap (λ t. front ++ 58 ∷ 58 ∷ groups_text t) (ap (λ n. take (n - (run.0 + run.1)) (drop (run.0 + run.1) groups)) (sym eight) ∙ take_rest groups (run.0 + run.1))
     ∙ ap (λ p. groups_text (take p.0 groups) ++ 58 ∷ 58 ∷ groups_text (drop (p.0 + p.1) groups)) same

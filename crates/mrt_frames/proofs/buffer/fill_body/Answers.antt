@@ -1,6 +1,6 @@
 use Rattle.std.proofs.Common.{rules, ◌∙◌, ◌≤◌, length, take, drop, arith, length-take-le, length-drop, ◌-◌, ◌≡◌}
 use Rattle.std.proofs.lemmas.Result.{err_from_is_err_and}
-use Rattle.mrt_frames.proofs.Buffers.{Takes-parts, FillsWithin-stopped_place, take-resized}
+use Rattle.mrt_frames.proofs.Buffers.{Takes-parts, FillsWithinLimit-stopped_place, take-resized}
 use Rattle.mrt_frames.proofs.BufferedLaws.{length_read}
 use Rattle.mrt_frames.proofs.buffer.fill_body.Goals as goal
 
@@ -9,7 +9,7 @@ returns-in_err-filled-clause-octets g c =
     let p = err_from_is_err_and c.from_residual-in_err-filled.result c.from_residual-in_err-filled.ensures.1 in
     let at = c.loop-filled.filled in
     let held : at ≤ length c.loop-filled.buffer.items = omega (arith, c.loop-filled.buffer.ok.0) in
-    rw (p.1, p.2) (FillsWithin-stopped_place _ _ _ _ _ _ (take at c.loop-filled.buffer.items) (drop at c.fill_part.new.buffer.items) c.fill_part.new.buffer.items at c.next_fill_end-end.result c.args.size c.args.limit _ (length-take-le at c.loop-filled.buffer.items held)
+    rw (p.1, p.2) (FillsWithinLimit-stopped_place _ _ _ _ _ _ (take at c.loop-filled.buffer.items) (drop at c.fill_part.new.buffer.items) c.fill_part.new.buffer.items at c.next_fill_end-end.result c.args.size c.args.limit _ (length-take-le at c.loop-filled.buffer.items held)
     (omega arith) (omega arith) c.loop-filled.invariant.octets c.in_err-filled.ensures.octets)
 
 pub loop-filled-preserved : goal.loop-filled-preserved

@@ -5,7 +5,7 @@ use Rattle.bgp_wire.specs.Readers.{ParsesOrFails}
 use Rattle.bgp_wire.specs.Update.{SpellsMessage}
 use Rattle.bgp_paths.proofs.Refusing.{refused_part}
 use Rattle.ip_prefix.specs.Fields.{SpellsPair}
-use Rattle.mrt_wire.specs.declared.record_types.SessionRecordKind.TheVariants.{Message}
+use Rattle.mrt_wire.specs.declared.record_types.Bgp4mpRecordKind.TheVariants.{Message}
 use Rattle.mrt_events.specs.Event.{item_value}
 use Rattle.mrt_wire.specs.Items.{session_items}
 use Rattle.mrt_wire.specs.Decoding.{SpellsMapped}

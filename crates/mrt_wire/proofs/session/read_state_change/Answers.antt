@@ -1,7 +1,7 @@
 use Rattle.std.proofs.Common.{map, ap, refl, ◌∙◌}
 use Rattle.octet_forms.proofs.Fields.{none_behind}
 use Rattle.mrt_events.specs.Event.{item_value}
-use Rattle.mrt_wire.specs.declared.record_types.SessionRecordKind.TheVariants.{StateChange}
+use Rattle.mrt_wire.specs.declared.record_types.Bgp4mpRecordKind.TheVariants.{StateChange}
 use Rattle.mrt_wire.specs.Items.{session_items}
 use Rattle.mrt_wire.specs.Decoding.{SpellsMapped}
 use Rattle.mrt_wire.specs.Session.{Change, SpellsSessionContent}

@@ -14,9 +14,9 @@ pub returns-clause-written : goal.returns-clause-written
 returns-clause-written c =
     let digits = decimal c.args.number in
     let behind : c.args.at + length digits ≡ c.args.at + c.from.result - 48 = omega (arith, (counted c).1) in
-    let put = c.put_octets.ensures ∙ ap (λ r. take c.args.at c.args.text.now ++ r ++ drop (c.args.at + length r) c.args.text.now) c.left_aligned_row-row.ensures in
-    subst (λ k. IsWritten c.args.text.now c.args.at digits c.put_octets.new.text k) behind
-    (written_digits digits c.args.text.now c.put_octets.new.text c.args.at (counted c).0 (omega (arith, c.requires)) put)
+    let put = c.copy_octets_at.ensures ∙ ap (λ r. take c.args.at c.args.text.now ++ r ++ drop (c.args.at + length r) c.args.text.now) c.left_aligned_row-row.ensures in
+    subst (λ k. IsWritten c.args.text.now c.args.at digits c.copy_octets_at.new.text k) behind
+    (written_digits digits c.args.text.now c.copy_octets_at.new.text c.args.at (counted c).0 (omega (arith, c.requires)) put)
 
 pub returns-clause-short : goal.returns-clause-short
 returns-clause-short c = omega (arith, counted c)

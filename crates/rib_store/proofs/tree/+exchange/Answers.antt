@@ -22,104 +22,104 @@ Tree::exchange-returns-in-Here-clause-slots g t c =
     let n = c.deref_mut-node.result.now in
     rw (c.in-Rooted.is, sym c.deref_mut-node.ensures.value, c.exchange.ensures.slot) (put_here (way (net c.in-Rooted.prefix)) (way c.args.key.now) None (slot_of n.slot) (Some c.args.route.now) (at (shape_of net n.left)) (at (shape_of net n.right)) cc)
 
-pub Tree::exchange-returns-then-keeps_mark-clause-slots : goal.Tree::exchange-returns-then-keeps_mark-clause-slots
-Tree::exchange-returns-then-keeps_mark-clause-slots g t c =
+pub Tree::exchange-returns-then-has_routes_after_change-clause-slots : goal.Tree::exchange-returns-then-has_routes_after_change-clause-slots
+Tree::exchange-returns-then-has_routes_after_change-clause-slots g t c =
     let net = g.K.PackedPrefix.network in
     let n = c.deref_mut-node.result.now in
-    rw (c.in-Rooted.is, sym c.deref_mut-node.ensures.value) (put_left (way (net c.in-Rooted.prefix)) (way c.args.key.now) None (slot_of n.slot) (Some c.args.route.now) (at (shape_of net n.left)) (at (shape_of net c.exchange-then-keeps_mark.new.self)) (at (shape_of net n.right)) (cc) c.exchange-then-keeps_mark.ensures.slots)
+    rw (c.in-Rooted.is, sym c.deref_mut-node.ensures.value) (put_left (way (net c.in-Rooted.prefix)) (way c.args.key.now) None (slot_of n.slot) (Some c.args.route.now) (at (shape_of net n.left)) (at (shape_of net c.exchange-then-has_routes_after_change.new.self)) (at (shape_of net n.right)) (cc) c.exchange-then-has_routes_after_change.ensures.slots)
 
-pub Tree::exchange-returns-then-keeps_mark-clause-shaped : goal.Tree::exchange-returns-then-keeps_mark-clause-shaped
-Tree::exchange-returns-then-keeps_mark-clause-shaped g t c =
-    let net = g.K.PackedPrefix.network in
-    let n = c.deref_mut-node.result.now in
-    let prefix = net c.in-Rooted.prefix in
-    let was : IsRadixTree (Rooted prefix n.slot (shape_of net n.left) (shape_of net n.right)) = rw c.deref_mut-node.ensures.value (subst (λ t. IsRadixTree (shape_of net t)) c.in-Rooted.is c.requires.shaped) in
-    shaped_left prefix n.slot (shape_of net n.left) (shape_of net n.right) (shape_of net c.exchange-then-keeps_mark.new.self) c.exchange-then-keeps_mark.ensures.root c.exchange-then-keeps_mark.ensures.shaped was
-
-pub Tree::exchange-returns-then-keeps_mark-2-clause-slots : goal.Tree::exchange-returns-then-keeps_mark-2-clause-slots
-Tree::exchange-returns-then-keeps_mark-2-clause-slots g t c =
-    let net = g.K.PackedPrefix.network in
-    let n = c.deref_mut-node.result.now in
-    rw (c.in-Rooted.is, sym c.deref_mut-node.ensures.value) (put_right (way (net c.in-Rooted.prefix)) (way c.args.key.now) None (slot_of n.slot) (Some c.args.route.now) (at (shape_of net n.left)) (at (shape_of net n.right)) (at (shape_of net c.exchange-then-keeps_mark-2.new.self)) (cc) c.exchange-then-keeps_mark-2.ensures.slots)
-
-pub Tree::exchange-returns-then-keeps_mark-2-clause-shaped : goal.Tree::exchange-returns-then-keeps_mark-2-clause-shaped
-Tree::exchange-returns-then-keeps_mark-2-clause-shaped g t c =
+pub Tree::exchange-returns-then-has_routes_after_change-clause-shaped : goal.Tree::exchange-returns-then-has_routes_after_change-clause-shaped
+Tree::exchange-returns-then-has_routes_after_change-clause-shaped g t c =
     let net = g.K.PackedPrefix.network in
     let n = c.deref_mut-node.result.now in
     let prefix = net c.in-Rooted.prefix in
     let was : IsRadixTree (Rooted prefix n.slot (shape_of net n.left) (shape_of net n.right)) = rw c.deref_mut-node.ensures.value (subst (λ t. IsRadixTree (shape_of net t)) c.in-Rooted.is c.requires.shaped) in
-    shaped_right prefix n.slot (shape_of net n.left) (shape_of net n.right) (shape_of net c.exchange-then-keeps_mark-2.new.self) c.exchange-then-keeps_mark-2.ensures.root c.exchange-then-keeps_mark-2.ensures.shaped was
+    shaped_left prefix n.slot (shape_of net n.left) (shape_of net n.right) (shape_of net c.exchange-then-has_routes_after_change.new.self) c.exchange-then-has_routes_after_change.ensures.root c.exchange-then-has_routes_after_change.ensures.shaped was
 
-pub Tree::exchange-returns-else-keeps_mark-clause-slots : goal.Tree::exchange-returns-else-keeps_mark-clause-slots
-Tree::exchange-returns-else-keeps_mark-clause-slots g t c =
+pub Tree::exchange-returns-then-has_routes_after_change-2-clause-slots : goal.Tree::exchange-returns-then-has_routes_after_change-2-clause-slots
+Tree::exchange-returns-then-has_routes_after_change-2-clause-slots g t c =
+    let net = g.K.PackedPrefix.network in
+    let n = c.deref_mut-node.result.now in
+    rw (c.in-Rooted.is, sym c.deref_mut-node.ensures.value) (put_right (way (net c.in-Rooted.prefix)) (way c.args.key.now) None (slot_of n.slot) (Some c.args.route.now) (at (shape_of net n.left)) (at (shape_of net n.right)) (at (shape_of net c.exchange-then-has_routes_after_change-2.new.self)) (cc) c.exchange-then-has_routes_after_change-2.ensures.slots)
+
+pub Tree::exchange-returns-then-has_routes_after_change-2-clause-shaped : goal.Tree::exchange-returns-then-has_routes_after_change-2-clause-shaped
+Tree::exchange-returns-then-has_routes_after_change-2-clause-shaped g t c =
+    let net = g.K.PackedPrefix.network in
+    let n = c.deref_mut-node.result.now in
+    let prefix = net c.in-Rooted.prefix in
+    let was : IsRadixTree (Rooted prefix n.slot (shape_of net n.left) (shape_of net n.right)) = rw c.deref_mut-node.ensures.value (subst (λ t. IsRadixTree (shape_of net t)) c.in-Rooted.is c.requires.shaped) in
+    shaped_right prefix n.slot (shape_of net n.left) (shape_of net n.right) (shape_of net c.exchange-then-has_routes_after_change-2.new.self) c.exchange-then-has_routes_after_change-2.ensures.root c.exchange-then-has_routes_after_change-2.ensures.shaped was
+
+pub Tree::exchange-returns-else-has_routes_after_change-clause-slots : goal.Tree::exchange-returns-else-has_routes_after_change-clause-slots
+Tree::exchange-returns-else-has_routes_after_change-clause-slots g t c =
     let net = g.K.PackedPrefix.network in
     let n = c.deref_mut-node.result.now in
     rw (c.in-Rooted.is, sym c.deref_mut-node.ensures.value) (put_left (way (net c.in-Rooted.prefix)) (way c.args.key.now) None (slot_of n.slot) (Some c.args.route.now) (at (shape_of net n.left)) (at (shape_of net c.exchange_and_update_mark.new.below)) (at (shape_of net n.right)) (cc) c.exchange_and_update_mark.ensures.slots)
 
-pub Tree::exchange-returns-else-keeps_mark-clause-shaped : goal.Tree::exchange-returns-else-keeps_mark-clause-shaped
-Tree::exchange-returns-else-keeps_mark-clause-shaped g t c =
+pub Tree::exchange-returns-else-has_routes_after_change-clause-shaped : goal.Tree::exchange-returns-else-has_routes_after_change-clause-shaped
+Tree::exchange-returns-else-has_routes_after_change-clause-shaped g t c =
     let net = g.K.PackedPrefix.network in
     let n = c.deref_mut-node.result.now in
     let prefix = net c.in-Rooted.prefix in
     let was : IsRadixTree (Rooted prefix n.slot (shape_of net n.left) (shape_of net n.right)) = rw c.deref_mut-node.ensures.value (subst (λ t. IsRadixTree (shape_of net t)) c.in-Rooted.is c.requires.shaped) in
     shaped_left prefix n.slot (shape_of net n.left) (shape_of net n.right) (shape_of net c.exchange_and_update_mark.new.below) c.exchange_and_update_mark.ensures.root c.exchange_and_update_mark.ensures.shaped was
 
-pub Tree::exchange-returns-else-keeps_mark-2-clause-slots : goal.Tree::exchange-returns-else-keeps_mark-2-clause-slots
-Tree::exchange-returns-else-keeps_mark-2-clause-slots g t c =
+pub Tree::exchange-returns-else-has_routes_after_change-2-clause-slots : goal.Tree::exchange-returns-else-has_routes_after_change-2-clause-slots
+Tree::exchange-returns-else-has_routes_after_change-2-clause-slots g t c =
     let net = g.K.PackedPrefix.network in
     let n = c.deref_mut-node.result.now in
     rw (c.in-Rooted.is, sym c.deref_mut-node.ensures.value) (put_right (way (net c.in-Rooted.prefix)) (way c.args.key.now) None (slot_of n.slot) (Some c.args.route.now) (at (shape_of net n.left)) (at (shape_of net n.right)) (at (shape_of net c.exchange_and_update_mark-in-Right.new.below)) (cc) c.exchange_and_update_mark-in-Right.ensures.slots)
 
-pub Tree::exchange-returns-else-keeps_mark-2-clause-shaped : goal.Tree::exchange-returns-else-keeps_mark-2-clause-shaped
-Tree::exchange-returns-else-keeps_mark-2-clause-shaped g t c =
+pub Tree::exchange-returns-else-has_routes_after_change-2-clause-shaped : goal.Tree::exchange-returns-else-has_routes_after_change-2-clause-shaped
+Tree::exchange-returns-else-has_routes_after_change-2-clause-shaped g t c =
     let net = g.K.PackedPrefix.network in
     let n = c.deref_mut-node.result.now in
     let prefix = net c.in-Rooted.prefix in
     let was : IsRadixTree (Rooted prefix n.slot (shape_of net n.left) (shape_of net n.right)) = rw c.deref_mut-node.ensures.value (subst (λ t. IsRadixTree (shape_of net t)) c.in-Rooted.is c.requires.shaped) in
     shaped_right prefix n.slot (shape_of net n.left) (shape_of net n.right) (shape_of net c.exchange_and_update_mark-in-Right.new.below) c.exchange_and_update_mark-in-Right.ensures.root c.exchange_and_update_mark-in-Right.ensures.shaped was
 
-pub Tree::exchange-returns-then-keeps_mark-3-clause-slots : goal.Tree::exchange-returns-then-keeps_mark-3-clause-slots
-Tree::exchange-returns-then-keeps_mark-3-clause-slots g t c =
+pub Tree::exchange-returns-then-has_routes_after_change-3-clause-slots : goal.Tree::exchange-returns-then-has_routes_after_change-3-clause-slots
+Tree::exchange-returns-then-has_routes_after_change-3-clause-slots g t c =
     let net = g.K.PackedPrefix.network in
     let n = c.deref_mut-fork.result.now in
-    rw (c.in-Forked.is, sym c.deref_mut-fork.ensures.value) (put_left (way (net c.in-Forked.prefix)) (way c.args.key.now) None None (Some c.args.route.now) (at (shape_of net n.left)) (at (shape_of net c.exchange-then-keeps_mark-3.new.self)) (at (shape_of net n.right)) (cc) c.exchange-then-keeps_mark-3.ensures.slots)
+    rw (c.in-Forked.is, sym c.deref_mut-fork.ensures.value) (put_left (way (net c.in-Forked.prefix)) (way c.args.key.now) None None (Some c.args.route.now) (at (shape_of net n.left)) (at (shape_of net c.exchange-then-has_routes_after_change-3.new.self)) (at (shape_of net n.right)) (cc) c.exchange-then-has_routes_after_change-3.ensures.slots)
 
-pub Tree::exchange-returns-then-keeps_mark-4-clause-slots : goal.Tree::exchange-returns-then-keeps_mark-4-clause-slots
-Tree::exchange-returns-then-keeps_mark-4-clause-slots g t c =
+pub Tree::exchange-returns-then-has_routes_after_change-4-clause-slots : goal.Tree::exchange-returns-then-has_routes_after_change-4-clause-slots
+Tree::exchange-returns-then-has_routes_after_change-4-clause-slots g t c =
     let net = g.K.PackedPrefix.network in
     let n = c.deref_mut-fork.result.now in
-    rw (c.in-Forked.is, sym c.deref_mut-fork.ensures.value) (put_right (way (net c.in-Forked.prefix)) (way c.args.key.now) None None (Some c.args.route.now) (at (shape_of net n.left)) (at (shape_of net n.right)) (at (shape_of net c.exchange-then-keeps_mark-4.new.self)) (cc) c.exchange-then-keeps_mark-4.ensures.slots)
+    rw (c.in-Forked.is, sym c.deref_mut-fork.ensures.value) (put_right (way (net c.in-Forked.prefix)) (way c.args.key.now) None None (Some c.args.route.now) (at (shape_of net n.left)) (at (shape_of net n.right)) (at (shape_of net c.exchange-then-has_routes_after_change-4.new.self)) (cc) c.exchange-then-has_routes_after_change-4.ensures.slots)
 
-pub Tree::exchange-returns-else-keeps_mark-3-clause-slots : goal.Tree::exchange-returns-else-keeps_mark-3-clause-slots
-Tree::exchange-returns-else-keeps_mark-3-clause-slots g t c =
+pub Tree::exchange-returns-else-has_routes_after_change-3-clause-slots : goal.Tree::exchange-returns-else-has_routes_after_change-3-clause-slots
+Tree::exchange-returns-else-has_routes_after_change-3-clause-slots g t c =
     let net = g.K.PackedPrefix.network in
     let n = c.deref_mut-fork.result.now in
     rw (c.in-Forked.is, sym c.deref_mut-fork.ensures.value) (put_left (way (net c.in-Forked.prefix)) (way c.args.key.now) None None (Some c.args.route.now) (at (shape_of net n.left)) (at (shape_of net c.exchange_and_update_mark-in-Left-turn_covered.new.below)) (at (shape_of net n.right)) (cc) c.exchange_and_update_mark-in-Left-turn_covered.ensures.slots)
 
-pub Tree::exchange-returns-else-keeps_mark-4-clause-slots : goal.Tree::exchange-returns-else-keeps_mark-4-clause-slots
-Tree::exchange-returns-else-keeps_mark-4-clause-slots g t c =
+pub Tree::exchange-returns-else-has_routes_after_change-4-clause-slots : goal.Tree::exchange-returns-else-has_routes_after_change-4-clause-slots
+Tree::exchange-returns-else-has_routes_after_change-4-clause-slots g t c =
     let net = g.K.PackedPrefix.network in
     let n = c.deref_mut-fork.result.now in
     rw (c.in-Forked.is, sym c.deref_mut-fork.ensures.value) (put_right (way (net c.in-Forked.prefix)) (way c.args.key.now) None None (Some c.args.route.now) (at (shape_of net n.left)) (at (shape_of net n.right)) (at (shape_of net c.exchange_and_update_mark-in-Right-turn_covered.new.below)) (cc) c.exchange_and_update_mark-in-Right-turn_covered.ensures.slots)
 
-pub Tree::exchange-returns-then-keeps_mark-2-clause-marked : goal.Tree::exchange-returns-then-keeps_mark-2-clause-marked
-Tree::exchange-returns-then-keeps_mark-2-clause-marked g t c =
+pub Tree::exchange-returns-then-has_routes_after_change-2-clause-marked : goal.Tree::exchange-returns-then-has_routes_after_change-2-clause-marked
+Tree::exchange-returns-then-has_routes_after_change-2-clause-marked g t c =
     let n = c.deref_mut-node.result.now in
     let left : HasCorrectMarks n.left = subst (λ x. HasCorrectMarks x.left) (sym c.deref_mut-node.ensures.value) (subst HasCorrectMarks c.in-Rooted.is c.requires.marked).1 in
-    let routed = c.keeps_mark-in-Right.ensures.routed c.if-keeps_mark-2.true in
-    let beside = c.keeps_mark-in-Right.ensures.beside c.if-keeps_mark-2.true in (
-      routed ∙ sym (marked_right (is_some c.args.route.now) (is_filled n.slot) (has_routes n.left) (has_routes c.exchange-then-keeps_mark-2.new.self) c.exchange-then-keeps_mark-2.ensures.brought (λ none. beside (c.is_some-in-Right.ensures ∙ none))),
+    let routed = c.has_routes_after_change-in-Right.ensures.routed c.if-has_routes_after_change-2.true in
+    let beside = c.has_routes_after_change-in-Right.ensures.beside c.if-has_routes_after_change-2.true in (
+      routed ∙ sym (marked_right (is_some c.args.route.now) (is_filled n.slot) (has_routes n.left) (has_routes c.exchange-then-has_routes_after_change-2.new.self) c.exchange-then-has_routes_after_change-2.ensures.brought (λ none. beside (c.is_some-in-Right.ensures ∙ none))),
       left,
-      c.exchange-then-keeps_mark-2.ensures.marked,
+      c.exchange-then-has_routes_after_change-2.ensures.marked,
     )
 
-pub Tree::exchange-returns-then-keeps_mark-4-clause-marked : goal.Tree::exchange-returns-then-keeps_mark-4-clause-marked
-Tree::exchange-returns-then-keeps_mark-4-clause-marked g t c =
+pub Tree::exchange-returns-then-has_routes_after_change-4-clause-marked : goal.Tree::exchange-returns-then-has_routes_after_change-4-clause-marked
+Tree::exchange-returns-then-has_routes_after_change-4-clause-marked g t c =
     let n = c.deref_mut-fork.result.now in
     let left : HasCorrectMarks n.left = subst (λ x. HasCorrectMarks x.left) (sym c.deref_mut-fork.ensures.value) (subst HasCorrectMarks c.in-Forked.is c.requires.marked).1 in
-    let routed = c.keeps_mark-in-Right-turn_covered.ensures.routed c.if-keeps_mark-4.true in
-    let beside = c.keeps_mark-in-Right-turn_covered.ensures.beside c.if-keeps_mark-4.true in (
-      routed ∙ sym (marked_right (is_some c.args.route.now) false (has_routes n.left) (has_routes c.exchange-then-keeps_mark-4.new.self) c.exchange-then-keeps_mark-4.ensures.brought (λ none. beside (c.is_some-in-Right-turn_covered.ensures ∙ none))),
+    let routed = c.has_routes_after_change-in-Right-turn_covered.ensures.routed c.if-has_routes_after_change-4.true in
+    let beside = c.has_routes_after_change-in-Right-turn_covered.ensures.beside c.if-has_routes_after_change-4.true in (
+      routed ∙ sym (marked_right (is_some c.args.route.now) false (has_routes n.left) (has_routes c.exchange-then-has_routes_after_change-4.new.self) c.exchange-then-has_routes_after_change-4.ensures.brought (λ none. beside (c.is_some-in-Right-turn_covered.ensures ∙ none))),
       left,
-      c.exchange-then-keeps_mark-4.ensures.marked,
+      c.exchange-then-has_routes_after_change-4.ensures.marked,
     )

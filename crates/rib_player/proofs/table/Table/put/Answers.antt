@@ -16,29 +16,29 @@ use Rattle.rib_player.proofs.HeldLaws.{inserted}
 use Rattle.rib_player.proofs.StoreLaws.{same_peer, IsStored, stored-lent, when_some, if_some, noted-after, noted-other, none-noted, count-noted, contains-found, get-found, held-other, held-kept, held-more, keys-kept, keys-more, routes-kept, routes-put, keys-added, routes-added, some-insert, either}
 use Rattle.rib_player.proofs.table.Table.put.Given.{Over}
 use Rattle.rib_player.proofs.table.Table.put.Goals as goal
-use Rattle.rib_player.proofs.table.Table.put.Goals.{After-put-made, After-update_routed, In_ok-insert}
+use Rattle.rib_player.proofs.table.Table.put.Goals.{After-put-made, After-note_route_count, In_ok-insert}
 
 -- the peer's store was written
 lent : (g : Over) (c : After-put-made g) → IsLent c.self.inside.stores (c.get_mut.follows.lender c.put-made.new.self) c.args.pair.now.peer c.put-made.new.self
 lent g c = when_some c.get_mut.result c.in-Some.store c.in-Some.is (c.get_mut.follows.holds c.put-made.new.self)
 
-there : (g : Over) (c : After-update_routed g) → IsStored (stores_in c.self.inside.stores) (stores_in c.update_routed.new.self) c.args.pair.now.peer c.in-Some.store.now c.put-made.new.self
+there : (g : Over) (c : After-note_route_count g) → IsStored (stores_in c.self.inside.stores) (stores_in c.note_route_count.new.self) c.args.pair.now.peer c.in-Some.store.now c.put-made.new.self
 there g c =
-    subst (λ stores. IsStored (stores_in c.self.inside.stores) stores c.args.pair.now.peer c.in-Some.store.now c.put-made.new.self) (sym c.update_routed.ensures.stores)
+    subst (λ stores. IsStored (stores_in c.self.inside.stores) stores c.args.pair.now.peer c.in-Some.store.now c.put-made.new.self) (sym c.note_route_count.ensures.stores)
     (stored-lent c.self.inside.stores (c.get_mut.follows.lender c.put-made.new.self) c.get_mut.result c.in-Some.store c.in-Some.is c.get_mut.ensures.value (c.get_mut.follows.holds c.put-made.new.self))
 
 -- the peer has this number
 numbered : (g : Over) (c : After-put-made g) → lookup (same_peer c.args.pair.now.peer) c.self.inside.stores.order.entries ≡ Some c.get_mut.new.number
 numbered g c = if_some c.get_mut.result c.in-Some.store c.in-Some.is c.get_mut.ensures.number
 
-pub update_routed-requires-clause-within : goal.update_routed-requires-clause-within
-update_routed-requires-clause-within g c =
-    let a = (goal.at.update_routed-requires-clause-within g c).After-put-made in
+pub note_route_count-requires-clause-within : goal.note_route_count-requires-clause-within
+note_route_count-requires-clause-within g c =
+    let a = (goal.at.note_route_count-requires-clause-within g c).After-put-made in
     held-there (c.get_mut.follows.lender c.put-made.new.self).numbered c.args.pair.now.peer c.get_mut.new.number (ap (lookup (same_peer c.args.pair.now.peer)) (lent g a).order ∙ numbered g a)
 
-pub update_routed-requires-clause-noted : goal.update_routed-requires-clause-noted
-update_routed-requires-clause-noted g c = λ more.
-    let a = (goal.at.update_routed-requires-clause-noted g c).After-put-made in
+pub note_route_count-requires-clause-noted : goal.note_route_count-requires-clause-noted
+note_route_count-requires-clause-noted g c = λ more.
+    let a = (goal.at.note_route_count-requires-clause-noted g c).After-put-made in
     noted-there g.S.PrefixStore.routes c.self.inside.stores (c.get_mut.follows.lender c.put-made.new.self) (lent g a) c.self.invariant.noted (numbered g a)
     (sym (ap option_copied_mut c.in-Some.is) ∙ c.get_mut.ensures.value)
     (some-before (g.S.PrefixStore.routes c.in-Some.store.now) (g.S.PrefixStore.routes c.put-made.new.self) c.route_count-count.result
@@ -50,42 +50,42 @@ update_routed-requires-clause-noted g c = λ more.
 pub invariant_of-self : goal.invariant_of-self
 invariant_of-self g c =
     let a = goal.at.invariant_of-self g c in
-    let there = there g a.After-update_routed in
+    let there = there g a.After-note_route_count in
     record {
       held = either c.put-made.result
           (on_ok_weaker c.put-made.result (λ e. held-more g.S.PrefixStore.keys there c.args.pair.now.prefix e c.self.invariant.held) c.put-made.ensures.keys)
           (on_err_weaker c.put-made.result (λ e. held-kept g.S.PrefixStore.keys there e c.self.invariant.held) c.put-made.ensures.refused);
-      noted = noted-after g.S.PrefixStore.routes c.self.inside.stores (c.get_mut.follows.lender c.put-made.new.self) c.update_routed.new.self (lent g a.After-put-made) c.get_mut.new.number
-          (nat_lt 0 c.route_count-count.result) (numbered g a.After-put-made) c.update_routed.ensures.stores c.update_routed.ensures.noted
+      noted = noted-after g.S.PrefixStore.routes c.self.inside.stores (c.get_mut.follows.lender c.put-made.new.self) c.note_route_count.new.self (lent g a.After-put-made) c.get_mut.new.number
+          (nat_lt 0 c.route_count-count.result) (numbered g a.After-put-made) c.note_route_count.ensures.stores c.note_route_count.ensures.noted
           (count-noted g.S.PrefixStore.routes c.put-made.new.self c.route_count-count.result c.route_count-count.ensures) c.self.invariant.noted;
     }
 
 pub returns-in-Some-clause-keys : goal.returns-in-Some-clause-keys
 returns-in-Some-clause-keys g c =
-    on_ok_weaker c.put-made.result (λ e. keys-more g.S.PrefixStore.keys (there g (goal.at.returns-in-Some-clause-keys g c).After-update_routed) c.args.pair.now.prefix e ∙ ap (λ s. set.insert s.keys c.args.pair.now) c.self.view_is) c.put-made.ensures.keys
+    on_ok_weaker c.put-made.result (λ e. keys-more g.S.PrefixStore.keys (there g (goal.at.returns-in-Some-clause-keys g c).After-note_route_count) c.args.pair.now.prefix e ∙ ap (λ s. set.insert s.keys c.args.pair.now) c.self.view_is) c.put-made.ensures.keys
 
 pub returns-in-Some-clause-made : goal.returns-in-Some-clause-made
 returns-in-Some-clause-made g c =
     IfOk-weaker c.put-made.result _ _ (λ made e.
-    e ∙ ap not (contains-found g.S.PrefixStore.keys (stores_in c.self.inside.stores) c.args.self.now.keys c.args.pair.now (Some c.in-Some.store.now) (there g (goal.at.returns-in-Some-clause-made g c).After-update_routed).found (ap (λ s. s.keys) c.self.view_is))) c.put-made.ensures.made
+    e ∙ ap not (contains-found g.S.PrefixStore.keys (stores_in c.self.inside.stores) c.args.self.now.keys c.args.pair.now (Some c.in-Some.store.now) (there g (goal.at.returns-in-Some-clause-made g c).After-note_route_count).found (ap (λ s. s.keys) c.self.view_is))) c.put-made.ensures.made
 
 pub returns-in-Some-clause-routes : goal.returns-in-Some-clause-routes
 returns-in-Some-clause-routes g c =
     on_ok_weaker c.put-made.result (λ e.
-    routes-put g.S.PrefixStore.routes (there g (goal.at.returns-in-Some-clause-routes g c).After-update_routed) c.args.pair.now.prefix c.args.route.now e ∙ ap (λ s. put s.routes c.args.pair.now (pointed_route c.args.route.now)) c.self.view_is) c.put-made.ensures.routes
+    routes-put g.S.PrefixStore.routes (there g (goal.at.returns-in-Some-clause-routes g c).After-note_route_count) c.args.pair.now.prefix c.args.route.now e ∙ ap (λ s. put s.routes c.args.pair.now (pointed_route c.args.route.now)) c.self.view_is) c.put-made.ensures.routes
 
 pub returns-in-Some-clause-taken_out : goal.returns-in-Some-clause-taken_out
 returns-in-Some-clause-taken_out g c =
     on_ok_weaker c.put-made.result (λ e.
-    ap pointed_route e ∙ get-found g.S.PrefixStore.routes (stores_in c.self.inside.stores) c.args.self.now.routes c.args.pair.now (Some c.in-Some.store.now) (there g (goal.at.returns-in-Some-clause-taken_out g c).After-update_routed).found (ap (λ s. s.routes) c.self.view_is)) c.put-made.ensures.taken_out
+    ap pointed_route e ∙ get-found g.S.PrefixStore.routes (stores_in c.self.inside.stores) c.args.self.now.routes c.args.pair.now (Some c.in-Some.store.now) (there g (goal.at.returns-in-Some-clause-taken_out g c).After-note_route_count).found (ap (λ s. s.routes) c.self.view_is)) c.put-made.ensures.taken_out
 
 pub returns-in-Some-clause-refused : goal.returns-in-Some-clause-refused
 returns-in-Some-clause-refused g c =
-    on_err_weaker c.put-made.result (λ e. keys-kept g.S.PrefixStore.keys (there g (goal.at.returns-in-Some-clause-refused g c).After-update_routed) e ∙ ap (λ s. s.keys) c.self.view_is) c.put-made.ensures.refused
+    on_err_weaker c.put-made.result (λ e. keys-kept g.S.PrefixStore.keys (there g (goal.at.returns-in-Some-clause-refused g c).After-note_route_count) e ∙ ap (λ s. s.keys) c.self.view_is) c.put-made.ensures.refused
 
 pub returns-in-Some-clause-held : goal.returns-in-Some-clause-held
 returns-in-Some-clause-held g c =
-    on_err_weaker c.put-made.result (λ e. routes-kept g.S.PrefixStore.routes (there g (goal.at.returns-in-Some-clause-held g c).After-update_routed) e ∙ ap (λ s. s.routes) c.self.view_is) c.put-made.ensures.held
+    on_err_weaker c.put-made.result (λ e. routes-kept g.S.PrefixStore.routes (there g (goal.at.returns-in-Some-clause-held g c).After-note_route_count) e ∙ ap (λ s. s.routes) c.self.view_is) c.put-made.ensures.held
 
 -- the peer had no store, and has one with this key
 added : (g : Over) (c : In_ok-insert g) → IsUpdatedAt (stores_in c.self.inside.stores) (stores_in c.insert.new.self) c.args.pair.now.peer (Some c.ensure.new.self)

@@ -29,7 +29,7 @@ returns-after-turn-clause-slots g t c = λ q.
     let key = way c.args.key.now in
     let new = Rooted prefix m.slot (shape_of net m.left) (shape_of net m.right) in
     let was : IsRooted prefix (slot_of n.slot) (shape_of net n.left) (shape_of net n.right) (shape_of net c.args.self.now) = rw c.in-Rooted.is (cc, cc, cc, cc) in
-    ap (λ t. at t q) c.unbox_leaf.ensures.shape ∙ c.replace_by_only_child.ensures.slots q ∙ elim c.match-turn.branch [
+    ap (λ t. at t q) c.unbox_leaf.ensures.shape ∙ c.drop_needless_root.ensures.slots q ∙ elim c.match-turn.branch [
       | in-Here w ↦
           let turn : turn_of (way prefix) key ≡ Here = cc in
           let is : IsRooted prefix None (shape_of net n.left) (shape_of net n.right) new = rw w.node-is (refl, refl, refl, w.remove_key.ensures) in
@@ -67,7 +67,7 @@ returns-after-turn-2-clause-slots g t c = λ q.
     let old = shape_of net c.args.self.now in
     let new = Rooted prefix NoKey (shape_of net m.left) (shape_of net m.right) in
     let was : IsRooted prefix None (shape_of net n.left) (shape_of net n.right) old = rw c.in-Forked.is (cc, cc, cc, refl) in
-    c.replace_by_only_child-in-Forked.ensures.slots q ∙ elim c.match-turn-2.branch [
+    c.drop_needless_root-in-Forked.ensures.slots q ∙ elim c.match-turn-2.branch [
       | in-Left-turn w ↦
           let turn : turn_of (way prefix) key ≡ Left = cc in
           let is : IsRooted prefix None (shape_of net w.discard-in-Left-turn.new.self) (shape_of net n.right) new = rw w.fork-is (refl, refl, refl, refl) in

@@ -1,7 +1,7 @@
 use Rattle.std.proofs.Common.{◌≤◌, length, take}
 use Rattle.ip_prefix.specs.Sequences.{Begins, SpellsAll}
 use Rattle.bgp_paths.specs.Path.{SpellsSegment}
-use Rattle.bgp_paths.proofs.path_reader.fill_list.Given as goal
+use Rattle.bgp_paths.proofs.path_reader.replace_segments.Given as goal
 
 -- the segments so far are spelled by the octets before the rest
 abbrev pub invariant-loop-rest : goal.invariant-loop-rest

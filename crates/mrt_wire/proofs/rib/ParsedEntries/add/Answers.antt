@@ -3,7 +3,7 @@ use Rattle.std.proofs.lemmas.List.{map-append}
 use Rattle.mrt_events.specs.declared.event.Item.TheVariants.{Announce}
 use Rattle.mrt_events.specs.Event.{Announced, item_value}
 use Rattle.mrt_wire.specs.Items.{entry_time, route_of}
-use Rattle.mrt_wire.proofs.rib.EntryItems.add.Goals as goal
+use Rattle.mrt_wire.proofs.rib.ParsedEntries.add.Goals as goal
 
 pub returns-clause-items : goal.returns-clause-items
 returns-clause-items c =

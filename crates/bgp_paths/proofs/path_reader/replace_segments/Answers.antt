@@ -9,7 +9,7 @@ use Rattle.bgp_paths.specs.Path.{SpellsSegment}
 use Rattle.bgp_paths.specs.Readers.{IsSplitSegment, Refuses}
 use Rattle.bgp_paths.proofs.HasOneFront.{segment_code}
 use Rattle.bgp_paths.proofs.Refusing.{refused_rest, refused_numbers, segment_filled}
-use Rattle.bgp_paths.proofs.path_reader.fill_list.Goals as goal
+use Rattle.bgp_paths.proofs.path_reader.replace_segments.Goals as goal
 
 pub returns-in_default-clause-refused : goal.returns-in_default-clause-refused
 returns-in_default-clause-refused c =

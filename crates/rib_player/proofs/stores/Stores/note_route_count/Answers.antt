@@ -3,7 +3,7 @@ use Rattle.std.proofs.lemmas.Bool.{lt-ltb}
 use Rattle.rib_player.specs.Representation.{IsUpdatedAt}
 use Rattle.rib_player.specs.Noted.{routed_marks}
 use Rattle.rib_player.proofs.NumberLaws.{numbered-along, stores-replaced}
-use Rattle.rib_player.proofs.stores.Stores.update_routed.Goals as goal
+use Rattle.rib_player.proofs.stores.Stores.note_route_count.Goals as goal
 
 -- it was noted before
 pub returns-then-count-gt1-clause-noted : goal.returns-then-count-gt1-clause-noted

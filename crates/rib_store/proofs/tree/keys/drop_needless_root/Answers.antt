@@ -6,7 +6,7 @@ use Rattle.rib_store.specs.Tree.{Rooted, shape_of, HasCorrectMarks, at, slot_of,
 use Rattle.rib_store.proofs.TreeLaws.{on_below}
 use Rattle.rib_store.proofs.ChangeLaws.{join_left, join_right}
 use Rattle.rib_store.proofs.ShapeLaws.{not_empty}
-use Rattle.rib_store.proofs.tree.keys.replace_by_only_child.Goals as goal
+use Rattle.rib_store.proofs.tree.keys.drop_needless_root.Goals as goal
 
 pub returns-in-Empty-clause-slots : goal.returns-in-Empty-clause-slots
 returns-in-Empty-clause-slots g c = λ q.
