@@ -191,10 +191,11 @@ impl LineCache {
 
     /// Replaces the octets after the prefix of the cached line with the index `index`, which
     /// [`LineCache::line_of`] returned, by `tail`. `time` is the time of the record, in seconds
-    /// since 1970. The line is left unchanged if `tail` has more than [`LONGEST_TAIL`] octets, or
-    /// if [`is_cacheable`] returns `false` for `route` and `time`. Requires that `tail` was printed
-    /// for `route`. Fails if memory allocation fails; then only the octets before the prefix are
-    /// still copied from the line.
+    /// since 1970. From now on `tail` is copied into lines of routes that equal `route`. The line is
+    /// left unchanged if `tail` has more than [`LONGEST_TAIL`] octets, or if [`is_cacheable`]
+    /// returns `false` for `route` and `time`. Requires that `tail` was printed for `route`. Fails
+    /// if memory allocation fails; the line then keeps the octets before the prefix and has no
+    /// tail.
     #[inline(never)]
     pub(crate) fn replace_tail(
         &mut self,

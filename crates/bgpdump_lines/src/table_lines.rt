@@ -94,10 +94,11 @@ fn put_entry_line<'a>(
 }
 
 /// Appends the line of `item` from a TABLE_DUMP_V2 record, a route of a table (or a withdrawal or
-/// state change), to `text`. A route's line is copied where it can be: from the line of the peer in
-/// `cache`, a cache of printed lines, if its time is equal, or else from the line that `last`
-/// describes. What wasn't copied from the cache is inserted into it, unless it refuses the line
-/// ([`LineCache::insert`]). Requires that `last`, if given, describes the last line of `text`, the
+/// state change), to `text`. Parts of a route's line that are equal in an earlier line are copied,
+/// and the others printed: from the peer's line in `cache` if the time is equal (the part before
+/// the prefix, and the part after it if the route is equal), or else from the line that `last`
+/// describes. A part that wasn't copied from the cache is inserted into it, unless it refuses the
+/// line ([`LineCache::insert`]). Requires that `last`, if given, describes the last line of `text`, the
 /// line of a route printed with `heading`, and that `heading` is of a TABLE_DUMP_V2 record. Returns
 /// a description of the new line, to be passed as `last` to the next call, or `None` if `item`
 /// isn't a route. Fails if memory allocation fails; `text` then ends with an unspecified part of

@@ -37,8 +37,9 @@ course_from cut number (HasCommand command ∷ lines) s =
     else course_after (record { out = (meaning command s).reply; err = reports_of_taken command s }) (meets_end command s)
     (course_from cut (number + 1) lines (meaning command s).after)
 
--- what the lines of a script do from its first state (`start`), where `found` are the results of the input.
--- If `cut`, reading the input failed, or its limit was passed, after these results
+-- what the lines of a script do from its first state (`start`), where `found` are the results of the input. `cut` says
+-- that these break off, since reading the input failed or its limit was passed: then the first command that wants
+-- more of them gives no reply, and no line after it does anything
 abbrev pub course : Bool → List Line → List RecordResult → Course
 course cut lines found = course_from cut 1 lines (start found)
 

@@ -156,8 +156,9 @@ fn execute_lines<S: PrefixStore<Rc<Route>>, I: Input, O: Output, E: Output>(
     execute_line(session, input, rest, number, out, err)
 }
 
-/// Executes a line of a script, given without its line feed: its command, or nothing if it is
-/// empty. A line that is no command is reported to `err` with its `number`, counted from 1, such as
+/// Executes a line of a script, given without its line feed: its command, which may read records
+/// from `input` and writes its reply to `out`, or nothing if it is empty. A line that is no command
+/// is reported to `err` with its `number`, counted from 1, such as
 /// `bgpdump: script line 3: bad command`. Fails with the [`Outcome`] that ends the program: a
 /// failed read or write, an input that is too long, or a lack of memory; how much of the line was
 /// executed is unspecified then. Requires, so that no count overflows, that at most 2^40 octets

@@ -152,7 +152,8 @@ impl OverflowRoutes {
     }
 
     /// Returns a route of the list that equals `route`, or `None` if there is none. `hash` is the
-    /// hash of `route`.
+    /// hash of `route` by [`hash_of`](crate::route_hash::hash_of); with another number the route
+    /// may not be found.
     pub(crate) fn find_route(&self, hash: u32, route: &Route) -> Option<&Rc<Route>>
         ensures { IfSome result (λ known. known.now.value ≡ route.now) }
     {

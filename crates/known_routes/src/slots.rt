@@ -243,9 +243,9 @@ impl InternTable {
         Ok(())
     }
 
-    /// Puts the routes of `overflow`, the overflow list of another table, into this table, each as
-    /// [`InternTable::put`] does. Fails if memory allocation fails; the routes put by then stay,
-    /// and the others are dropped.
+    /// Puts the routes of `overflow`, the overflow list of another table, into this table; some may
+    /// be dropped where their buckets are full, as in [`InternTable::put`]. Fails if memory
+    /// allocation fails; the routes put by then stay, and the others are dropped.
     fn move_from_overflow(&mut self, overflow: OverflowRoutes) -> Result<(), AllocError>
         ensures { vec_len self.new.slots ≡ vec_len self.old.slots }
     {

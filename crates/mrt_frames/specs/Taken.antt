@@ -59,8 +59,8 @@ MayFailAt other taken limit = taken ≤ limit
 
 -- a call that fills `size` octets of a buffer, which then has the octets `buffer`, returned this result. The input
 -- had `old` left before and has `new` left then; the number of octets taken in all rose from `before` to `after`. On
--- `Ok` the octets taken, fewer than `size` only at the end of the input, are the first of the buffer, as many as it
--- returns. On `Err` fewer than `size` were taken, which needn't be in the buffer, and the error fits `after` and
+-- `Ok` at most `limit` octets were taken in all, and those of this call, fewer than `size` only at the end of the
+-- input, are the first of the buffer, as many as it returns. On `Err` fewer than `size` were taken, which needn't be in the buffer, and the error fits `after` and
 -- `limit` (`MayFailAt`).
 abbrev pub FillsWithinLimit : Option (List ℕ) → Option (List ℕ) → ℕ → ℕ → List ℕ → ℕ → ℕ → Result ℕ SourceFault → Type 0
 FillsWithinLimit old new before after buffer size limit (Ok count) = (count ≤ size) × (after ≤ limit) × Takes old new before after (take count buffer) × (count < size → IsAtEnd new)

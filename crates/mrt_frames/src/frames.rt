@@ -79,7 +79,8 @@ pub struct FrameReader {
 
 impl FrameReader {
     /// Returns a reader at the start of its input, which reads at most `limit` octets in all: of
-    /// all records together, with their headers. It allocates no memory yet.
+    /// all records together, with their headers. An input that has as many or more is an error,
+    /// `InputTooLong`, once they are read. It allocates no memory yet.
     pub fn new(alloc: Global, limit: u64) -> Self
         ensures limit { result.limit ≡ limit }
         ensures taken { result.taken ≡ 0 }

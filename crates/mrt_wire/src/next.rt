@@ -5,8 +5,9 @@
 use mrt_events::Event;
 use mrt_frames::RecordFault;
 
-/// The result of reading the next MRT record with [`Source::next`](crate::Source::next): its event,
-/// the fault for which it has none, or the end of the input.
+/// The result of reading the next MRT record with [`Source::next`](crate::Source::next): the event
+/// of a sound record, the fault of one that was skipped, or the end of the input. After a fault
+/// reading can go on.
 #[derive(Debug, Drop)]
 pub enum Next {
     /// The event of an accepted record: its time, its type, and what it says of peers and routes.

@@ -65,10 +65,11 @@ impl SpareRoutes {
         }
     }
 
-    /// Moves the route of `route` into the ring, and sets `route` to another one: to a new one
-    /// without attributes while the ring has fewer than [`MOST_SPARES`] routes, or else to the
-    /// oldest route of the ring, which is removed from it and may still have other owners. Fails if
-    /// memory allocation fails; `route` holds an unspecified route then.
+    /// Exchanges the route in `route`, which has other owners, for one that can mostly be
+    /// overwritten: moves it into the ring, and sets `route` to the oldest route of the ring, or to
+    /// a new one without attributes if the ring had fewer than [`MOST_SPARES`] before. The oldest
+    /// may still have other owners. Fails if memory allocation fails; `route` then holds an
+    /// unspecified route.
     #[inline(always)]
     fn swap_for_spare(&mut self, alloc: Global, route: &mut Rc<Route>) -> Result<(), AllocError> {
         match self.routes.get_mut(self.next) {
@@ -295,8 +296,8 @@ impl RouteCache {
     /// Parses `raw`, the path attributes of a table entry, into the slot with the index `slot`, and
     /// returns the route, with the time `time`, in seconds since 1970. Requires that the cache has
     /// a slot with this index. Fails with `Malformed` if the attributes are malformed, or with
-    /// `Memory` if memory allocation fails; the slot then has no route that a later entry could get
-    /// unparsed.
+    /// `Memory` if memory allocation fails; the slot then counts as empty, and a later entry with
+    /// these attributes is parsed anew.
     #[inline(always)]
     fn parse_into_slot(
         &mut self,

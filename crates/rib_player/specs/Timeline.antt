@@ -88,6 +88,7 @@ without_first count t = record {
   steps = drop count t.steps;
 }
 
--- a player after `forget`: the oldest steps are forgotten, so that at most `keep` are left before the cursor
+-- a player after `forget`: the oldest steps are forgotten, so that at most `keep` are left before the cursor. The
+-- cursor, the steps ahead of it and the tables that are left stay
 abbrev pub after_forget : Timeline → ℕ → Timeline
 after_forget t keep = without_first (forgotten_count t keep) t

@@ -138,9 +138,8 @@ impl SparseSet {
         &self.numbers[..self.count]
     }
 
-    /// Frees unused capacity of the set's lists, which have one element for each number below the
-    /// bound, where the function [`shrink_if_oversized`] finds it too large. Bound and members
-    /// stay.
+    /// Frees unused capacity of the set's lists, one element for each number below the bound, if
+    /// it is much too large for them ([`shrink_if_oversized`]). Bound and members stay.
     pub(crate) fn shrink_if_oversized(&mut self)
         ensures { choices self.new ≡ choices self.old }
     {

@@ -66,11 +66,11 @@ impl<'a, R> PrefetchDescent<'a, R> {
         }
     }
 
-    /// Moves the descent from its node to a child, and returns `true`. If the node's own prefix has
-    /// n bits, bit n (counted from 0) of the prefix that the descent goes to selects the child: the
-    /// left one if it is 0, the right one if it is 1. Returns `false`, and stays, if the node has
-    /// no children, if its own prefix has as many bits as may be read (`usable_bits`) or more, or
-    /// if the descent is at its end.
+    /// Moves the descent from its node to the child on the way to its target prefix, and returns
+    /// `true`: the left one if the target has a 0 after as many bits as the node's prefix has, the
+    /// right one for a 1. Returns `false`, and stays, if the descent is at its end, the node has no
+    /// children, or its prefix has `usable_bits` bits or more, as many as the target has or a
+    /// prefetch reads.
     #[inline]
     fn advance(&mut self) -> bool {
         let next = match &self.root {
