@@ -10,7 +10,7 @@ ghost use Rattle.bgp_paths.specs.declared.path.AsPath.{AsPath};
 use crate::as_numbers::AsNumbers;
 use crate::path::AsPath;
 use crate::segment::{Segment, SegmentKind};
-use crate::segments::{Segments, shrink_if_spare};
+use crate::segments::{Segments, shrink_if_much_spare};
 use std::alloc::{AllocError, Global};
 
 /// Merges the AS_PATH `first` with the AS4_PATH `second` (RFC 6793, section 4.2.3). If `first`
@@ -37,7 +37,7 @@ pub fn merge_paths(alloc: Global, first: &AsPath, second: &AsPath) -> Result<AsP
             SegmentKind::ConfedSequence | SegmentKind::ConfedSet => {}
         }
     }
-    shrink_if_spare(&mut segments);
+    shrink_if_much_spare(&mut segments);
     Ok(AsPath {
         segments: Segments::from_vec(segments),
     })

@@ -10,7 +10,7 @@ ghost use Rattle.bgp_paths.specs.Readers.{IsSplitSegment, Refuses};
 use crate::fault::WireFault;
 use crate::numbers::AsWidth;
 use crate::segment::{Segment, SegmentKind};
-use crate::segments::{Held, Segments, shrink_if_spare};
+use crate::segments::{Held, Segments, shrink_if_much_spare};
 use std::alloc::{AllocError, Global};
 
 /// The number of the segment type AS_SET, a set of ASes (RFC 4271, section 4.3).
@@ -141,7 +141,7 @@ fn replace_segments(
         rest = framed.rest;
     }
     list.truncate(count);
-    shrink_if_spare(list);
+    shrink_if_much_spare(list);
     Ok(())
 }
 

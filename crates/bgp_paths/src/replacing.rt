@@ -7,7 +7,7 @@ use crate::numbers::clear_and_reserve;
 use crate::path::AsPath;
 use crate::path_reader::push_empty_segment;
 use crate::segment::Segment;
-use crate::segments::{Held, Segments, shrink_if_spare};
+use crate::segments::{Held, Segments, shrink_if_much_spare};
 use std::alloc::{AllocError, Global};
 use std::mem;
 
@@ -60,7 +60,7 @@ fn copy_list(
         count += 1;
     }
     list.truncate(count);
-    shrink_if_spare(&mut list);
+    shrink_if_much_spare(&mut list);
     Ok(list)
 }
 

@@ -170,7 +170,7 @@ impl Segments {
             Held::One(_) => self.held = Held::Listed(Vec::new(alloc)),
             Held::Listed(items) => {
                 items.clear();
-                shrink_if_spare(items);
+                shrink_if_much_spare(items);
             }
         }
     }
@@ -213,7 +213,7 @@ fn shrink(segments: &mut Vec<Segment>)
 /// more than four ([`MOST_SPARE`]). If memory allocation fails, leaves it as it is; that isn't an
 /// error.
 #[inline(always)]
-pub(crate) fn shrink_if_spare(segments: &mut Vec<Segment>)
+pub(crate) fn shrink_if_much_spare(segments: &mut Vec<Segment>)
     ensures { segments.new.items ≡ segments.old.items }
 {
     if segments.capacity() - segments.len() > MOST_SPARE {

@@ -14,11 +14,11 @@ use std::alloc::{AllocError, Global};
 use std::collections::VecDeque;
 use std::io::{Read, Write};
 
-/// Prints the MRT file that consists of `octets` as `bgpdump -m` does, but to writers in memory,
-/// and returns how the program would end; what was written is dropped. `stamp` selects the time of
-/// routes from table dumps: when the table was dumped, or when the route last changed. Fails if
-/// memory allocation for the reader, the notes of the input or the writers fails; any later failure
-/// is in the outcome. Used for proofs only.
+/// For proofs only: returns how the program would end if it printed the MRT file that consists of
+/// `octets` as `bgpdump -m` does, but to writers in memory, which are dropped with what was
+/// written. `stamp` selects the time of routes from table dumps: when the table was dumped, or when
+/// the route last changed. Fails if memory allocation fails before the first record is read; any
+/// later failure is in the outcome.
 pub fn dump_octets(alloc: Global, stamp: Stamp, octets: &[u8]) -> Result<Outcome, AllocError> {
     let mut held = Vec::new(alloc);
     held.extend_from_slice(octets)?;
@@ -29,11 +29,11 @@ pub fn dump_octets(alloc: Global, stamp: Stamp, octets: &[u8]) -> Result<Outcome
     Ok(ended.outcome)
 }
 
-/// Executes the commands of `script` over the MRT file that consists of `octets` as
-/// `bgpdump --play` does, but with writers in memory, and returns how the program would end; what
-/// was written is dropped. `stamp` selects the time of routes from table dumps: when the table was
-/// dumped, or when the route last changed. Fails if memory allocation for the reader, the notes of
-/// the input or the writers fails; any later failure is in the outcome. Used for proofs only.
+/// For proofs only: returns how the program would end if it executed the commands of `script` over
+/// the MRT file that consists of `octets` as `bgpdump --play` does, but with writers in memory,
+/// which are dropped with what was written. `stamp` selects the time of routes from table dumps:
+/// when the table was dumped, or when the route last changed. Fails if memory allocation fails
+/// before the first record is read; any later failure is in the outcome.
 pub fn play_octets(
     alloc: Global,
     stamp: Stamp,

@@ -27,9 +27,9 @@ const AFTER_OPTION: &str = "' found";
 /// looks like an option.
 const VALUE_ADVICE: &str = "use '-- ";
 
-/// Writes a hint to standard error on why the program ends as `ending` states, if there is more to
-/// say than its last message does, such as `bgpdump: only one of SCRIPT and INPUT may be -`. What
-/// can't be written is lost.
+/// Writes a hint to standard error, such as `bgpdump: only one of SCRIPT and INPUT may be -`, on why
+/// the program ends as `ending` states. Writes nothing if the program's last message says it all.
+/// What can't be written is lost.
 pub fn write_ending_hint(rt: &HostRuntime, ending: &Ending<'_>) {
     let _ = match ending {
         Ending::Usage(UsageFault::Words(text)) => write_option_hint(rt, text.as_str()),

@@ -112,7 +112,7 @@ pub fn law_example_too_long()
 /// the line, a PEER_INDEX_TABLE without peers, a RIB_IPV4_UNICAST with the index of a peer that
 /// this table doesn't have, and a state change without its last octet. Their octets are six whole
 /// records and an incomplete one. A theorem: the function has no code.
-pub fn law_example_faults()
+pub fn law_example_faulty_records()
     ensures split { (stamp : Stamp) → Splits stamp None faulty_octets faulty_frames cut_octets }
     ensures texts { (stamp : Stamp) → dump_texts (all_results stamp faulty_frames cut_octets)
         ≡ record { out = codes "BGP4MP|100|STATE|192.0.2.1|64500|6|1\n"; err = faulty_reports } }

@@ -66,7 +66,7 @@ impl Heading {
     /// with the word `RIB`, the time of the route ([`Route::time`]) and the letter of a table's
     /// route. The time of the heading is 0 and isn't written.
     #[inline(always)]
-    pub(crate) fn for_peer_table() -> Heading
+    pub(crate) fn for_rib_lines() -> Heading
         ensures { (peer : Peer) (prefix : Network) (route : Route) →
             line_under_heading result (Announced peer prefix route)
             ≡ rib_reply_line peer (prefix, route) }

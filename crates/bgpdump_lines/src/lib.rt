@@ -23,9 +23,9 @@ mod write;
 pub use dump::{INPUT_LIMIT, run_dump};
 pub use event_lines::put_lines;
 pub use example_laws::{
-    law_example_as4_path, law_example_cut_record, law_example_faults, law_example_ipv6_update,
-    law_example_microseconds, law_example_old_table, law_example_state_change, law_example_table,
-    law_example_too_long, law_example_update,
+    law_example_as4_path, law_example_cut_record, law_example_faulty_records,
+    law_example_ipv6_update, law_example_microseconds, law_example_old_table,
+    law_example_state_change, law_example_table, law_example_too_long, law_example_update,
 };
 pub use fault::WriteFault;
 pub use fields::{put_peer_fields, put_u64_field};

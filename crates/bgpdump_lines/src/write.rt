@@ -354,7 +354,7 @@ pub fn write_rib_lines<O: Output>(
         (flat_map (λ f. rib_reply_line peer.now (f.0, f.1.now.value)) routes.now) result }
     ensures failed { O.failed out.new ≡ (O.failed out.old || is_output_fault result) }
 {
-    let heading = Heading::for_peer_table();
+    let heading = Heading::for_rib_lines();
     let mut last = None;
     text.clear();
     'routes: for entry in routes {
@@ -394,7 +394,7 @@ pub fn write_rib_line<O: Output>(
         route,
     };
     text.clear();
-    put_route_line(&Heading::for_peer_table(), announcement, None, text)?;
+    put_route_line(&Heading::for_rib_lines(), announcement, None, text)?;
     put_all(out, text.as_slice())?;
     Ok(())
 }

@@ -40,7 +40,8 @@ pub fn law_one_script()
 /// States that the reply to the command `lookup`, which the contracts define by `longest_match`, is
 /// the peer's route to the longest prefix that contains the address, or none if no prefix that the
 /// peer has a route to contains it. At most one route meets this (`law_routes_of_peers`,
-/// `law_one_longest`), so that the reply agrees with `Table::longest`, which isn't stated here.
+/// `law_one_longest`). It follows that the reply agrees with `Table::longest`; this law doesn't
+/// state that itself.
 pub fn law_best_match()
     ensures { (routes : Routes) (peer : Peer) (address : Address) →
         IsBest routes peer address (longest_match routes peer address) }

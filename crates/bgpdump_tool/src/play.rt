@@ -50,13 +50,14 @@ pub fn run_play<S: PrefixStore<Rc<Route>>, I: Input, O: Output, E: Output>(
     requires err_sound { E.failed err.old ≡ false }
 
     // If the input shows its octets, the texts of the script over them are written: whole if the run
-    // is done or has reported faults, or else prefixes of these texts.
+    // is done (without reports) or has reported faults (with some), or else prefixes of these texts.
     ensures octets { ScriptEndsOnKnownInput stamp script.now result (I.left input.old)
         (outputs_of O.written E.written out.old err.old)
         (outputs_of O.written E.written out.new err.new) }
 
-    // So they are whatever octets may follow those taken, provided that none do if the run has met
-    // the end of the input: nothing that is written depends on octets that weren't taken.
+    // The same holds if other octets had followed those taken: nothing that is written depends on
+    // octets that weren't. But none may follow if the run has met the end of the input or, after
+    // `Memory` or `WriteFault`, if the whole script would have; then `began` states more.
     ensures text { HoldsForDevices I.left O.written E.written
         (ScriptEndsForAllContents stamp script.now result)
         (input.old, out.old, err.old) (input.new, out.new, err.new) }
@@ -69,8 +70,8 @@ pub fn run_play<S: PrefixStore<Rc<Route>>, I: Input, O: Output, E: Output>(
         (ScriptHasBegun stamp script.now result)
         (input.old, out.old, err.old) (input.new, out.new, err.new) }
 
-    // A run that ends as the input fails or is too long has written what the whole records taken
-    // give: the replies to the commands that it completed, and the reports of faulty records and of
+    // A run that ends as the input fails or is too long has written exactly what the whole records
+    // taken give: the replies to the commands that it completed, and the reports of faulty records and of
     // bad lines before.
     ensures whole_records { HoldsForDevices I.left O.written E.written
         (ScriptWritesBeforeInputFault stamp script.now result)
@@ -83,12 +84,13 @@ pub fn run_play<S: PrefixStore<Rc<Route>>, I: Input, O: Output, E: Output>(
         (I.left input.old) (I.left input.new) }
 
     // No reply waits: outputs that tell what they hold back hold nothing back after a run that is
-    // done or has reported faults, nor where a read failed, as any read may that asks the device.
+    // done or has reported faults, or in which a read failed. Any read that asks the device may
+    // fail, and nothing is flushed after that, so all was flushed before it.
     ensures flushed { LeavesFlushed result (O.pending out.new) (E.pending err.new) }
 
     // At most 2^40 octets are taken: whole records, and then the octets after them, but none after
     // a header with a length that is too great. After an error the last record may be taken in
-    // part, and after `Memory` or `WriteFault` as a whole, with nothing written of it.
+    // part, and after `Memory` maybe a whole one that counts for nothing.
     ensures taken { length script.now ≤ LONGEST_SCRIPT →
         (taken : List ℕ) × Consumes (I.left input.old) (I.left input.new) taken
         × IsTaken stamp result taken }
@@ -156,9 +158,9 @@ fn execute_lines<S: PrefixStore<Rc<Route>>, I: Input, O: Output, E: Output>(
     execute_line(session, input, rest, number, out, err)
 }
 
-/// Executes a line of a script, given without its line feed: its command, which may read records
-/// from `input` and writes its reply to `out`, or nothing if it is empty. A line that is no command
-/// is reported to `err` with its `number`, counted from 1, such as
+/// Executes the command in a line of a script, given without its line feed; an empty line does
+/// nothing. The command may read records from `input`, and its reply goes to `out`. A line that is
+/// no command is reported to `err` with its `number`, counted from 1, such as
 /// `bgpdump: script line 3: bad command`. Fails with the [`Outcome`] that ends the program: a
 /// failed read or write, an input that is too long, or a lack of memory; how much of the line was
 /// executed is unspecified then. Requires, so that no count overflows, that at most 2^40 octets

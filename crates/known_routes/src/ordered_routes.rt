@@ -96,7 +96,7 @@ fn shrink_if_oversized<T: Drop>(list: &mut Vec<T>)
 /// Removes the routes of `run` that nothing else owns (no other `Rc` shares them), and returns the
 /// number of octets that they took ([`route_size`]), or 0 if there were none. The others stay in
 /// order, but move to a smaller block of memory if [`shrink_if_oversized`] finds `run` too large.
-fn remove_unowned_from(run: &mut Vec<HashedRoute>) -> u64 {
+fn remove_unshared_from(run: &mut Vec<HashedRoute>) -> u64 {
     let mut octets = 0u64;
     'routes: for hashed in run.iter() {
         if hashed.is_only_owner() {
@@ -230,13 +230,14 @@ impl OverflowRoutes {
     }
 
     /// Removes the routes that have no owner (`Rc`) but this list, and returns the number of octets
-    /// that they took ([`route_size`]). Moves runs that lost routes, and the list of runs, to
-    /// smaller blocks of memory as [`shrink_if_oversized`] does.
-    pub(crate) fn remove_unowned(&mut self) -> u64 {
+    /// that they took ([`route_size`]). The list is kept in runs, each a vector of routes in order;
+    /// a run that lost routes, and the vector of runs, give up memory as [`shrink_if_oversized`]
+    /// does.
+    pub(crate) fn remove_unshared(&mut self) -> u64 {
         let mut octets = 0u64;
         let mut count = 0usize;
         'runs: for run in self.runs.iter_mut() {
-            octets = octets.saturating_add(remove_unowned_from(run));
+            octets = octets.saturating_add(remove_unshared_from(run));
             count = count.saturating_add(run.len());
         }
         self.count = count;

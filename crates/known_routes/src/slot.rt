@@ -30,7 +30,7 @@ const HASH_BITS: u32 = 32;
 /// numbers above it are tags of slots with a route.
 pub(crate) const FREE: u8 = 0;
 
-/// A slot of the hash table of routes: room for one route.
+/// A slot of the hash table of routes: either free, or with one route and its hash.
 #[derive(Drop)]
 pub(crate) enum Slot {
     /// No route.

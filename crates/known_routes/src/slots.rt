@@ -258,7 +258,7 @@ impl InternTable {
     /// Moves the routes of `others` into this table, which is to have none yet. Some may be dropped
     /// where buckets of four slots are full, as in [`InternTable::put`]. Fails if memory
     /// allocation fails; the routes moved by then stay here, and the others are dropped.
-    fn move_from(&mut self, mut others: InternTable) -> Result<(), AllocError>
+    fn refill_from(&mut self, mut others: InternTable) -> Result<(), AllocError>
         ensures { vec_len self.new.slots ≡ vec_len self.old.slots }
     {
         // A large overflow is moved as it is, since putting its routes would take longer than
@@ -290,7 +290,7 @@ impl InternTable {
         ensures { IfOk result (λ fewest. vec_len fewest.slots ≡ MIN_SLOTS) }
     {
         let mut fewest = InternTable::with_slots(alloc, MIN_SLOTS)?;
-        fewest.move_from(self)?;
+        fewest.refill_from(self)?;
         Ok(fewest)
     }
 
@@ -305,7 +305,7 @@ impl InternTable {
                 self.clear_slot(index);
             }
         }
-        let octets = self.overflow.remove_unowned();
+        let octets = self.overflow.remove_unshared();
         self.held_octets = self.held_octets.saturating_sub(octets);
     }
 
@@ -324,9 +324,10 @@ impl InternTable {
     }
 
     /// Moves the routes to a new table, with more slots or fewer: two and a third for each route in
-    /// a slot, but at least [`MIN_SLOTS`] and at most [`MAX_SLOTS`]. If too few routes get a slot
-    /// there, the new table has [`MIN_SLOTS`]. Fails if memory allocation fails; the table then is
-    /// unchanged, or has no slots and no routes any more.
+    /// a slot, but at least [`MIN_SLOTS`] and at most [`MAX_SLOTS`]. Routes may be dropped where
+    /// their buckets are full there. If the new table then has too many slots for those left
+    /// ([`InternTable::has_few_slots`]), they move on to one with [`MIN_SLOTS`]. Fails if memory
+    /// allocation fails; the table then is unchanged, or has no slots and no routes any more.
     pub(crate) fn resize(&mut self, alloc: Global) -> Result<(), AllocError>
         ensures most { OnOk result (vec_len self.new.slots ≤ MAX_SLOTS) }
         ensures fitting { OnOk result
@@ -335,7 +336,7 @@ impl InternTable {
     {
         let count = (self.taken.saturating_mul(7) / 3).clamp(MIN_SLOTS, MAX_SLOTS);
         let mut others = InternTable::with_slots(alloc, count)?;
-        others.move_from(mem::replace(self, InternTable::empty(alloc)))?;
+        others.refill_from(mem::replace(self, InternTable::empty(alloc)))?;
         if !others.has_few_slots() {
             others = others.move_to_min_slots(alloc)?;
         }

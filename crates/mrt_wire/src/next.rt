@@ -13,7 +13,7 @@ pub enum Next {
     /// The event of an accepted record: its time, its type, and what it says of peers and routes.
     Event(Event),
     /// A fault of a record that was skipped, with the number of the record and the offset of its
-    /// header. The source reads on after it.
+    /// header. The source reads on after it, unless the record is cut or too long.
     Bad(RecordFault),
     /// The end of the input, or of what can be read of it: the source reads no more records.
     End,

@@ -85,10 +85,10 @@ impl PooledRoute {
     }
 }
 
-/// A list of routes whose memory each record reuses, from the first on, unless they have other
-/// owners. The octets of memory of routes of table entries are counted, except for the first few of
-/// a record if they are small, and their sum is bounded. A record that needs more raises the bound,
-/// which falls again later.
+/// A list of routes whose memory is reused: each record is parsed into them, the first one first; a
+/// route with other owners is replaced by a new one. The memory of the counted routes, those of
+/// table entries without the first few small ones of a record, is bounded in octets, in sum. A
+/// record that needs more raises the bound, which falls again later.
 #[derive(Drop)]
 pub(crate) struct RoutePool {
     /// The routes, at most [`MOST_ROUTES`].
@@ -163,8 +163,8 @@ impl RoutePool {
         self.octets = octets as u64;
     }
 
-    /// Lowers the bound of the pool, the octets of memory that its counted routes may take
-    /// together, by [`LOWERING_RATE`] octets for each octet of the last record's body. The bound
+    /// Lowers the bound of the pool, the octets of memory that its counted routes (those of table
+    /// entries, without the first few small ones of a record) may take together, by [`LOWERING_RATE`] octets for each octet of the last record's body. The bound
     /// doesn't fall below what that record needed, nor below [`MOST_ROOM`], the bound of a new
     /// pool. Drops routes, the last of the list first, until the counted octets of the others are
     /// within the bound.
@@ -205,8 +205,9 @@ impl RoutePool {
         self.routes.shrink_to_fit();
     }
 
-    /// Drops the pool's own `Rc`s of routes that have other owners, if the counted routes of the
-    /// last record took more than [`MOST_ROOM`] octets of memory. So the memory of these routes is
+    /// Drops the pool's own `Rc`s of routes that have other owners, if the counted routes (those of
+    /// table entries, without the first few small ones) of the last record took more than
+    /// [`MOST_ROOM`] octets of memory. So the memory of these routes is
     /// freed as soon as their other owners drop them, and isn't kept for reuse.
     #[inline(always)]
     pub(crate) fn drop_shared_after_large_record(&mut self)

@@ -123,10 +123,12 @@ impl Source {
     #[inline(always)]
     pub fn next<I: Input>(&mut self, input: &mut I) -> Result<Next, SourceFault>
         // While it reads: either the octets of one record were taken, its event or fault is
-        // returned, and number, offset and peer index are those after it; or the octets after the
-        // last record were taken, their fault or the end is returned, and the phase is `Ended`; or
-        // the call failed, after the beginning of a record (with `Memory` maybe a whole one), the
-        // number and the peer index stay, and the phase is `Spent`.
+        // returned, and number, offset and peer index are those after it; or what follows the last
+        // record was taken, to the end of the input or just a header whose length is too great, its
+        // fault or the end is returned, and the phase is `Ended`; or the call failed, having taken
+        // the beginning of a record, maybe nothing (with `Memory` maybe a whole one), with
+        // `InputTooLong` only at the limit, and the phase is `Spent`. In the last two cases number
+        // and peer index stay, and the offset grows by what was taken.
         ensures next { self.old.phase ≡ Phase.Reading →
             IsNextCall self.old self.new (I.left input.old) (I.left input.new) result }
 

@@ -18,7 +18,7 @@ use Rattle.ip_prefix.specs.OrderLaws.{network_cmp_total, network_cmp-IsAntisymme
 use Rattle.ip_prefix.proofs.Chunks.{bits_of-number_of, number_of-lt}
 use Rattle.mrt_events.specs.declared.peer.Peer.{Peer}
 use Rattle.rib_player.specs.declared.pair.Pair.{Pair}
-use Rattle.rib_player.specs.declared.claims.ExtraClaimsOfPeer.{ExtraClaimsOfPeer}
+use Rattle.rib_player.specs.declared.claims.ExtraKeyClaimsOfPeer.{ExtraKeyClaimsOfPeer}
 use Rattle.rib_player.specs.declared.claims.TheConstants.{ADDRESSES}
 use Rattle.rib_player.specs.KeyCounts.{count_at}
 use Rattle.rib_player.specs.Claims.{count_of, v4_prefix_number, by_family, count_of_peer}
@@ -76,7 +76,7 @@ apart n p f g e h differ =
     grind arith
 
 -- what is counted of keys, with this bit for the one that is meant, is counted of prefixes
-pub v4-counted : (old new : ExtraClaimsOfPeer) (p : Network) (R : ℕ → ℕ → Bool → Type 0) → p.family ≡ V4 → length p.bits ≤ V4_BITS → new.v6 ≡ old.v6
+pub v4-counted : (old new : ExtraKeyClaimsOfPeer) (p : Network) (R : ℕ → ℕ → Bool → Type 0) → p.family ≡ V4 → length p.bits ≤ V4_BITS → new.v6 ≡ old.v6
     → ((k : ℕ) → R (count_at nat_cmp new.v4 k) (count_at nat_cmp old.v4 k) (eq_by_cmp nat_cmp k (v4_prefix_number p))) → ((m : ℕ) → R m m false) → (n : Network) → R (count_of new n) (count_of old n) (same_network n p)
 v4-counted old new p R f within same keys other n = at n.family refl
   where
@@ -92,10 +92,10 @@ v4-counted old new p R f within same keys other n = at n.family refl
 -- ---- pair by pair
 
 abbrev pub Peers : Type 0
-Peers = tree.BTreeMap Peer (Box ExtraClaimsOfPeer Global)
+Peers = tree.BTreeMap Peer (Box ExtraKeyClaimsOfPeer Global)
 
 -- where other counts stand for a peer, what holds there of each prefix, and elsewhere, holds of each pair
-pub beyond-written : {peers peers' : List (Peer × Box ExtraClaimsOfPeer Global)} {w : Option (Box ExtraClaimsOfPeer Global)} (pair : Pair) → IsUpdatedAt peers peers' pair.peer w → (R : ℕ → ℕ → Bool → Type 0)
+pub beyond-written : {peers peers' : List (Peer × Box ExtraKeyClaimsOfPeer Global)} {w : Option (Box ExtraKeyClaimsOfPeer Global)} (pair : Pair) → IsUpdatedAt peers peers' pair.peer w → (R : ℕ → ℕ → Bool → Type 0)
     → ((n : Network) → R (count_of_peer w n) (count_of_peer (lookup (same_peer pair.peer) peers) n) (same_network n pair.prefix)) → ((m : ℕ) → R m m false)
     → (q : Pair) → R (count_of_peer (lookup (same_peer q.peer) peers') q.prefix) (count_of_peer (lookup (same_peer q.peer) peers) q.prefix) (tied q pair)
 beyond-written {peers = peers} {w = w} pair written R here elsewhere q =

@@ -9,7 +9,7 @@ use Rattle.std.proofs.lemmas.List.{map-append, take_more}
 use Rattle.std.proofs.lemmas.Option.{slice_get-map}
 use Rattle.mrt_events.specs.declared.peer.Peer.{Peer}
 use Rattle.rib_player.specs.declared.pair.Pair.{Pair}
-use Rattle.rib_player.specs.declared.seen_numbers.SeenNumbers.{SeenNumbers}
+use Rattle.rib_player.specs.declared.seen_peers.SeenPeers.{SeenPeers}
 use Rattle.rib_player.specs.Entries.{Entry}
 use Rattle.rib_player.specs.History.{pair_cmp}
 use Rattle.rib_player.specs.Journal.{side_of, sides_of}
@@ -78,10 +78,10 @@ module _ {R : Type 0} (last : Pair) (s : Pair × R) (below : pair_cmp s.0 last �
 
 module _ {R : Type 0} (order : List (Peer × ℕ)) where
   -- the pair's peer has a number, which was seen
-  abbrev pub IsSeen : SeenNumbers → Pair × R → Type 0
+  abbrev pub IsSeen : SeenPeers → Pair × R → Type 0
   IsSeen marks e = (n : ℕ) × (lookup (same_peer e.0.peer) order ≡ Some n) × (was_seen marks n ≡ true)
 
-  module _ (marks marks' : SeenNumbers) (s : Pair × R) (number : ℕ) (is : lookup (same_peer s.0.peer) order ≡ Some number) where
+  module _ (marks marks' : SeenPeers) (s : Pair × R) (number : ℕ) (is : lookup (same_peer s.0.peer) order ≡ Some number) where
     -- a pair of a number that wasn't seen is another
     apart : was_seen marks number ≡ false → (e : Pair × R) → IsSeen marks e → eq_by_cmp pair_cmp e.0 s.0 ≡ false
     apart new e seen =

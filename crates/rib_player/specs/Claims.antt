@@ -18,8 +18,8 @@ use Rattle.ip_prefix.specs.Bits.{number_of}
 use Rattle.ip_prefix.specs.Network.{Network, network_cmp}
 use Rattle.mrt_events.specs.declared.event.Event.{Event}
 use Rattle.mrt_events.specs.Event.{peer_cmp}
-use Rattle.rib_player.specs.declared.claims.ExtraClaims.{ExtraClaims}
-use Rattle.rib_player.specs.declared.claims.ExtraClaimsOfPeer.{ExtraClaimsOfPeer}
+use Rattle.rib_player.specs.declared.claims.ExtraKeyClaims.{ExtraKeyClaims}
+use Rattle.rib_player.specs.declared.claims.ExtraKeyClaimsOfPeer.{ExtraKeyClaimsOfPeer}
 use Rattle.rib_player.specs.declared.claims.TheConstants.{ADDRESSES}
 use Rattle.rib_player.specs.KeyCounts.{count_at}
 use Rattle.rib_player.specs.declared.pair.Pair.{Pair}
@@ -109,16 +109,16 @@ by_family V6 a b = b
 
 -- the count of the prefix `n` in the counts of one peer, which are apart for IPv4 prefixes, by their numbers
 -- (`v4_prefix_number`), and for IPv6 prefixes; 0 if it isn't counted
-abbrev pub count_of : ExtraClaimsOfPeer → Network → ℕ
+abbrev pub count_of : ExtraKeyClaimsOfPeer → Network → ℕ
 count_of counts n = by_family n.family (count_at nat_cmp counts.v4 (v4_prefix_number n)) (count_at network_cmp counts.v6 n)
 
 -- the count of a prefix in the counts of a peer; 0 if it isn't counted, or the peer has no counts (`None`)
-abbrev pub count_of_peer : Option (Box ExtraClaimsOfPeer Global) → Network → ℕ
+abbrev pub count_of_peer : Option (Box ExtraKeyClaimsOfPeer Global) → Network → ℕ
 count_of_peer counts prefix = option_map_or (λ counts. count_of counts.value prefix) counts 0
 
 -- how many claims (reasons to keep it as a key) of a pair are counted in `claims`: all but the first, which
 -- is the key itself; 0 if it isn't counted
-abbrev pub claims_beyond : ExtraClaims → Pair → ℕ
+abbrev pub claims_beyond : ExtraKeyClaims → Pair → ℕ
 claims_beyond claims pair = count_of_peer (tree.get peer_cmp claims.peers pair.peer) pair.prefix
 
 -- how many claims (reasons to keep it as a key) of a pair are held: one if it is in `keys`, plus
@@ -128,7 +128,7 @@ held_claims keys beyond pair = one_if (set.contains keys pair) + beyond pair
 
 -- how many claims (reasons to keep it as a key) of a pair are held: one if it is a key of `table`, and those
 -- beyond this that are counted in `claims`
-abbrev pub claims_in : Contents → ExtraClaims → Pair → ℕ
+abbrev pub claims_in : Contents → ExtraKeyClaims → Pair → ℕ
 claims_in table claims = held_claims table.keys (claims_beyond claims)
 
 -- a pair that isn't in `keys` has no claims beyond the first: `beyond`, which gives their number, is 0 there

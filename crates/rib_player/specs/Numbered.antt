@@ -8,7 +8,7 @@ use Rattle.std.specs.declared.alloc.Global.{Global}
 use Rattle.std.specs.declared.rc.Rc.{Rc}
 use Rattle.mrt_events.specs.declared.peer.Peer.{Peer}
 use Rattle.mrt_events.specs.Event.{peer_cmp}
-use Rattle.rib_player.specs.declared.seen_numbers.SeenNumbers.{SeenNumbers}
+use Rattle.rib_player.specs.declared.seen_peers.SeenPeers.{SeenPeers}
 
 -- the peers that pointers point to
 abbrev pub peers_in : List (Rc Peer Global) → List Peer
@@ -23,5 +23,5 @@ pub record AreNumbered {S : Type 0} (held : List S) (names : List Peer) (order :
 
 -- whether the round in which a number was last seen is the current one; a round begins when the set is
 -- cleared. False for a number past the end of the list of these rounds
-abbrev pub was_seen : SeenNumbers → ℕ → Bool
+abbrev pub was_seen : SeenPeers → ℕ → Bool
 was_seen marks number = option_map_or (λ seen. seen == marks.round) (slice_get marks.last_rounds.items number) false

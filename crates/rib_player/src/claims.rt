@@ -35,27 +35,27 @@ use std::collections::BTreeMap;
 use std::mem::size_of;
 use std::rc::Rc;
 
-/// The number of claims beyond the first of each pair of a peer and a prefix; a claim is a reason
-/// to keep the pair as a key of the table, with memory for its route. A pair has one if it has a
+/// For each pair of a peer and a prefix, the number of its claims beyond the first. A claim is a
+/// reason to keep the pair as a key of the table, with memory for its route. A pair has one if it has a
 /// route before all kept steps (played events that undo or redo can go over), and one for each kept
 /// step that gives it a route when it has none. The first claim isn't counted, since a pair is a
 /// key if, and only if, it has one. So only pairs that lost their route and got one again in the
 /// kept steps have a count above 0.
 #[derive(Drop)]
-pub(crate) struct ExtraClaims {
+pub(crate) struct ExtraKeyClaims {
     // The counts of a peer are boxed, so that free slots of the map take little memory.
     alloc: Global,
     /// The counts of a peer's prefixes, for each peer that has a count above 0.
-    pub(crate) peers: BTreeMap<Peer, Box<ExtraClaimsOfPeer>>,
+    pub(crate) peers: BTreeMap<Peer, Box<ExtraKeyClaimsOfPeer>>,
 }
 
-impl ExtraClaims {
+impl ExtraKeyClaims {
     /// Returns counts that are all 0: no pair of a peer and a prefix has a claim (a reason to keep
     /// it as a key of the table) beyond its first. Doesn't allocate.
-    pub(crate) fn new(alloc: Global) -> ExtraClaims
+    pub(crate) fn new(alloc: Global) -> ExtraKeyClaims
         ensures { (q : Pair) → claims_beyond result q ≡ 0 }
     {
-        ExtraClaims {
+        ExtraKeyClaims {
             alloc,
             peers: BTreeMap::new(alloc),
         }
@@ -76,7 +76,7 @@ impl ExtraClaims {
         if let Some(counts) = self.peers.get_mut(&pair.peer) {
             return counts.increment(self.alloc, &pair.prefix);
         }
-        let mut counts = ExtraClaimsOfPeer::new();
+        let mut counts = ExtraKeyClaimsOfPeer::new();
         counts.increment(self.alloc, &pair.prefix)?;
         let counts = Box::new(self.alloc, counts)?;
         self.peers.insert(pair.peer, counts)?;
@@ -111,7 +111,7 @@ impl ExtraClaims {
 /// memory allocation fails; table and claims are unchanged then, and the entry is unspecified.
 pub(crate) fn apply_entry<S: PrefixStore<Rc<Route>>>(
     table: &mut Table<S>,
-    claims: &mut ExtraClaims,
+    claims: &mut ExtraKeyClaims,
     entry: &mut Entry,
 ) -> Result<(), AllocError>
     requires held { OnlyKeysHaveExtraClaims table.old.keys (claims_beyond claims.old) }
@@ -149,7 +149,7 @@ pub(crate) fn apply_entry<S: PrefixStore<Rc<Route>>>(
 /// has no route. Allocates no memory.
 pub(crate) fn release_claims<S: PrefixStore<Rc<Route>>>(
     table: &mut Table<S>,
-    claims: &mut ExtraClaims,
+    claims: &mut ExtraKeyClaims,
     entries: &[Entry],
     end: JournalEnd,
 )
@@ -184,25 +184,25 @@ const ADDRESSES: u64 = 1 << 32;
 /// returns, which begin with the address.
 const BELOW: u32 = 32;
 
-/// The number of claims beyond the first of each prefix of one peer; a claim is a reason to keep
-/// the peer and the prefix as a key of the player's table, with memory for a route. A prefix has a
+/// For each prefix of one peer, the number of its claims beyond the first. A claim is a reason to
+/// keep the peer and the prefix as a key of the player's table, with memory for a route. A prefix has a
 /// claim if the peer has a route to it before all kept steps (played events that undo or redo can
 /// go over), and one for each kept step that gives the peer a route to it when there is none. A
 /// prefix with one claim, or with none, has the count 0, and isn't stored.
 #[derive(Drop)]
-pub(crate) struct ExtraClaimsOfPeer {
+pub(crate) struct ExtraKeyClaimsOfPeer {
     /// The counts of IPv4 prefixes, each prefix as a number ([`v4_prefix_number`]).
     v4: KeyCounts<u64>,
     /// The counts of IPv6 prefixes.
     v6: KeyCounts<Prefix>,
 }
 
-/// The largest size of [`ExtraClaimsOfPeer`] in octets, without the lists and maps that a family
+/// The largest size of [`ExtraKeyClaimsOfPeer`] in octets, without the lists and maps that a family
 /// gets once two of its prefixes are counted. A larger one fails the check of the crate, by the
 /// next line.
 const COUNTS_OCTETS: usize = 72;
 
-const _: () = prove!(size_of::<ExtraClaimsOfPeer>() <= COUNTS_OCTETS);
+const _: () = prove!(size_of::<ExtraKeyClaimsOfPeer>() <= COUNTS_OCTETS);
 
 /// Returns a number that no other IPv4 prefix has: 2^32 times the length of `prefix`, plus its
 /// address as a number. For 10.0.0.0/8 that is `0x8_0a00_0000`. Requires that `prefix` is IPv4.
@@ -215,13 +215,13 @@ fn v4_prefix_number(prefix: &Prefix) -> u64
     u64::from(prefix.len()) * ADDRESSES + (prefix.high_64_bits() >> BELOW)
 }
 
-impl ExtraClaimsOfPeer {
+impl ExtraKeyClaimsOfPeer {
     /// Returns the counts of a peer that are all 0: no prefix has a claim (a reason to keep it as a
     /// key of the table) beyond its first. Doesn't allocate.
-    fn new() -> ExtraClaimsOfPeer
+    fn new() -> ExtraKeyClaimsOfPeer
         ensures { (n : Network) → count_of result n ≡ 0 }
     {
-        ExtraClaimsOfPeer {
+        ExtraKeyClaimsOfPeer {
             v4: KeyCounts::None,
             v6: KeyCounts::None,
         }

@@ -63,7 +63,8 @@ pub(crate) enum JournalEnd {
 /// The stored form of an [`Entry`]: one variant for each address family and for whether the entry
 /// keeps a route ([`Entry::route`]). Each of these also has the prefix, a shared pointer to the
 /// peer, and two flags: whether there is a route to the prefix before the entry's step (a played
-/// event), and whether after it. [`EntryRepr::Taken`] has nothing.
+/// event), and whether after it. [`EntryRepr::Taken`], which has none of these, is what is left where
+/// an entry was moved out to be changed.
 #[derive(Drop)]
 enum EntryRepr {
     // An IPv4 prefix is stored beside the two flags, so that an entry takes three words; an IPv6

@@ -15,9 +15,9 @@ ghost use Rattle.rib_player.specs.Journal.{sides_of, sides_by_step, routes_acros
 ghost use Rattle.rib_player.specs.Sides.{sides_at, sides_across, ClearAllOf, AreDistinctKeys, AreDistinct, marks_of, marks_by_step, any_releases_claim_of, entry_count};
 ghost use Rattle.rib_player.specs.JournalState.{IsStepSwapped, AreApplied, CanDrop, StayClaimed};
 
-use crate::claims::{ExtraClaims, apply_entry, release_claims};
+use crate::claims::{ExtraKeyClaims, apply_entry, release_claims};
 use crate::entry::{Entry, JournalEnd, Step};
-use crate::prefetching::{PrefetchedGroups, prefetch_at_batch_start, prefetch_steps};
+use crate::prefetching::{LastPrefetchedGroups, prefetch_at_batch_start, prefetch_steps};
 use crate::spare_capacity::{LEAST_ROOM, MOST_TIMES};
 use crate::table::Table;
 use known_routes::RouteInterner;
@@ -70,7 +70,7 @@ pub(crate) fn swap_routes<S: PrefixStore<Rc<Route>>>(table: &mut Table<S>, entri
 pub(crate) fn apply_or_undo_step<S: PrefixStore<Rc<Route>>>(
     table: &mut Table<S>,
     steps: &mut VecDeque<Step>,
-    prefetched: &mut PrefetchedGroups,
+    prefetched: &mut LastPrefetchedGroups,
     index: usize,
     first: usize,
 )
@@ -126,7 +126,7 @@ pub(crate) fn apply_session_loss<S: PrefixStore<Rc<Route>>>(
 pub(crate) fn apply_entries<S: PrefixStore<Rc<Route>>>(
     alloc: Global,
     table: &mut Table<S>,
-    claims: &mut ExtraClaims,
+    claims: &mut ExtraKeyClaims,
     lost: Option<&Peer>,
     entries: &mut [Entry],
 ) -> Result<(), AllocError>
@@ -205,7 +205,7 @@ pub(crate) fn drop_steps_ahead<S: PrefixStore<Rc<Route>>>(
     steps: &mut VecDeque<Step>,
     cursor: usize,
     table: &mut Table<S>,
-    claims: &mut ExtraClaims,
+    claims: &mut ExtraKeyClaims,
     known: &mut RouteInterner,
 )
     requires within { cursor ≤ length steps.old.items }

@@ -170,9 +170,10 @@ pub fn law_history_after_one_call()
 /// States that the calls made on a player, failed ones too, determine its history: the list of the
 /// events that were played, including those that can't be undone any more, without those dropped by
 /// a play after an undo. The history is what `history_after_calls` (`specs/Calls.antt`) computes
-/// from the calls for a new player; for another one, from the calls and the history before them. A
-/// list of events is the history of a player if the cursor is at most its length and, from the
-/// lowest position that undo can reach, the tables and steps are those that the events make.
+/// from the calls for a new player; for a player that isn't new, from the calls and a history before
+/// them. A list of events is a history of a player if the cursor (the number of events that are
+/// applied) is at most its length, and if the table at each position that undo can reach, and the
+/// steps (played events kept for undo and redo) from there on, are those that its events make.
 pub fn law_history_after_all_calls()
     ensures new { (calls : List Call) →
         StandsFor (after_calls fresh calls) (history_after_calls fresh [] calls) }

@@ -15,7 +15,7 @@ mod numbered_peer;
 mod pair;
 mod player;
 mod prefetching;
-mod seen_numbers;
+mod seen_peers;
 mod spare_capacity;
 mod sparse_set;
 mod steps;

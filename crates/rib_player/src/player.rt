@@ -8,13 +8,13 @@ ghost use Rattle.prefix_store.specs.Stored.{saturated_count};
 ghost use Rattle.prefix_store.specs.declared.store.TheConstants.{GREATEST_COUNT};
 ghost use Rattle.rib_player.specs.Timeline.{ahead_of, end_of, current, after_play, fresh, after_undo, after_redo, without_first, forgotten_count, after_forget, needed_keys, IsWellFormed};
 
-use crate::claims::{ExtraClaims, release_claims};
+use crate::claims::{ExtraKeyClaims, release_claims};
 use crate::entry::{JournalEnd, Step};
 use crate::journal::{
     Journal, apply_entries, apply_or_undo_step, drop_step, drop_steps_ahead, reserve_step,
 };
-use crate::prefetching::{PrefetchedGroups, STEPS_TOGETHER};
-use crate::seen_numbers::SeenNumbers;
+use crate::prefetching::{LastPrefetchedGroups, STEPS_TOGETHER};
+use crate::seen_peers::SeenPeers;
 use crate::steps::entries_for_event;
 use crate::table::Table;
 use known_routes::RouteInterner;
@@ -54,14 +54,14 @@ pub struct Player<S: PrefixStore<Rc<Route>>> {
     journal: Journal,
     /// How often each pair of a peer and a prefix is claimed beyond the first time. A claim is a
     /// reason to keep the pair as a key of the table, with memory for a route (`claims.rt`).
-    claims: ExtraClaims,
+    claims: ExtraKeyClaims,
     /// The routes that were played, by which equal routes share memory.
     known: RouteInterner,
     /// The indices of the stores whose peers were seen in the event that is being played. Kept
     /// between plays so that its memory is used again.
-    marks: SeenNumbers,
+    marks: SeenPeers,
     /// The groups of steps whose memory was prefetched last, by undo or redo.
-    prefetched: PrefetchedGroups,
+    prefetched: LastPrefetchedGroups,
 }
 
 impl<S: PrefixStore<Rc<Route>>> Model for Player<S> {
@@ -100,10 +100,10 @@ impl<S: PrefixStore<Rc<Route>>> Player<S> {
                 cursor: 0,
                 floor: 0,
             },
-            claims: ExtraClaims::new(alloc),
+            claims: ExtraKeyClaims::new(alloc),
             known: RouteInterner::new(alloc),
-            marks: SeenNumbers::new(alloc),
-            prefetched: PrefetchedGroups {
+            marks: SeenPeers::new(alloc),
+            prefetched: LastPrefetchedGroups {
                 last: usize::MAX,
                 before: usize::MAX,
             },

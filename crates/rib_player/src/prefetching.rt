@@ -109,7 +109,7 @@ pub(crate) fn prefetch_at_batch_start<S: PrefixStore<Rc<Route>>>(
 /// that it isn't prefetched again. A group is given by the index of its first step in the list of
 /// the steps that can be undone or redone, or is `usize::MAX` for none.
 #[derive(Clone, Copy)]
-pub(crate) struct PrefetchedGroups {
+pub(crate) struct LastPrefetchedGroups {
     // Two are kept, so that going back and forth over a position doesn't prefetch their nodes each
     // time.
     /// The group that was prefetched last.
@@ -129,7 +129,7 @@ pub(crate) struct PrefetchedGroups {
 pub(crate) fn prefetch_steps<S: PrefixStore<Rc<Route>>>(
     table: &Table<S>,
     steps: &VecDeque<Step>,
-    prefetched: &mut PrefetchedGroups,
+    prefetched: &mut LastPrefetchedGroups,
     next: usize,
     first: usize,
 ) -> u64

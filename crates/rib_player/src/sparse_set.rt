@@ -138,8 +138,9 @@ impl SparseSet {
         &self.numbers[..self.count]
     }
 
-    /// Frees unused capacity of the set's lists, one element for each number below the bound, if
-    /// it is much too large for them ([`shrink_if_oversized`]). Bound and members stay.
+    /// Frees spare capacity of the set's lists if it is much more than they need, by the rule of
+    /// the function [`shrink_if_oversized`]. Each list has one element for each number below the
+    /// bound. The bound and the members stay.
     pub(crate) fn shrink_if_oversized(&mut self)
         ensures { choices self.new ≡ choices self.old }
     {

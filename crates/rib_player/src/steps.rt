@@ -14,7 +14,7 @@ ghost use Rattle.rib_player.specs.Sides.{cleared_side, ClearAllOf, AreDistinct, 
 use crate::changes::{Changes, changes_of, share_numbered_peer};
 use crate::entry::Entry;
 use crate::numbered_peer::NumberedPeer;
-use crate::seen_numbers::SeenNumbers;
+use crate::seen_peers::SeenPeers;
 use crate::table::Table;
 use ip_prefix::Prefix;
 use known_routes::RouteInterner;
@@ -158,7 +158,7 @@ fn are_one_peer_descending(entries: &[Entry]) -> bool
 fn first_entry_per_pair<S: PrefixStore<Rc<Route>>>(
     entries: Vec<Entry>,
     table: &Table<S>,
-    marks: &mut SeenNumbers,
+    marks: &mut SeenPeers,
 ) -> Result<Vec<Entry>, AllocError>
     ensures distinct { IfOk result (λ once. AreDistinct (sides_of once.items)) }
     ensures found { IfOk result (λ once. (q : Pair) →
@@ -194,7 +194,7 @@ pub(crate) fn entries_for_event<S: PrefixStore<Rc<Route>>>(
     event: &Event,
     table: &Table<S>,
     known: &mut RouteInterner,
-    marks: &mut SeenNumbers,
+    marks: &mut SeenPeers,
 ) -> Result<(Vec<Entry>, Option<Peer>), AllocError>
     ensures step { IfOk result (λ new.
         IsStepFor table.now.routes event.now (sides_of new.0.items)) }

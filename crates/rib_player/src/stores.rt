@@ -20,7 +20,7 @@ ghost use Rattle.std.proofs.Props.{props};
 
 use crate::entry::Entry;
 use crate::numbered_peer::NumberedPeer;
-use crate::seen_numbers::SeenNumbers;
+use crate::seen_peers::SeenPeers;
 use crate::spare_capacity::shrink_if_oversized;
 use crate::sparse_set::SparseSet;
 use known_routes::peer_hash;
@@ -150,7 +150,7 @@ impl<S> Stores<S> {
     pub(crate) fn have_distinct_stores(
         &self,
         entries: &[Entry],
-        marks: &mut SeenNumbers,
+        marks: &mut SeenPeers,
     ) -> Result<bool, AllocError>
         ensures { IfOk result (λ are. IsTrue are → AreDistinct (sides_of entries.now)) }
     {

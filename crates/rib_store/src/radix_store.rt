@@ -12,7 +12,7 @@ ghost use Rattle.rib_store.specs.Slots.{route_of_slot};
 ghost use Rattle.rib_store.specs.Store.{trees_of, contents_of, AreRadixTrees};
 ghost use Rattle.rib_store.specs.Nodes.{AreNodes, AreNodesContaining, IsOrOneMore};
 
-use crate::tree::{DescentNode, PrefetchDescent, PrefetchDescents, Tree};
+use crate::tree::{DescentPosition, PrefetchDescent, PrefetchDescents, Tree};
 use ip_prefix::{Addr, Family, Prefix};
 use prefix_store::{GREATEST_COUNT, PrefetchBatch, PrefetchTarget, PrefixStore, V4Prefix};
 use std::alloc::{AllocError, Global};
@@ -248,8 +248,8 @@ fn descent_to<'a, R: Drop>(place: &PrefetchTarget<'a, RadixStore<R>>) -> Prefetc
     };
     let store: &'a RadixStore<R> = *store;
     let root = match prefix.family() {
-        Family::V4 => DescentNode::V4(&store.v4),
-        Family::V6 => DescentNode::V6(&store.v6),
+        Family::V4 => DescentPosition::V4(&store.v4),
+        Family::V6 => DescentPosition::V6(&store.v6),
     };
     PrefetchDescent::new(root, prefix)
 }

@@ -17,7 +17,7 @@ mod nodes;
 mod puts;
 mod routes;
 
-pub(crate) use descents::{DescentNode, PrefetchDescent, PrefetchDescents};
+pub(crate) use descents::{DescentPosition, PrefetchDescent, PrefetchDescents};
 use ip_prefix::{Prefix, Turn};
 use prefix_store::V4Prefix;
 use std::mem::size_of;

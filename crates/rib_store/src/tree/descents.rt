@@ -23,7 +23,7 @@ const MOST_NODES: u8 = 32;
 #[derive(Drop)]
 pub(crate) struct PrefetchDescent<'a, R> {
     /// The subtree that the descent has come to.
-    root: DescentNode<'a, R>,
+    root: DescentPosition<'a, R>,
     /// The first 64 bits of the prefix, the first one highest, filled up with zeros.
     bits: u64,
     /// The number of leading bits of the prefix that may be read: its length, but at most
@@ -34,7 +34,7 @@ pub(crate) struct PrefetchDescent<'a, R> {
 /// The place that a [`PrefetchDescent`], a walk that reads nodes into the processor's cache, has
 /// come to: a subtree whose root it reads next, or its end.
 #[derive(Drop)]
-pub(crate) enum DescentNode<'a, R> {
+pub(crate) enum DescentPosition<'a, R> {
     /// No subtree: the descent reads nothing.
     Ended,
     /// A subtree of IPv4 prefixes, whose root is to be read next.
@@ -48,7 +48,7 @@ impl<'a, R> PrefetchDescent<'a, R> {
     /// already, and reads no node.
     pub(crate) fn ended() -> Self {
         PrefetchDescent {
-            root: DescentNode::Ended,
+            root: DescentPosition::Ended,
             bits: 0,
             usable_bits: 0,
         }
@@ -58,7 +58,7 @@ impl<'a, R> PrefetchDescent<'a, R> {
     /// `root`, the root of a tree, and goes towards `prefix`. Expects the tree to be for the
     /// prefix's address family; otherwise the nodes that it reads are of no use for a look-up of
     /// `prefix`.
-    pub(crate) fn new(root: DescentNode<'a, R>, prefix: &Prefix) -> Self {
+    pub(crate) fn new(root: DescentPosition<'a, R>, prefix: &Prefix) -> Self {
         PrefetchDescent {
             root,
             bits: prefix.high_64_bits(),
@@ -74,13 +74,13 @@ impl<'a, R> PrefetchDescent<'a, R> {
     #[inline]
     fn advance(&mut self) -> bool {
         let next = match &self.root {
-            DescentNode::Ended => return false,
-            DescentNode::V4(tree) => match child_towards(tree, self.bits, self.usable_bits) {
-                Some(next) => DescentNode::V4(next),
+            DescentPosition::Ended => return false,
+            DescentPosition::V4(tree) => match child_towards(tree, self.bits, self.usable_bits) {
+                Some(next) => DescentPosition::V4(next),
                 None => return false,
             },
-            DescentNode::V6(tree) => match child_towards(tree, self.bits, self.usable_bits) {
-                Some(next) => DescentNode::V6(next),
+            DescentPosition::V6(tree) => match child_towards(tree, self.bits, self.usable_bits) {
+                Some(next) => DescentPosition::V6(next),
                 None => return false,
             },
         };

@@ -24,7 +24,7 @@ returns c =
     let longest = subst (λ segments. IsLongest (path_weight first - path_weight second) (units_from 0 segments) hops) c.as_slice-front.ensures
     (subst (λ n. IsLongest n (units_from 0 c.as_slice-front.result.now) hops) lacking pushed.1) in
     let made : c.from_vec.result ≡ segments_of hops ++ segments_without_confederations second.segments =
-    c.from_vec.ensures ∙ c.shrink_if_spare.ensures ∙ c.loop-segment.invariant
+    c.from_vec.ensures ∙ c.shrink_if_much_spare.ensures ∙ c.loop-segment.invariant
     ∙ ap (λ l. c.push_leading_segments.new.path.items ++ segments_without_confederations l) (take_all c.loop-segment.segment-index c.as_slice-back.result.now (omega (arith, c.loop-segment-test.false)))
     ∙ ap (λ l. l ++ segments_without_confederations c.as_slice-back.result.now) (pushed.2 ∙ ap (λ l. l ++ segments_of hops) c.in_ok-segments.ensures.items)
     ∙ ap (λ segments. segments_of hops ++ segments_without_confederations segments) c.as_slice-back.ensures in

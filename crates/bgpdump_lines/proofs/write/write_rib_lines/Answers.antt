@@ -31,7 +31,7 @@ routes-preserved g c =
     let peer = c.args.peer.now in
     let item = c.entry-item.result in
     let after = c.write_if_long.new.text in
-    let own = c.for_peer_table-heading.ensures peer item.0 c.deref.result.now ∙ ap (λ route. rib_reply_line peer (item.0, route)) c.deref.ensures ∙ ap (pointed_line peer) c.entry-item.is in
+    let own = c.for_rib_lines-heading.ensures peer item.0 c.deref.result.now ∙ ap (λ route. rib_reply_line peer (item.0, route)) c.deref.ensures ∙ ap (pointed_line peer) c.entry-item.is in
     record {
       passed = PutsThroughBuffer-next (pointed_line peer) c.args.routes.now c.routes.entry-index item _ _ _ [] c.routes.text after _ c.routes-test.true
           c.routes.invariant.passed c.in_ok-write_if_long.ensures.text (c.in_ok-put_route_line.ensures.printed.0 ∙ ap (λ l. after ++ l) own);

@@ -3,7 +3,7 @@ use Rattle.std.specs.FinMap as finite
 use Rattle.std.specs.FinSet as set
 use Rattle.rib_player.specs.declared.pair.Pair.{Pair}
 use Rattle.rib_player.specs.Claims.{one_if, claims_beyond, held_claims, OnlyKeysHaveExtraClaims}
-use Rattle.rib_player.specs.declared.claims.ExtraClaims.{ExtraClaims}
+use Rattle.rib_player.specs.declared.claims.ExtraKeyClaims.{ExtraKeyClaims}
 use Rattle.rib_player.specs.Tables.{Contents}
 use Rattle.std.proofs.Math.Bool.{or-false}
 use Rattle.rib_player.specs.Sides.{mark_of, marks_of, releases_claim, any_releases_claim_of}
@@ -76,11 +76,11 @@ entries-preserved g c =
     let marks = marks_of (take c.entries.entry-index c.args.entries.now) in
     let keys = c.entries.table.keys in
     let beyond = claims_beyond c.entries.claims in
-    let claimed : (t : Contents) (k : ExtraClaims) → c.if-releases_claim.table ≡ t → c.if-releases_claim.claims ≡ k → (q : Pair)
+    let claimed : (t : Contents) (k : ExtraKeyClaims) → c.if-releases_claim.table ≡ t → c.if-releases_claim.claims ≡ k → (q : Pair)
     → held_claims c.if-releases_claim.table.keys (claims_beyond c.if-releases_claim.claims) q + one_if (any_releases_claim_of end (marks_of (take (c.entries.entry-index + 1) c.args.entries.now)) q)
     ≡ held_claims t.keys (claims_beyond k) q + one_if (any_releases_claim_of end (marks_of (take (c.entries.entry-index + 1) c.args.entries.now)) q) =
-    λ t k is is' q. ap₂ (λ (t : Contents) (k : ExtraClaims). held_claims t.keys (claims_beyond k) q + one_if (any_releases_claim_of end (marks_of (take (c.entries.entry-index + 1) c.args.entries.now)) q)) is is' in
-    let held : (t : Contents) (k : ExtraClaims) → c.if-releases_claim.table ≡ t → c.if-releases_claim.claims ≡ k → OnlyKeysHaveExtraClaims t.keys (claims_beyond k) → OnlyKeysHaveExtraClaims c.if-releases_claim.table.keys (claims_beyond c.if-releases_claim.claims) =
+    λ t k is is' q. ap₂ (λ (t : Contents) (k : ExtraKeyClaims). held_claims t.keys (claims_beyond k) q + one_if (any_releases_claim_of end (marks_of (take (c.entries.entry-index + 1) c.args.entries.now)) q)) is is' in
+    let held : (t : Contents) (k : ExtraKeyClaims) → c.if-releases_claim.table ≡ t → c.if-releases_claim.claims ≡ k → OnlyKeysHaveExtraClaims t.keys (claims_beyond k) → OnlyKeysHaveExtraClaims c.if-releases_claim.table.keys (claims_beyond c.if-releases_claim.claims) =
     λ t k is is' h. subst (λ t. OnlyKeysHaveExtraClaims t.keys (claims_beyond c.if-releases_claim.claims)) (sym is) (subst (λ k. OnlyKeysHaveExtraClaims t.keys (claims_beyond k)) (sym is') h) in
     elim c.if-releases_claim.branch [
       | then-releases_claim+then-not-try_decrement w ↦

@@ -5,7 +5,7 @@ use Rattle.ip_prefix.specs.Network.{octet_at}
 use Rattle.ip_prefix.specs.Text.{address_text, v4_text, network_text}
 use Rattle.bgp_wire.specs.Text.{path_text}
 use Rattle.bgpdump_lines.proofs.ExampleLaws.{unsupported_read, malformed_read, rib_without_index, no_peers_read, rib_without_peer, state_change_read, cut_short}
-use Rattle.bgpdump_lines.proofs.example_laws.law_example_faults.Goals as goal
+use Rattle.bgpdump_lines.proofs.example_laws.law_example_faulty_records.Goals as goal
 
 pub returns-clause-split : goal.returns-clause-split
 returns-clause-split c stamp =

@@ -3,7 +3,7 @@ use Rattle.std.specs.Ordering.{eq_by_cmp, nat_cmp}
 use Rattle.rib_player.specs.KeyCounts.{count_at}
 use Rattle.rib_player.specs.Claims.{one_if}
 use Rattle.rib_player.proofs.CountedLaws.{v4-counted}
-use Rattle.rib_player.proofs.claims.ExtraClaimsOfPeer.try_decrement.Goals as goal
+use Rattle.rib_player.proofs.claims.ExtraKeyClaimsOfPeer.try_decrement.Goals as goal
 
 pub returns-in-V4-clause-counted : goal.returns-in-V4-clause-counted
 returns-in-V4-clause-counted c =

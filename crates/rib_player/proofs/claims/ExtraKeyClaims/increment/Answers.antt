@@ -9,8 +9,8 @@ use Rattle.rib_player.specs.Claims.{one_if, count_of, count_of_peer}
 use Rattle.rib_player.specs.Representation.{IsUpdatedAt}
 use Rattle.rib_player.proofs.StoreLaws.{same_network}
 use Rattle.rib_player.proofs.CountedLaws.{Peers, beyond-written}
-use Rattle.rib_player.proofs.claims.ExtraClaims.increment.Goals as goal
-use Rattle.rib_player.proofs.claims.ExtraClaims.increment.Goals.{After-increment}
+use Rattle.rib_player.proofs.claims.ExtraKeyClaims.increment.Goals as goal
+use Rattle.rib_player.proofs.claims.ExtraKeyClaims.increment.Goals.{After-increment}
 
 found : (c : After-increment) → Some c.in-Some.counts.now ≡ tree.get peer_cmp c.args.self.now.peers c.args.pair.now.peer
 found c = sym (ap option_copied_mut c.in-Some.is) ∙ c.get_mut.ensures.value

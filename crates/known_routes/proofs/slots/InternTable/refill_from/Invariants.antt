@@ -1,5 +1,5 @@
 use Rattle.std.proofs.Common.{◌≡◌, vec_len}
-use Rattle.known_routes.proofs.slots.InternTable.move_from.Given as goal
+use Rattle.known_routes.proofs.slots.InternTable.refill_from.Given as goal
 
 -- the places stay as many
 abbrev pub invariant-slots : goal.invariant-slots

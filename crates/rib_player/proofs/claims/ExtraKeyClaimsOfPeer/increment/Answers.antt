@@ -6,7 +6,7 @@ use Rattle.prefix_store.specs.declared.store.TheConstants.{GREATEST_COUNT}
 use Rattle.rib_player.specs.KeyCounts.{count_at}
 use Rattle.rib_player.specs.Claims.{one_if, v4_prefix_number, by_family}
 use Rattle.rib_player.proofs.CountedLaws.{v4-counted}
-use Rattle.rib_player.proofs.claims.ExtraClaimsOfPeer.increment.Goals as goal
+use Rattle.rib_player.proofs.claims.ExtraKeyClaimsOfPeer.increment.Goals as goal
 
 pub increment-requires : goal.increment-requires
 increment-requires c =

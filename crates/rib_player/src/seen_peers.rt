@@ -9,11 +9,11 @@ use crate::spare_capacity::shrink_if_oversized;
 use std::alloc::{AllocError, Global};
 
 /// A set of peers' numbers (the indices of their stores in the table): those seen in the current
-/// round. A round begins with [`clear`](SeenNumbers::clear), and numbers are then added one by one.
+/// round. A round begins with [`clear`](SeenPeers::clear), and numbers are then added one by one.
 /// For each number, the last round in which it was seen is stored. So `clear` only has to count the
 /// rounds, and needn't change what is stored for each number.
 #[derive(Drop)]
-pub(crate) struct SeenNumbers {
+pub(crate) struct SeenPeers {
     /// The last round in which each number was seen, by number. Numbers past the end weren't seen
     /// in the current round.
     pub(crate) last_rounds: Vec<u64>,
@@ -21,10 +21,10 @@ pub(crate) struct SeenNumbers {
     pub(crate) round: u64,
 }
 
-impl SeenNumbers {
+impl SeenPeers {
     /// Returns an empty set, without allocating.
-    pub(crate) fn new(alloc: Global) -> SeenNumbers {
-        SeenNumbers {
+    pub(crate) fn new(alloc: Global) -> SeenPeers {
+        SeenPeers {
             last_rounds: Vec::new(alloc),
             round: 0,
         }

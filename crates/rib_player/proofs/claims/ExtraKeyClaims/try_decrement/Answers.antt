@@ -8,8 +8,8 @@ use Rattle.rib_player.specs.Claims.{count_of, one_if, count_of_peer}
 use Rattle.rib_player.specs.Representation.{IsUpdatedAt}
 use Rattle.rib_player.proofs.StoreLaws.{same_network, written-twice}
 use Rattle.rib_player.proofs.CountedLaws.{beyond-written}
-use Rattle.rib_player.proofs.claims.ExtraClaims.try_decrement.Goals as goal
-use Rattle.rib_player.proofs.claims.ExtraClaims.try_decrement.Goals.{After-try_decrement-taken}
+use Rattle.rib_player.proofs.claims.ExtraKeyClaims.try_decrement.Goals as goal
+use Rattle.rib_player.proofs.claims.ExtraKeyClaims.try_decrement.Goals.{After-try_decrement-taken}
 
 found : (c : After-try_decrement-taken) → Some c.in-Some.counts.now ≡ tree.get peer_cmp c.args.self.now.peers c.args.pair.now.peer
 found c = sym (ap option_copied_mut c.in-Some.is) ∙ c.get_mut.ensures.value
