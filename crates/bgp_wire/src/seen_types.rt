@@ -44,7 +44,7 @@ impl SeenTypes {
     }
 
     /// Adds `kind`, the type of the next attribute of the list. Returns `true` if an attribute of
-    /// this type was added before, and notes that there are several. Returns `false` if it is the
+    /// this type was added before, and notes that a type of the list is repeated. Returns `false` if it is the
     /// first, or if `kind` isn't below [`KINDS`]; such a type isn't added.
     #[inline]
     pub(crate) fn test_and_set(&mut self, kind: u8) -> bool

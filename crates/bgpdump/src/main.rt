@@ -97,7 +97,8 @@ fn open_files_and_run<'a>(
 }
 
 /// Reads the script from the file that `mode` names, or from standard input for the name `-`.
-/// Returns its octets, or `None` for `Mode::Lines`, which has no script. Fails with the [`Ending`]
+/// Returns its octets, of a script that is too long only the first ([`read_script`]), or `None` for
+/// `Mode::Lines`, which has no script. Fails with the [`Ending`]
 /// of the program if the script can't be opened or read, or if memory allocation fails.
 fn read_script_for_mode<'a>(
     rt: &HostRuntime,

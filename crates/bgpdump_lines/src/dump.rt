@@ -42,14 +42,17 @@ pub fn run_dump<I: Input, O: Output, E: Output>(
     requires out_sound { O.failed out.old ≡ false }
     requires err_sound { E.failed err.old ≡ false }
 
+    // Of devices that don't show their octets, clauses on octets state nothing. Written octets may
+    // still be in a buffer of the output, unless `flushed` says otherwise.
+
     // If the input shows its octets, the lines and reports of the records in them are written: whole
     // if the run is done or has reported faults, or else prefixes of these texts.
     ensures octets { EndsOnKnownInput stamp result dump_texts (I.left input.old)
         (outputs_of O.written E.written out.old err.old)
         (outputs_of O.written E.written out.new err.new) }
 
-    // So they are whatever octets may follow those taken, provided that none do if the run has met the
-    // end of the input: nothing that is written depends on octets that weren't taken.
+    // The same holds if other octets had followed those taken: nothing that is written depends on
+    // octets that weren't. But none may follow if the run has met the end of the input.
     ensures text { HoldsForDevices I.left O.written E.written
         (EndsForAllContents stamp result (SawEnd result) dump_texts)
         (input.old, out.old, err.old) (input.new, out.new, err.new) }
@@ -60,16 +63,19 @@ pub fn run_dump<I: Input, O: Output, E: Output>(
         (WritesBeforeInputFault stamp result dump_texts)
         (input.old, out.old, err.old) (input.new, out.new, err.new) }
 
-    // No line waits: of outputs that tell what they hold back, nothing is held back at the end, nor where
-    // a read failed, as any read may that asks the device.
+    // No line waits: outputs that tell what they hold back hold nothing back after a run that is done
+    // or has reported faults, or in which a read failed. Any read that asks the device may fail, and
+    // nothing is flushed after that, so all was flushed before it.
     ensures flushed { LeavesFlushed result (O.pending out.new) (E.pending err.new) }
 
     // At most 2^40 octets are taken: whole records, and then the octets after them, but none after a
-    // header with a length that is too great.
+    // header with a length that is too great. After an error the last record may be taken in part,
+    // and after `Memory` maybe a whole one that counts for nothing.
     ensures taken { (taken : List ℕ) × Consumes (I.left input.old) (I.left input.new) taken
         × IsTaken stamp result taken }
 
-    // The faults with which the run ends, and when.
+    // The faults with which the run ends, and exactly when; of `too_long` only what it implies, and
+    // of `Memory` nothing.
     ensures read_fault { (result ≡ Outcome.ReadFault) ↔ IsTrue (I.failed input.new) }
     ensures write_fault { (result ≡ Outcome.WriteFault)
         ↔ IsTrue (O.failed out.new || E.failed err.new) }

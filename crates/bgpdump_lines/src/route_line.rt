@@ -40,8 +40,9 @@ pub(crate) struct FieldOffsets {
     tail: usize,
 }
 
-/// A description of the last line of a text, the line of a route: the next line is copied from it
-/// where both are equal.
+/// What is known of the last line of a text, the line of a route: where its fields are, and which
+/// peer, prefix and route it was printed from. The next line is copied from it where these are
+/// equal.
 #[derive(Clone, Copy)]
 pub(crate) struct LastLine<'a> {
     /// The peer, the prefix and the route that the line prints.

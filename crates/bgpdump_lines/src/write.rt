@@ -419,8 +419,9 @@ pub fn write_report<E: Output>(
 
 /// Writes what `next`, the result of reading a record, holds: the lines of an event to `out`, the
 /// report of a faulty record to `err`, or nothing at the end of the input. Returns `true` if a
-/// report was written, and `false` otherwise. `cache` holds printed lines of tables, to be copied
-/// from. `text` is a buffer: its octets aren't written, and are unspecified afterwards. Fails if
+/// report was written, and `false` otherwise. `cache` holds lines of tables printed before, which
+/// are copied where they fit, and gets those printed now. `text` is scratch memory: what it holds is
+/// discarded, and unspecified afterwards. Fails if
 /// memory allocation or an output fails; some of the first lines, or a part of the report, may have
 /// been written then.
 #[inline(always)]

@@ -49,23 +49,27 @@ pub fn run_play<S: PrefixStore<Rc<Route>>, I: Input, O: Output, E: Output>(
     requires out_sound { O.failed out.old ≡ false }
     requires err_sound { E.failed err.old ≡ false }
 
+    // Of devices that don't show their octets, clauses on octets state nothing. Written octets may
+    // still be in a buffer of the output, unless `flushed` says otherwise.
+
     // If the input shows its octets, the texts of the script over them are written: whole if the run
-    // is done (without reports) or has reported faults (with some), or else prefixes of these texts.
+    // is done (without reports) or has reported faults or bad lines, or else prefixes of these
+    // texts.
     ensures octets { ScriptEndsOnKnownInput stamp script.now result (I.left input.old)
         (outputs_of O.written E.written out.old err.old)
         (outputs_of O.written E.written out.new err.new) }
 
     // The same holds if other octets had followed those taken: nothing that is written depends on
-    // octets that weren't. But none may follow if the run has met the end of the input or, after
-    // `Memory` or `WriteFault`, if the whole script would have; then `began` states more.
+    // octets that weren't. But none may follow if nothing was left and the run has met the end of
+    // the input or, after `Memory` or `WriteFault`, the whole script would have.
     ensures text { HoldsForDevices I.left O.written E.written
         (ScriptEndsForAllContents stamp script.now result)
         (input.old, out.old, err.old) (input.new, out.new, err.new) }
 
     // A run that is out of memory, or whose output fails, has executed some of the lines, and may
     // have begun the next one. The texts of the former are written, and a prefix of what the latter
-    // adds, whatever octets may follow those taken, provided that none do if these lines have met
-    // the end of the input.
+    // adds, whatever octets may follow those taken. But none may if nothing was left and these
+    // lines, the begun one executed in full, would meet the end over just the octets taken.
     ensures began { HoldsForDevices I.left O.written E.written
         (ScriptHasBegun stamp script.now result)
         (input.old, out.old, err.old) (input.new, out.new, err.new) }
@@ -95,7 +99,8 @@ pub fn run_play<S: PrefixStore<Rc<Route>>, I: Input, O: Output, E: Output>(
         (taken : List ℕ) × Consumes (I.left input.old) (I.left input.new) taken
         × IsTaken stamp result taken }
 
-    // The faults with which the run ends, and exactly when, but of `too_long` only what it implies.
+    // The faults with which the run ends, and exactly when; of `too_long` only what it implies, and
+    // of `Memory` nothing.
     ensures read_fault { (result ≡ Outcome.ReadFault) ↔ IsTrue (I.failed input.new) }
     ensures write_fault { (result ≡ Outcome.WriteFault)
         ↔ IsTrue (O.failed out.new || E.failed err.new) }

@@ -170,10 +170,10 @@ impl InternTable {
     }
 
     /// Adds `route`, whose hash is `hash`, and returns the index of its slot, or [`IN_OVERFLOW`] if
-    /// it is in no slot. It is put into a free slot of its two buckets of four slots. If
-    /// both are full, it replaces the route in the first slot of the first bucket, which is dropped,
-    /// or goes to the overflow list ([`InternTable::overwrites_when_full`]). A table without slots
-    /// drops `route`. The caller adds the octets of `route` to `held_octets`. Fails if memory
+    /// it is in no slot. It is put into a free slot of its two buckets of four slots. If both are
+    /// full and [`InternTable::overwrites_when_full`] is true, it replaces the route in the first
+    /// slot of the first bucket, and that one is dropped; otherwise it goes to the overflow list. A
+    /// table without slots drops `route`. The caller adds the octets of `route` to `held_octets`. Fails if memory
     /// allocation fails; `route` is dropped then, and the others stay.
     pub(crate) fn put(&mut self, hash: u32, route: Rc<Route>) -> Result<usize, AllocError>
         ensures slots { vec_len self.new.slots ≡ vec_len self.old.slots }

@@ -185,9 +185,9 @@ impl RoutePool {
     }
 
     /// Drops routes that the current record hasn't used yet, the last of the list first, until at
-    /// most `most_octets` octets of memory are counted for the others, or until only used ones are
-    /// left. Then lowers `room`, the sum of the counted octets, to `most_octets` if it is greater;
-    /// that changes nothing if callers pass at least what is counted for the used routes.
+    /// most `most_octets` octets of memory are counted for those that are left, or until only used
+    /// ones are left. Then lowers `room`, the sum of the counted octets, to `most_octets` if it is
+    /// greater; it isn't if that is at least what is counted for the used routes.
     #[inline(never)]
     fn drop_unused(&mut self, most_octets: u64)
         ensures used { self.new.used ≡ self.old.used }
@@ -296,8 +296,8 @@ impl RoutePool {
         }
     }
 
-    /// Parses `raw`, the path attributes of a table entry, into the next route of the pool, sets
-    /// its time to `time`, in seconds since 1970, and returns it. If that route has other owners, a
+    /// Parses `raw`, the path attributes of a table entry, into the next route of the pool (a record
+    /// takes them in the order of the list, to reuse their memory), sets its time to `time`, in seconds since 1970, and returns it. If that route has other owners, a
     /// new one takes its place in the pool. Fails with `Malformed` if the attributes are malformed,
     /// or with `Memory` if memory allocation fails.
     #[inline(never)]

@@ -132,13 +132,13 @@ impl Source {
         ensures next { self.old.phase ≡ Phase.Reading →
             IsNextCall self.old self.new (I.left input.old) (I.left input.new) result }
 
-        // In the words of `results`: an answer is the first result of the octets taken, whatever
+        // In the words of `results`, for inputs that show their octets: an answer is the first result of the octets taken, whatever
         // octets follow them, provided that none do if it is the end or a record that is cut there.
         ensures first { self.old.phase ≡ Phase.Reading → (answer : Next) → result ≡ Ok answer →
             IsFirstResult self.old (I.left input.old) (I.left input.new) answer }
 
-        // After the end each call returns the end again, and after an error each fails with
-        // `Spent`; the source and the input don't change.
+        // Once what follows the last record was read, its fault included, each call returns the
+        // end; after an error each fails with `Spent`. The source and the input don't change.
         ensures ended { self.old.phase ≡ Phase.Ended →
             (result ≡ Ok Next.End) × (self.new ≡ self.old) × (input.new ≡ input.old) }
         ensures spent { self.old.phase ≡ Phase.Spent →

@@ -45,8 +45,9 @@ pub trait PrefixStore<R: Drop>: Sized + Drop {
         ensures known { OnErr result (set.contains (keys self.old) prefix ≡ false) };
 
     /// Swaps the route at `prefix` and `route`, either of which may be `None`: `route` holds the
-    /// old route afterwards. Requires that `prefix` is a key: a prefix that [`PrefixStore::ensure`]
-    /// or [`PrefixStore::put`] gave memory for a route. Allocates no memory.
+    /// old route afterwards. The routes at other prefixes stay. Requires that `prefix` is a key: a
+    /// prefix that [`PrefixStore::ensure`] or [`PrefixStore::put`] gave memory for a route. Allocates
+    /// no memory.
     fn exchange(&mut self, prefix: &Prefix, route: &mut Option<R>)
         requires { set.contains (keys self.old) prefix.now ≡ true }
         ensures keys { keys self.new ≡ keys self.old }

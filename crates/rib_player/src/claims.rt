@@ -216,8 +216,8 @@ fn v4_prefix_number(prefix: &Prefix) -> u64
 }
 
 impl ExtraKeyClaimsOfPeer {
-    /// Returns the counts of a peer that are all 0: no prefix has a claim (a reason to keep it as a
-    /// key of the table) beyond its first. Doesn't allocate.
+    /// Returns the counts for a peer without extra claims: all are 0. A claim is a reason to keep a
+    /// prefix as a key of the table; the first one of a prefix isn't counted. Doesn't allocate.
     fn new() -> ExtraKeyClaimsOfPeer
         ensures { (n : Network) → count_of result n ≡ 0 }
     {

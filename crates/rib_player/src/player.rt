@@ -44,7 +44,8 @@ pub struct Nothing;
 /// an event that was played. The table is the one after all steps before the cursor;
 /// [`undo`](Player::undo) and [`redo`](Player::redo) move the cursor by one step. The oldest steps
 /// can be forgotten: their effect stays, but they can't be undone any more, and their memory is
-/// freed.
+/// freed. In contracts, its value is a `Timeline`: the floor, the cursor, the tables by position,
+/// and the pairs of a peer and a prefix that each step names.
 #[derive(Drop)]
 pub struct Player<S: PrefixStore<Rc<Route>>> {
     alloc: Global,
@@ -295,8 +296,8 @@ impl<S: PrefixStore<Rc<Route>>> Player<S> {
         self.known.sweep_if_due();
     }
 
-    /// Forgets the oldest steps (played events), so that at most `keep` of those before the cursor
-    /// can still be undone, and returns how many it forgot: 0 if there are no more than `keep`. The
+    /// Forgets the oldest steps (played events), as few as leave at most `keep` before the cursor
+    /// that can still be undone, and returns how many it forgot: 0 if there are no more than `keep`. The
     /// steps after the cursor, the position of the cursor, and the routes stay. Allocates no
     /// memory.
     pub fn forget(&mut self, keep: u64) -> u64

@@ -154,9 +154,9 @@ impl<S: PrefixStore<Rc<Route>>> Table<S> {
         Ok(true)
     }
 
-    /// Frees the memory for a route of `pair`, a peer and a prefix, so that it is no key any more.
-    /// Requires that it is a key, and that it has no route. With the last key of a peer, drops the
-    /// peer's store.
+    /// Removes `pair`, a peer and a prefix, from the keys of the table, the pairs with memory for a
+    /// route, and frees that memory. Requires that `pair` is a key without a route. If it is the
+    /// peer's last key, drops the peer's store.
     pub(crate) fn discard(&mut self, pair: &Pair)
         requires key { set.contains self.old.keys pair.now ≡ true }
         requires free { finite.get self.old.routes pair.now ≡ None }
@@ -309,8 +309,8 @@ impl<S: PrefixStore<Rc<Route>>> Table<S> {
     }
 
     /// Returns the store with the peer's prefixes and routes, for look-ups in it, or `None` if the
-    /// peer has no key: no prefix with memory for a route, with or without one. A store that is
-    /// returned may have no route.
+    /// peer has no key. A key is a prefix for which the table has memory for a route, even if it has
+    /// no route now; so a store that is returned may have no route.
     #[inline]
     pub fn store(&self, peer: &Peer) -> Option<&S>
         ensures keys { IfSome result (λ store. (n : Network) →
