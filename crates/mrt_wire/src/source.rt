@@ -132,8 +132,9 @@ impl Source {
         ensures next { self.old.phase ≡ Phase.Reading →
             IsNextCall self.old self.new (I.left input.old) (I.left input.new) result }
 
-        // In the words of `results`, for inputs that show their octets: an answer is the first result of the octets taken, whatever
-        // octets follow them, provided that none do if it is the end or a record that is cut there.
+        // In the words of `results`, for inputs that show their octets: an answer is the first
+        // result of the octets taken (of the end there is none), whatever octets follow them,
+        // provided that none do if it is the end or a record that is cut there.
         ensures first { self.old.phase ≡ Phase.Reading → (answer : Next) → result ≡ Ok answer →
             IsFirstResult self.old (I.left input.old) (I.left input.new) answer }
 
