@@ -99,6 +99,8 @@ CLAIMS = {
                'and no octets are without one. That it is a double negation suffices: what is said of texts can be '
                'decided'),
         Ground('bgpdump_tool/src/laws.rt', 'law_one_script', ('one', 'some'), 'likewise a script and its lines'),
+        Ground('bgpdump_command_line/src/command_line.rt', 'settings', ('answers',),
+               '`-t` gives the `Stamp` of the clauses; that `main` hands it on is tested'),
     ),
     'No line waits: before a read that may wait, both outputs are flushed, if they show what they hold back': (
         Ground(DUMP, 'run_dump', ('flushed',),
@@ -106,7 +108,7 @@ CLAIMS = {
                'and by *read_fault* and *write_fault* the run would then have to end in two ways. Any read that '
                'asks the device may fail, so this holds before each of them'),
         Ground(PLAY, 'run_play', ('flushed',), 'likewise'),
-        Ground(DUMP, 'run_dump', ('whole_records',), 'and all lines of the records taken were put by then'),
+        Ground(DUMP, 'run_dump', ('whole_records',), 'and all lines of the records taken were put by then, of devices that show their octets'),
         Ground(PLAY, 'run_play', ('whole_records',), 'likewise'),
         Ground('bgpdump_lines/specs/Flushing.antt', 'LeavesFlushed', (), 'by how the run ended'),
         Ground('mrt_wire/src/source.rt', 'next', ('buffered',),
@@ -123,8 +125,10 @@ CLAIMS = {
         Ground(PLAYER, 'play', ('',), '`Player::play` has one: the cursor is below 2^64 - 1'),
     ),
     'One damaged record costs that record': (
+        Ground('mrt_wire/src/source.rt', 'next', ('next', 'first'), 'its fault is returned, and the next call reads on'),
+        Ground(DUMP, 'run_dump', ('octets',), 'each fault is reported; `run_play` likewise'),
         Ground(RESULTS, 'record_result', (), 'the fault has number and offset of its record'),
-        Ground(RESULTS, 'state_after', (), 'the next record is that after the octets which this one states'),
+        Ground(RESULTS, 'state_after', (), 'its offset is that after the octets which this one states (`Splits`)'),
         Ground('mrt_frames/specs/Record.antt', 'rest_fault', (), 'unless it is cut or too long'),
         Ground(RESULTS, 'index_after', (), 'a damaged peer index leaves the one before'),
         Ground('bgpdump_lines/specs/Run.antt', 'fault_report', (), 'the report'),
