@@ -10,7 +10,7 @@ use Rattle.bgp_paths.specs.declared.numbers.AsWidth.{AsWidth}
 use Rattle.bgp_paths.specs.declared.segment.SegmentKind.{SegmentKind}
 use Rattle.bgp_paths.specs.declared.segment.Segment.{Segment}
 use Rattle.bgp_paths.specs.Path.{asn_size, SpellsAsn, kind_code, SpellsSegment}
-use Rattle.bgp_paths.specs.Readers.{IsSplitSegment, ParsesTo, Refuses, RefusesFront}
+use Rattle.bgp_paths.specs.Readers.{IsSplitSegment, ParsesTo, Refuses, MayRefuseFront}
 use Rattle.bgp_paths.proofs.HasOneFront.{segment_code, segment_begun, length-numbers}
 
 -- what is found by a part is found by the whole, where the two spell the same values
@@ -38,7 +38,7 @@ refused_always Spells octets Memory none = tt
 
 -- where no value stands in front of what is left of a list, no list is spelled
 pub refused_rest : {A : Type 0} (Spells : A → List ℕ → Type 0) → IsSelfDelimiting Spells → (values : List A) (rest octets : List ℕ) (fault : WireFault) → (rest ≡ [] → ⊥) → Begins (SpellsAll Spells) values rest octets
-    → RefusesFront Spells rest fault → Refuses (SpellsAll Spells) octets fault
+    → MayRefuseFront Spells rest fault → Refuses (SpellsAll Spells) octets fault
 refused_rest Spells code values rest octets Malformed some b none = none_at_all Spells code values rest octets some b none
 refused_rest Spells code values rest octets Memory some b none = tt
 
@@ -54,7 +54,7 @@ numbers_framed width kind count body rest octets f segment more b =
     subst (SpellsAll (SpellsAsn width) segment.numbers) (sym parts.0) s.spelled
 
 pub refused_numbers : (width : AsWidth) (kind : SegmentKind) (count : ℕ) (body rest octets : List ℕ) (fault : WireFault) → IsSplitSegment width kind count body rest octets
-    → Refuses (SpellsAll (SpellsAsn width)) body fault → RefusesFront (SpellsSegment width) octets fault
+    → Refuses (SpellsAll (SpellsAsn width)) body fault → MayRefuseFront (SpellsSegment width) octets fault
 refused_numbers width kind count body rest octets Malformed f none = λ segment more b. none segment.numbers (numbers_framed width kind count body rest octets f segment more b)
 refused_numbers width kind count body rest octets Memory f none = tt
 

@@ -34,9 +34,9 @@ ParsesOrFails Spells octets (Err fault) = Refuses Spells octets fault
 
 -- an error that a parser of a value at the start of the octets may return: `Malformed` only if they don't
 -- begin with a spelling of any value, `Memory` always
-abbrev pub RefusesFront : {A : Type 0} → (A → List ℕ → Type 0) → List ℕ → WireFault → Type 0
-RefusesFront Spells octets Malformed = BeginsWithNone Spells octets
-RefusesFront Spells octets Memory = Unit {0}
+abbrev pub MayRefuseFront : {A : Type 0} → (A → List ℕ → Type 0) → List ℕ → WireFault → Type 0
+MayRefuseFront Spells octets Malformed = BeginsWithNone Spells octets
+MayRefuseFront Spells octets Memory = Unit {0}
 
 -- ---- an empty path, a segment that may be empty, and a segment at the start of octets
 

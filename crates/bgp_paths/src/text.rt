@@ -177,6 +177,7 @@ impl WordFormat for CommunityFormat {
     #[tactic(auto, unfolding(crate::specs::Text::community_text))]
     fn write_ended(community: u32, end: u8, text: &mut [u8], at: usize) -> usize {
         match community {
+            // Nearly all communities are below the named ones: one comparison.
             _ if community < NO_EXPORT => write_community_number(community, end, text, at),
             NO_EXPORT => write_community_name(b"no-export", end, text, at),
             NO_ADVERTISE => write_community_name(b"no-advertise", end, text, at),

@@ -7,7 +7,7 @@ use Rattle.ip_prefix.specs.Network.{Address, octet_count}
 use Rattle.ip_prefix.specs.Bits.{bits_of_octets}
 use Rattle.octet_forms.proofs.Lists.{append_parts}
 use Rattle.bgp_wire.specs.declared.next_hop.TheConstants.{FAMILY_SIZE, IPV6_SIZE, BOTH_SIZE}
-use Rattle.bgp_wire.specs.Reach.{MayTrailHop, SpellsNextHop, SpellsSizedHop, SpellsRibHop}
+use Rattle.bgp_wire.specs.Reach.{MayTrailHop, SpellsNextHop, SpellsSizedHop, SpellsRibHopInEitherForm}
 
 -- the octets behind the first sixteen are none, or a link-local address
 link_local_size : (octets : List ℕ) → ((length octets ≡ IPV6_SIZE) ⊎ (length octets ≡ BOTH_SIZE)) → MayTrailHop V6 (drop IPV6_SIZE octets)
@@ -56,17 +56,17 @@ hop_alone hop len rest octets e within s = record {
 -- ---- RIB entries
 
 -- a first octet that isn't 0 tells the abbreviated form
-pub abbreviated : (hop : Address) (first : ℕ) (rest octets : List ℕ) → octets ≡ first ∷ rest → (first ≡ 0 → ⊥) → SpellsRibHop hop octets → SpellsSizedHop hop octets
+pub abbreviated : (hop : Address) (first : ℕ) (rest octets : List ℕ) → octets ≡ first ∷ rest → (first ≡ 0 → ⊥) → SpellsRibHopInEitherForm hop octets → SpellsSizedHop hop octets
 abbreviated hop first rest octets e other (inl s) = s
 abbreviated hop first rest octets e other (inr s) = absurd (other (ap (λ l. get_or l 0 0) (sym e ∙ s.whole)))
 
 -- and one that is 0 the full form
-pub in_full : (hop : Address) (first : ℕ) (rest octets : List ℕ) → octets ≡ first ∷ rest → first ≡ 0 → SpellsRibHop hop octets → (FAMILY_SIZE ≤ length octets) × SpellsSizedHop hop (drop FAMILY_SIZE octets)
+pub in_full : (hop : Address) (first : ℕ) (rest octets : List ℕ) → octets ≡ first ∷ rest → first ≡ 0 → SpellsRibHopInEitherForm hop octets → (FAMILY_SIZE ≤ length octets) × SpellsSizedHop hop (drop FAMILY_SIZE octets)
 in_full hop first rest octets e zero (inl s) =
     absurd (omega (arith, ap (λ l. get_or l 0 0) (sym e ∙ s.whole), zero, length-hop hop s.front s.spelled))
 in_full hop first rest octets e zero (inr s) = (omega (arith, ap length s.whole), subst (SpellsSizedHop hop) (sym (ap (drop FAMILY_SIZE) s.whole)) s.spelled)
 
-pub full_form : (hop : Address) (first : ℕ) (rest octets : List ℕ) → octets ≡ first ∷ rest → first ≡ 0 → FAMILY_SIZE ≤ length octets → SpellsSizedHop hop (drop FAMILY_SIZE octets) → SpellsRibHop hop octets
+pub full_form : (hop : Address) (first : ℕ) (rest octets : List ℕ) → octets ≡ first ∷ rest → first ≡ 0 → FAMILY_SIZE ≤ length octets → SpellsSizedHop hop (drop FAMILY_SIZE octets) → SpellsRibHopInEitherForm hop octets
 full_form hop first rest octets e zero size s = inr record {
   family_end = get_or octets 1 0;
   subsequent = get_or octets 2 0;

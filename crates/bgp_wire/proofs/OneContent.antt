@@ -18,8 +18,8 @@ use Rattle.bgp_wire.specs.declared.message.Message.{Message}
 use Rattle.bgp_wire.specs.declared.message.Message.TheVariants as messages
 use Rattle.bgp_wire.specs.Attribute.{Attribute, SpellsAttribute, first_value, octets_or_empty, SpellsOrigin, SpellsIPv4, SpellsAggregatorAt, SpellsAggregator}
 use Rattle.bgp_paths.specs.Path.{SpellsU32}
-use Rattle.bgp_wire.specs.Reach.{SpellsRibHop, rib_hop, reach_prefixes, reach_attrs}
-use Rattle.bgp_wire.specs.Content.{ignores_as4, merged_aggregator, IsPathMerged, ArePathAndAggregatorOf, AreAttrsOf, IsRibNextHopOf, SpellsRibAttrs}
+use Rattle.bgp_wire.specs.Reach.{SpellsRibHopInEitherForm, rib_hop, reach_prefixes, reach_attrs}
+use Rattle.bgp_wire.specs.Content.{ignores_as4, merged_aggregator, IsMergedUnlessIgnored, ArePathAndAggregatorOf, AreAttrsOf, IsRibNextHopOf, SpellsRibAttrs}
 use Rattle.bgp_paths.specs.Merge.{IsMerge}
 use Rattle.bgp_wire.specs.Update.{IsUpdateOf, SpellsUpdate, SpellsMessage}
 use Rattle.bgp_wire.proofs.OneAttribute.{attribute_code}
@@ -29,7 +29,7 @@ use Rattle.bgp_wire.proofs.Reaching.{same_update, same_message}
 use Rattle.bgp_wire.proofs.OneValue.{one_optional, one_where_formed, one_presence, one_origin, one_word, one_words, one_ipv4, one_aggregator, one_aggregator_at, one_rib_hop, one_reach, one_unreach}
 
 -- paths are joined in one way
-one_joined : (ignored : Bool) (own : AsPath) (value : Option (List ℕ)) (path other : AsPath) → IsPathMerged ignored own value path → IsPathMerged ignored own value other → path ≡ other
+one_joined : (ignored : Bool) (own : AsPath) (value : Option (List ℕ)) (path other : AsPath) → IsMergedUnlessIgnored ignored own value path → IsMergedUnlessIgnored ignored own value other → path ≡ other
 one_joined true own value path other s t = s ∙ sym t
 one_joined false own None path other s t = s ∙ sym t
 one_joined false own (Some octets) path other (inl s) (inl t) =
@@ -44,8 +44,8 @@ one_passed Two path other aggregator another list s t =
     let paths = one_path_of Two (octets_or_empty (first_value AS_PATH list)) s.own_path t.own_path s.path_spelled t.path_spelled in
     let own = one_optional SpellsAggregator one_aggregator s.own t.own (first_value AGGREGATOR list) s.own_spelled t.own_spelled in
     let as4 = one_where_formed (SpellsAggregatorAt Four) (one_aggregator_at Four) s.as4 t.as4 (first_value AS4_AGGREGATOR list) s.as4_spelled t.as4_spelled in
-    let first = subst (λ p. IsPathMerged (ignores_as4 t.own t.as4) p (first_value AS4_PATH list) path) paths
-    (subst (λ ignored. IsPathMerged ignored s.own_path (first_value AS4_PATH list) path) (λ i. ignores_as4 (own i) (as4 i)) s.path_joined) in (
+    let first = subst (λ p. IsMergedUnlessIgnored (ignores_as4 t.own t.as4) p (first_value AS4_PATH list) path) paths
+    (subst (λ ignored. IsMergedUnlessIgnored ignored s.own_path (first_value AS4_PATH list) path) (λ i. ignores_as4 (own i) (as4 i)) s.path_joined) in (
       one_joined (ignores_as4 t.own t.as4) t.own_path (first_value AS4_PATH list) path other first t.path_joined,
       s.aggregator_joined ∙ (λ i. merged_aggregator (own i) (as4 i)) ∙ sym t.aggregator_joined,
     )
@@ -72,7 +72,7 @@ one_says width attrs other list hops s t =
 one_hop : (family : Family) (hop other : Option Address) (list : List Attribute) → IsRibNextHopOf family hop list → IsRibNextHopOf family other list → hop ≡ other
 one_hop family hop other list s t =
     let own = one_optional SpellsIPv4 one_ipv4 s.own t.own (first_value NEXT_HOP list) s.own_spelled t.own_spelled in
-    let reached = one_optional SpellsRibHop one_rib_hop s.reached t.reached (first_value MP_REACH_NLRI list) s.reached_spelled t.reached_spelled in
+    let reached = one_optional SpellsRibHopInEitherForm one_rib_hop s.reached t.reached (first_value MP_REACH_NLRI list) s.reached_spelled t.reached_spelled in
     s.chosen ∙ (λ i. rib_hop family (own i) (reached i)) ∙ sym t.chosen
 
 pub one_rib_attrs : (family : Family) (width : AsWidth) (octets : List ℕ) (attrs other : Attrs) → SpellsRibAttrs family width attrs octets → SpellsRibAttrs family width other octets → attrs ≡ other

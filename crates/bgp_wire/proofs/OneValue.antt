@@ -14,7 +14,7 @@ use Rattle.bgp_wire.specs.declared.attrs.Aggregator.{Aggregator}
 use Rattle.bgp_wire.specs.declared.values.TheConstants.{IPV4_SIZE}
 use Rattle.bgp_paths.specs.Path.{asn_size, SpellsAsn, SpellsU32}
 use Rattle.bgp_wire.specs.Attribute.{SpellsOptional, SpellsPresence, origin_code, SpellsOrigin, SpellsAddressOctets, SpellsIPv4, SpellsAggregatorAt, SpellsAggregator}
-use Rattle.bgp_wire.specs.Reach.{MayTrailHop, SpellsNextHop, SpellsSizedHop, SpellsRibHop, BeginsWithHop, SpellsAfterUnicast, SpellsReach, SpellsMpReach, SpellsMpUnreach}
+use Rattle.bgp_wire.specs.Reach.{MayTrailHop, SpellsNextHop, SpellsSizedHop, SpellsRibHopInEitherForm, BeginsWithHop, SpellsAfterUnicast, SpellsReach, SpellsMpReach, SpellsMpUnreach}
 use Rattle.bgp_wire.specs.Content.{SpellsIfWellFormed}
 use Rattle.bgp_paths.proofs.HasOneFront.{number_code, length-number}
 use Rattle.bgp_wire.proofs.Hops.{length-hop}
@@ -96,7 +96,7 @@ one_hop_alone a b octets s t =
     let parts = append_parts s.front t.front s.more t.more (ap (λ l. get_or l 0 0) one) (ap (drop 1) one) in
     one_next_hop a b t.front (subst (SpellsNextHop a) parts.0 s.spelled) t.spelled
 
-pub one_rib_hop : IsUnambiguous SpellsRibHop
+pub one_rib_hop : IsUnambiguous SpellsRibHopInEitherForm
 one_rib_hop a b octets (inl s) (inl t) = one_hop_alone a b octets s t
 one_rib_hop a b octets (inl s) (inr t) = absurd (omega (arith, length-hop a s.front s.spelled, ap (λ l. get_or l 0 0) (sym s.whole ∙ t.whole)))
 one_rib_hop a b octets (inr s) (inl t) = absurd (omega (arith, length-hop b t.front t.spelled, ap (λ l. get_or l 0 0) (sym t.whole ∙ s.whole)))

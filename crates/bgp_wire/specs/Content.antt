@@ -14,7 +14,7 @@ use Rattle.ip_prefix.specs.declared.addr.Family.{Family}
 use Rattle.ip_prefix.specs.Network.{Address}
 use Rattle.ip_prefix.specs.Sequences.{SpellsAll}
 use Rattle.bgp_wire.specs.declared.attrs.Attrs.{Attrs}
-use Rattle.bgp_wire.specs.Reach.{SpellsRibHop, rib_hop}
+use Rattle.bgp_wire.specs.Reach.{SpellsRibHopInEitherForm, rib_hop}
 
 -- ---- AS4_PATH and AS4_AGGREGATOR where AS_PATH and AGGREGATOR have AS numbers of two octets (RFC 6793,
 -- section 4.2.3)
@@ -44,10 +44,10 @@ merged_aggregator None as4 = None
 -- `path` is `own`, the path of AS_PATH, merged (`IsMerge`) with that of AS4_PATH, whose value is the third
 -- argument; it is `own` itself if the first argument is true (AS4_PATH is ignored), or if AS4_PATH is absent
 -- or malformed
-abbrev pub IsPathMerged : Bool → AsPath → Option (List ℕ) → AsPath → Type 0
-IsPathMerged true own value path = path ≡ own
-IsPathMerged false own None path = path ≡ own
-IsPathMerged false own (Some octets) path =
+abbrev pub IsMergedUnlessIgnored : Bool → AsPath → Option (List ℕ) → AsPath → Type 0
+IsMergedUnlessIgnored true own value path = path ≡ own
+IsMergedUnlessIgnored false own None path = path ≡ own
+IsMergedUnlessIgnored false own (Some octets) path =
     ((as4 : AsPath) × SpellsPath Four as4 octets × IsMerge own as4 path)
     ⊎ (IsNoSpelling (SpellsPath Four) octets × (path ≡ own))
 
@@ -61,7 +61,7 @@ pub record AreMergedWithAs4 (path : AsPath) (aggregator : Option Aggregator) (li
   pub own_spelled : SpellsOptional SpellsAggregator own (first_value AGGREGATOR list)
   pub as4 : Option Aggregator
   pub as4_spelled : SpellsIfWellFormed (SpellsAggregatorAt Four) as4 (first_value AS4_AGGREGATOR list)
-  pub path_joined : IsPathMerged (ignores_as4 own as4) own_path (first_value AS4_PATH list) path
+  pub path_joined : IsMergedUnlessIgnored (ignores_as4 own as4) own_path (first_value AS4_PATH list) path
   pub aggregator_joined : aggregator ≡ merged_aggregator own as4
 
 -- `path` and `aggregator` are AS_PATH and AGGREGATOR of the attributes `list`, whose AS_PATH has AS numbers
@@ -114,7 +114,7 @@ pub record IsRibNextHopOf (family : Family) (hop : Option Address) (list : List 
   pub own : Option Address
   pub reached : Option Address
   pub own_spelled : SpellsOptional SpellsIPv4 own (first_value NEXT_HOP list)
-  pub reached_spelled : SpellsOptional SpellsRibHop reached (first_value MP_REACH_NLRI list)
+  pub reached_spelled : SpellsOptional SpellsRibHopInEitherForm reached (first_value MP_REACH_NLRI list)
   pub once : repeats MP_REACH_NLRI list ≡ false
   pub chosen : hop ≡ rib_hop family own reached
 

@@ -46,8 +46,8 @@ pub record SpellsHopAfterFamily (hop : Address) (octets : List ℕ) : Type 0 whe
 
 -- the octets are the value of MP_REACH_NLRI in a RIB entry with the next hop `hop` (RFC 6396, section 4.3.4):
 -- the length of the next hop, the next hop and any octets, after an AFI and a SAFI or without these
-abbrev pub SpellsRibHop : Address → List ℕ → Type 0
-SpellsRibHop hop octets = SpellsSizedHop hop octets ⊎ SpellsHopAfterFamily hop octets
+abbrev pub SpellsRibHopInEitherForm : Address → List ℕ → Type 0
+SpellsRibHopInEitherForm hop octets = SpellsSizedHop hop octets ⊎ SpellsHopAfterFamily hop octets
 
 -- the next hop of a RIB entry for a prefix of this family, by those of NEXT_HOP (`own`) and MP_REACH_NLRI
 -- (`reached`): for IPv4 `own`, or `reached` if that is absent; for IPv6 `reached`, or `own` if that is absent

@@ -6,7 +6,7 @@ ghost use Rattle.std.specs.Prelude.{◌≡◌, if◌then◌else◌, Option, Some
 ghost use Rattle.ip_prefix.specs.Network.{Address};
 ghost use Rattle.bgp_wire.specs.PlainValues.{lent_octets};
 ghost use Rattle.bgp_wire.specs.Attribute.{SpellsOptional};
-ghost use Rattle.bgp_wire.specs.Reach.{SpellsNextHop, SpellsSizedHop, SpellsRibHop, rib_hop};
+ghost use Rattle.bgp_wire.specs.Reach.{SpellsNextHop, SpellsSizedHop, SpellsRibHopInEitherForm, rib_hop};
 ghost use Rattle.bgp_paths.specs.Path.{IsNoSpelling};
 ghost use Rattle.bgp_paths.specs.Readers.{ParsesTo};
 
@@ -61,7 +61,7 @@ fn read_length_prefixed_next_hop(octets: &[u8]) -> Option<Addr>
 /// 6396, section 4.3.4). Octets after the next hop are ignored. Returns `None` if `octets` has
 /// neither format.
 fn read_rib_next_hop(octets: &[u8]) -> Option<Addr>
-    ensures { ParsesTo SpellsRibHop octets.now result }
+    ensures { ParsesTo SpellsRibHopInEitherForm octets.now result }
 {
     // No next hop has a length of 0, so a first octet of 0 is the first of an address family, and
     // the form is the full one.
@@ -85,10 +85,10 @@ pub(crate) fn choose_rib_next_hop(
     mp_reach: Option<&[u8]>,
 ) -> Result<(), IllFormed>
     ensures filled { OnOk result ((reached : Option Address)
-        × SpellsOptional SpellsRibHop reached (lent_octets mp_reach.entry)
+        × SpellsOptional SpellsRibHopInEitherForm reached (lent_octets mp_reach.entry)
         × (hop.new ≡ rib_hop family hop.old reached)) }
     ensures refused { OnErr result
-        (IsNoSpelling (SpellsOptional SpellsRibHop) (lent_octets mp_reach.entry)) }
+        (IsNoSpelling (SpellsOptional SpellsRibHopInEitherForm) (lent_octets mp_reach.entry)) }
     ensures kept { OnErr result (hop.new ≡ hop.old) }
 {
     let Some(octets) = mp_reach else {

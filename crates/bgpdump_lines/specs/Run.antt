@@ -109,10 +109,10 @@ pub record MayHold (stamp : Stamp) (Saw : List Frame → List ℕ → Type 0) (o
   pub whole : octets ≡ taken ++ more
   pub follows : (frames : List Frame) (rest : List ℕ) → Splits stamp None taken frames rest → Saw frames rest → after ≡ [] → more ≡ []
 
--- `IsSo` holds of all results (times of table entries chosen by `stamp`) of each list of octets that an input may
--- have held before a run (`MayHold`), by what it had left before the run, `left`, and after it, `left_after`. `Saw` says
--- of the frames that the run took, and the octets that it took after them, whether it saw the end of the input. True
--- where `left` or `left_after` isn't known
+-- `IsSo` holds of all results (times of table entries chosen by `stamp`) of the octets that a run took, followed by any
+-- others (`MayHold`): by none where nothing is left and `Saw` says, of the frames that the run took and the octets that
+-- it took after them, that it saw the end of the input. That had `left` left before the run, and `left_after` after it.
+-- True where either isn't known
 abbrev pub HoldsForAllContents : Stamp → (List Frame → List ℕ → Type 0) → Option (List ℕ) → Option (List ℕ) → (List RecordResult → Type 0) → Type 0
 HoldsForAllContents stamp Saw left left_after IsSo =
     (octets : List ℕ) (frames : List Frame) (rest : List ℕ) → MayHold stamp Saw left left_after octets → Splits stamp None octets frames rest

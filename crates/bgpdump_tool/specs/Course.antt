@@ -123,11 +123,12 @@ ScriptEndsForAllContents stamp script outcome left left_after old new =
     length script ≤ LONGEST_SCRIPT → (lines : List Line) → IsScript lines script
     → EndsForAllContents stamp outcome (ScriptSawEnd stamp outcome lines) (play_texts lines) left left_after old new
 
--- if the outcome of a run of the octets `script` is that an output or memory allocation failed, it wrote the texts of
--- the first lines of the script, and maybe a prefix of what the next line adds (`HasBegun`): the input had `left`
--- left before the run and `left_after` after it, and the outputs had got `old` before and `new` after it
-abbrev pub ScriptHasBegun : Stamp → List ℕ → Outcome → Option (List ℕ) → Option (List ℕ) → Outputs → Outputs → Type 0
-ScriptHasBegun stamp script outcome left left_after old new =
+-- if an output or a want of memory ended a run of the octets `script`, there are first lines of it such that, whatever
+-- octets may follow those taken (`MayHold`), their texts were written, and then a prefix of what the next line adds to
+-- each output, or nothing (`HasBegun`). The input had `left` left before the run and `left_after` after it, the outputs
+-- had got `old` before and `new` after it. True where `left` or `left_after` isn't known
+abbrev pub BrokenOffScriptWrites : Stamp → List ℕ → Outcome → Option (List ℕ) → Option (List ℕ) → Outputs → Outputs → Type 0
+BrokenOffScriptWrites stamp script outcome left left_after old new =
     EndedByOutputOrMemory outcome → (lines : List Line) → IsScript lines script → HasBegun stamp lines left left_after old new
 
 -- if the outcome of a run of the octets `script` is that reading the input failed or that its limit was passed, it

@@ -9,7 +9,7 @@ ghost use Rattle.bgpdump_lines.specs.declared.dump.TheConstants.{INPUT_LIMIT};
 ghost use Rattle.bgpdump_lines.specs.Flushing.{AreFlushed, LeavesFlushed};
 ghost use Rattle.bgpdump_lines.specs.WrittenSoFar.{is_read_fault, is_write_fault};
 ghost use Rattle.bgpdump_lines.specs.Run.{IsTaken, HoldsForDevices, outputs_of};
-ghost use Rattle.bgpdump_tool.specs.Course.{ScriptEndsOnKnownInput, ScriptEndsForAllContents, ScriptHasBegun, ScriptWritesBeforeInputFault, TakesOnlyWantedRecords};
+ghost use Rattle.bgpdump_tool.specs.Course.{ScriptEndsOnKnownInput, ScriptEndsForAllContents, BrokenOffScriptWrites, ScriptWritesBeforeInputFault, TakesOnlyWantedRecords};
 ghost use Rattle.bgpdump_tool.specs.Execution.{HasRoom, HoldsForRunStates, ExecutesLine, ExecutesLines};
 
 use crate::command::read_command;
@@ -60,35 +60,36 @@ pub fn run_play<S: PrefixStore<Rc<Route>>, I: Input, O: Output, E: Output>(
         (outputs_of O.written E.written out.new err.new) }
 
     // The same holds if other octets had followed those taken: nothing that is written depends on
-    // octets that weren't. But none may follow if nothing was left and the run has met the end of
-    // the input or, after `Memory` or `WriteFault`, the whole script would have.
+    // octets that weren't. But none follow if nothing was left and the end was seen: the octets
+    // taken end within a record, or a line that was executed (after `Memory` or `WriteFault`, any
+    // line of the script) wants more results than they give.
     ensures text { HoldsForDevices I.left O.written E.written
         (ScriptEndsForAllContents stamp script.now result)
         (input.old, out.old, err.old) (input.new, out.new, err.new) }
 
-    // A run that is out of memory, or whose output fails, has executed some of the lines, and may
-    // have begun the next one. The texts of the former are written, and a prefix of what the latter
-    // adds, whatever octets may follow those taken. But none may if nothing was left and these
-    // lines, the begun one executed in full, would meet the end over just the octets taken.
+    // What a run that is out of memory, or whose output fails, has written is the texts of some
+    // first lines, and maybe a prefix of what the next line adds, whatever octets may follow those
+    // taken. But none may if nothing was left and these lines, the next one executed in full, would
+    // meet the end over just the octets taken.
     ensures began { HoldsForDevices I.left O.written E.written
-        (ScriptHasBegun stamp script.now result)
+        (BrokenOffScriptWrites stamp script.now result)
         (input.old, out.old, err.old) (input.new, out.new, err.new) }
 
     // A run that ends as the input fails or is too long has written exactly what the whole records
-    // taken give: the replies to the commands that it completed, and the reports of faulty records and of
-    // bad lines before.
+    // taken give: the replies to the commands that it completed, and the reports of faulty records
+    // and of bad lines before.
     ensures whole_records { HoldsForDevices I.left O.written E.written
         (ScriptWritesBeforeInputFault stamp script.now result)
         (input.old, out.old, err.old) (input.new, out.new, err.new) }
 
     // In a run that is done or has reported faults, the commands take every result of the octets
     // taken. If the input failed or is too long, a command wanted more results. If memory or an
-    // output failed, this states nothing, and `began` which lines were executed.
+    // output failed, this states nothing.
     ensures wanted { TakesOnlyWantedRecords stamp script.now result
         (I.left input.old) (I.left input.new) }
 
     // No reply waits: outputs that tell what they hold back hold nothing back after a run that is
-    // done or has reported faults, or in which a read failed. Any read that asks the device may
+    // done or has reported faults, or in which a read failed (`ReadFault`). Any read that asks the device may
     // fail, and nothing is flushed after that, so all was flushed before it.
     ensures flushed { LeavesFlushed result (O.pending out.new) (E.pending err.new) }
 

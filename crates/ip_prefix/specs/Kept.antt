@@ -52,7 +52,7 @@ whole high low = high * 2 ^ HALF_BITS + low
 pub high-again : (high low : ℕ) → low < 2 ^ HALF_BITS → whole high low / 2 ^ HALF_BITS ≡ high
 high-again high low fits = omega (arith, fits)
 
--- `whole high low` modulo 2^64 is `low`
+-- where `low` is below 2^64, `whole high low` modulo 2^64 is `low`
 pub low-again : (high low : ℕ) → low < 2 ^ HALF_BITS → whole high low % 2 ^ HALF_BITS ≡ low
 low-again high low fits = omega (arith, fits)
 

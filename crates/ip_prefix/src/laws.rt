@@ -104,8 +104,9 @@ pub fn law_printed_text_parses()
     ensures prefixes { (n : Network) → IsNetwork n → SpellsPrefix n (network_text n) }
 {}
 
-/// States that `::` in the text that is written for an IPv6 address replaces the longest run of
-/// groups of 0, and the first of them if several have that length (RFC 5952, section 4.2).
+/// States that the run of groups of 0 that the text of an IPv6 address writes as `::` if it has two
+/// or more is the longest, and the first of them if several have that length (RFC 5952, section
+/// 4.2).
 pub fn law_longest_zero_run_is_shortened()
     ensures { (groups : List ℕ) → IsFirstLongestRun groups (longest_zero_run groups) }
 {}

@@ -10,7 +10,7 @@ use Rattle.octet_forms.proofs.Fields.{none_behind}
 use Rattle.octet_forms.proofs.Counts as counts
 use Rattle.bgp_wire.specs.declared.WireFault.{WireFault}
 use Rattle.bgp_wire.specs.declared.WireFault.TheVariants.{Malformed, Memory}
-use Rattle.bgp_wire.specs.Readers.{ParsesOrFails, Refuses, RefusesFront}
+use Rattle.bgp_wire.specs.Readers.{ParsesOrFails, Refuses, MayRefuseFront}
 use Rattle.bgp_paths.proofs.Refusing.{refused_always}
 use Rattle.mrt_wire.specs.Fields.{SpellsShort}
 
@@ -42,7 +42,7 @@ pub refused_none : {A R : Type 0} (Spells : A → List ℕ → Type 0) (octets :
 refused_none Spells octets (Ok value) none = tt
 refused_none Spells octets (Err fault) none = refused_always Spells octets fault none
 
-pub refused_front : {A : Type 0} (Spells : A → List ℕ → Type 0) (octets : List ℕ) (fault : WireFault) → BeginsWithNone Spells octets → RefusesFront Spells octets fault
+pub refused_front : {A : Type 0} (Spells : A → List ℕ → Type 0) (octets : List ℕ) (fault : WireFault) → BeginsWithNone Spells octets → MayRefuseFront Spells octets fault
 refused_front Spells octets Malformed none = none
 refused_front Spells octets Memory none = tt
 
@@ -74,6 +74,6 @@ no_count Spells octets none values s =
 
 -- where a value is refused before the count is reached, so are the counted values
 pub counted_refused : {A : Type 0} (Spells : A → List ℕ → Type 0) → IsSelfDelimiting Spells → (values : List A) (count : ℕ) (rest body octets : List ℕ) (fault : WireFault) → Begins SpellsShort count body octets
-    → length values < count → Begins (SpellsAll Spells) values rest body → RefusesFront Spells rest fault → Refuses (SpellsFront (SpellsCounted Spells)) octets fault
+    → length values < count → Begins (SpellsAll Spells) values rest body → MayRefuseFront Spells rest fault → Refuses (SpellsFront (SpellsCounted Spells)) octets fault
 counted_refused Spells code values count rest body octets Malformed n less b none = not_counted Spells code values count rest body octets n less b none
 counted_refused Spells code values count rest body octets Memory n less b none = tt

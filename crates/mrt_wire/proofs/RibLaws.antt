@@ -13,7 +13,7 @@ use Rattle.bgp_wire.specs.declared.WireFault.TheVariants.{Malformed, Memory}
 use Rattle.bgp_wire.specs.declared.AsWidth.TheVariants.{Two, Four}
 use Rattle.bgp_wire.specs.Content.{SpellsRibAttrs}
 use Rattle.bgp_wire.specs.Path.{SpellsAsn}
-use Rattle.bgp_wire.specs.Readers.{Refuses, RefusesFront}
+use Rattle.bgp_wire.specs.Readers.{Refuses, MayRefuseFront}
 use Rattle.bgp_wire.proofs.OneContent.{one_rib_attrs}
 use Rattle.bgp_paths.proofs.HasOneFront.{number_code}
 use Rattle.mrt_wire.specs.declared.rib.TheConstants.{SEQUENCE_SIZE}
@@ -57,7 +57,7 @@ one_rib family = behind_one _ _ (octets_front SEQUENCE_SIZE) (λ number. one_pre
 
 -- where the attributes are refused so is the entry
 pub refused_attrs : (family : Family) (index time : ℕ) (body rest octets : List ℕ) (fault : WireFault) → Begins AreEntryFields (index, (time, body)) rest octets
-    → Refuses (SpellsRibAttrs family Four) body fault → RefusesFront (SpellsEntry family) octets fault
+    → Refuses (SpellsRibAttrs family Four) body fault → MayRefuseFront (SpellsEntry family) octets fault
 refused_attrs family index time body rest octets Malformed b none = λ entry more p.
     let one = entry_fields_front (entry.index, (entry.time, p.spelled.0)) (index, (time, body)) more rest octets (entry_fields family entry more octets p) b in
     none entry.attrs (subst (SpellsRibAttrs family Four entry.attrs) (λ i. (one.0 i).1.1) p.spelled.2)

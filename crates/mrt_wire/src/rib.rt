@@ -6,7 +6,7 @@ ghost use Rattle.std.specs.Prelude.{◌≡◌, ◌∷◌, [], slice_get, OnOk, I
 ghost use Rattle.std.specs.Option.{option_or};
 ghost use Rattle.ip_prefix.specs.Sequences.{Begins};
 ghost use Rattle.ip_prefix.specs.Fronts.{BeginsWithNone};
-ghost use Rattle.bgp_wire.specs.Readers.{Refuses, RefusesFront};
+ghost use Rattle.bgp_wire.specs.Readers.{Refuses, MayRefuseFront};
 ghost use Rattle.mrt_wire.specs.Rib.{PrefixEntries, AreEntryFields, SpellsEntry, SpellsEntries, SpellsRib};
 ghost use Rattle.mrt_wire.specs.Items.{entry_time, first_unknown};
 ghost use Rattle.mrt_wire.specs.Decoding.{AddsItems, AreItemsOf, SpellsEntryItems, HasEntryTime, entry_value, context_items};
@@ -127,7 +127,7 @@ fn read_entry<'a>(
     ensures found { IfOk result (λ found.
         Begins (SpellsEntry context.entry.family) (entry_value found.0) found.1.now octets.now) }
     ensures timed { IfOk result (λ found. HasEntryTime context.entry found.0) }
-    ensures refused { IfErr result (RefusesFront (SpellsEntry context.entry.family) octets.now) }
+    ensures refused { IfErr result (MayRefuseFront (SpellsEntry context.entry.family) octets.now) }
 {
     let framed = split_entry_fields(octets).ok_or(WireFault::Malformed)?;
     let time = route_time(context.stamp, context.seconds, framed.time);

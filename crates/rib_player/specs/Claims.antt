@@ -3,7 +3,7 @@
 -- which are those before which it has no route and after which it has one.
 use Rattle.std.specs.Prelude.{◌≡◌, ℕ, ◌+◌, List, ◌++◌, length, refl, ◌-◌, ◌*◌, Bool, true, false, ◌&&◌, not, [], ◌∷◌, Option, is_some, take, replicate}
 use Rattle.std.specs.Coded.{Coded, code_by, coded×, coded_ℕ, coded_list}
-use Rattle.mrt_events.specs.Codes.{coded_route}
+use Rattle.mrt_events.specs.Codes.{route_as_pair}
 use Rattle.rib_player.specs.Representation.{coded_pair}
 use Rattle.rib_player.specs.Tables.{Routes, Pairs, table_after, Contents}
 use Rattle.rib_player.specs.Timeline.{Timeline, end_of, current, table_at}
@@ -33,7 +33,7 @@ use Rattle.std.specs.BTreeMap as tree
 abbrev pub coded_timeline : Coded Timeline
 coded_timeline =
     code_by (ℕ × (ℕ × (List Routes × List Pairs)))
-    (coded× coded_ℕ (coded× coded_ℕ (coded× (coded_list (finite.code coded_pair coded_route)) (coded_list (set.code coded_pair)))))
+    (coded× coded_ℕ (coded× coded_ℕ (coded× (coded_list (finite.code coded_pair route_as_pair)) (coded_list (set.code coded_pair)))))
     (λ t. (t.floor, (t.cursor, (t.tables, t.steps)))) (λ p. record { floor = p.0; cursor = p.1.0; tables = p.1.1.0; steps = p.1.1.1 }) (λ _. refl)
 
 -- ---- how many claims a pair has in a timeline; it is a key of the table exactly if it has one
@@ -128,8 +128,8 @@ held_claims keys beyond pair = one_if (set.contains keys pair) + beyond pair
 
 -- how many claims (reasons to keep it as a key) of a pair are held: one if it is a key of `table`, and those
 -- beyond this that are counted in `claims`
-abbrev pub claims_in : Contents → ExtraKeyClaims → Pair → ℕ
-claims_in table claims = held_claims table.keys (claims_beyond claims)
+abbrev pub held_claims_of : Contents → ExtraKeyClaims → Pair → ℕ
+held_claims_of table claims = held_claims table.keys (claims_beyond claims)
 
 -- a pair that isn't in `keys` has no claims beyond the first: `beyond`, which gives their number, is 0 there
 abbrev pub OnlyKeysHaveExtraClaims : Pairs → (Pair → ℕ) → Type 0

@@ -8,7 +8,7 @@ use Rattle.std.specs.declared.rc.Rc.{Rc}
 use Rattle.std.specs.declared.alloc.Global.{Global}
 use Rattle.mrt_events.specs.declared.peer.Peer.{Peer}
 use Rattle.mrt_events.specs.declared.event.Route.{Route}
-use Rattle.mrt_events.specs.Codes.{coded_peer, coded_route}
+use Rattle.mrt_events.specs.Codes.{coded_peer, route_as_pair}
 use Rattle.mrt_events.specs.Event.{peer_cmp}
 use Rattle.ip_prefix.specs.Codes.{coded_network}
 use Rattle.ip_prefix.specs.Network.{Network}
@@ -34,7 +34,7 @@ coded_pair = code_by (Peer × Network) (coded× coded_peer coded_network) (λ p.
 -- a one-to-one encoding (`Coded`) of a table's contents as the tuple of its set of keys and its map of routes
 abbrev pub coded_contents : Coded Contents
 coded_contents =
-    code_by (Pairs × Routes) (coded× (set.code coded_pair) (finite.code coded_pair coded_route))
+    code_by (Pairs × Routes) (coded× (set.code coded_pair) (finite.code coded_pair route_as_pair))
     (λ s. (s.keys, s.routes)) (λ p. record { keys = p.0; routes = p.1 }) (λ _. refl)
 
 -- those of `stores`, each with its peer, that have a route, where `routes` gives the routes of a store

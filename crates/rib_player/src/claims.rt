@@ -21,7 +21,7 @@ ghost use Rattle.rib_player.specs.Tables.{pointed_route};
 ghost use Rattle.rib_player.specs.Journal.{sides_of};
 ghost use Rattle.rib_player.specs.Sides.{AreDistinct, mark_of, marks_of, releases_claim_of, any_releases_claim_of};
 ghost use Rattle.rib_player.specs.JournalState.{AreApplied};
-ghost use Rattle.rib_player.specs.Claims.{one_if, count_of, v4_prefix_number, claims_beyond, claims_in, OnlyKeysHaveExtraClaims};
+ghost use Rattle.rib_player.specs.Claims.{one_if, count_of, v4_prefix_number, claims_beyond, held_claims_of, OnlyKeysHaveExtraClaims};
 
 use crate::entry::{Entry, JournalEnd};
 use crate::key_counts::KeyCounts;
@@ -122,11 +122,11 @@ pub(crate) fn apply_entry<S: PrefixStore<Rc<Route>>>(
     ensures held { OnlyKeysHaveExtraClaims table.new.keys (claims_beyond claims.new) }
     ensures keys { OnOk result (table.new.keys ≡ set.insert table.old.keys entry.old.pair) }
     ensures claimed { OnOk result ((q : Pair) →
-        claims_in table.new claims.new q ≡ claims_in table.old claims.old q
+        held_claims_of table.new claims.new q ≡ held_claims_of table.old claims.old q
         + one_if (releases_claim_of Last (mark_of entry.new) q)) }
     ensures put { OnOk result (AreApplied table.old table.new (entry.old ∷ []) (entry.new ∷ [])) }
     ensures refused { OnErr result ((q : Pair) →
-        claims_in table.new claims.new q ≡ claims_in table.old claims.old q) }
+        held_claims_of table.new claims.new q ≡ held_claims_of table.old claims.old q) }
     ensures kept { OnErr result (table.new.routes ≡ table.old.routes) }
 {
     let made = entry.put(table)?;
@@ -160,9 +160,9 @@ pub(crate) fn release_claims<S: PrefixStore<Rc<Route>>>(
     requires free { (q : Pair) → any_releases_claim_of end (marks_of entries.now) q ≡ true →
         claims_beyond claims.old q ≡ 0 → finite.get table.old.routes q ≡ None }
     ensures held { OnlyKeysHaveExtraClaims table.new.keys (claims_beyond claims.new) }
-    ensures claimed { (q : Pair) → claims_in table.new claims.new q
+    ensures claimed { (q : Pair) → held_claims_of table.new claims.new q
         + one_if (any_releases_claim_of end (marks_of entries.now) q)
-        ≡ claims_in table.old claims.old q }
+        ≡ held_claims_of table.old claims.old q }
     ensures routes { table.new.routes ≡ table.old.routes }
 {
     'entries: for entry in entries {

@@ -10,7 +10,7 @@ ghost use Rattle.prefix_store.specs.Stored.{saturated_count, ContainsDomain};
 ghost use Rattle.prefix_store.specs.declared.store.TheConstants.{GREATEST_COUNT};
 ghost use Rattle.rib_player.specs.declared.pair.Pair.{Pair};
 ghost use Rattle.rib_player.specs.declared.entry.JournalEnd.TheVariants.{Last};
-ghost use Rattle.rib_player.specs.Claims.{one_if, claims_beyond, claims_in, OnlyKeysHaveExtraClaims};
+ghost use Rattle.rib_player.specs.Claims.{one_if, claims_beyond, held_claims_of, OnlyKeysHaveExtraClaims};
 ghost use Rattle.rib_player.specs.Journal.{sides_of, sides_by_step, routes_across};
 ghost use Rattle.rib_player.specs.Sides.{sides_at, sides_across, ClearAllOf, AreDistinctKeys, AreDistinct, marks_of, marks_by_step, any_releases_claim_of, entry_count};
 ghost use Rattle.rib_player.specs.JournalState.{IsStepSwapped, AreApplied, CanDrop, StayClaimed};
@@ -141,11 +141,11 @@ pub(crate) fn apply_entries<S: PrefixStore<Rc<Route>>>(
     requires few { (q : Pair) → claims_beyond claims.old q < GREATEST_COUNT }
     ensures held { OnlyKeysHaveExtraClaims table.new.keys (claims_beyond claims.new) }
     ensures claimed { OnOk result ((q : Pair) →
-        claims_in table.new claims.new q ≡ claims_in table.old claims.old q
+        held_claims_of table.new claims.new q ≡ held_claims_of table.old claims.old q
         + one_if (any_releases_claim_of Last (marks_of entries.new) q)) }
     ensures put { OnOk result (AreApplied table.old table.new entries.old entries.new) }
     ensures refused { OnErr result ((q : Pair) →
-        claims_in table.new claims.new q ≡ claims_in table.old claims.old q) }
+        held_claims_of table.new claims.new q ≡ held_claims_of table.old claims.old q) }
     ensures kept { OnErr result (table.new.routes ≡ table.old.routes) }
 {
     if let Some(peer) = lost {
@@ -212,10 +212,10 @@ pub(crate) fn drop_steps_ahead<S: PrefixStore<Rc<Route>>>(
     requires distinct { AllByRecursion AreDistinct (sides_by_step steps.old.items) }
     requires held { OnlyKeysHaveExtraClaims table.old.keys (claims_beyond claims.old) }
     requires claimed { CanDrop (marks_by_step steps.old.items) cursor
-        (claims_in table.old claims.old) table.old.routes }
+        (held_claims_of table.old claims.old) table.old.routes }
     ensures held { OnlyKeysHaveExtraClaims table.new.keys (claims_beyond claims.new) }
-    ensures claimed { StayClaimed cursor steps.old.items (claims_in table.old claims.old)
-        steps.new.items (claims_in table.new claims.new) }
+    ensures claimed { StayClaimed cursor steps.old.items (held_claims_of table.old claims.old)
+        steps.new.items (held_claims_of table.new claims.new) }
     ensures routes { table.new.routes ≡ table.old.routes }
     ensures steps { steps.new.items ≡ take cursor steps.old.items }
     ensures capacity { deque_capacity steps.new ≡ deque_capacity steps.old }

@@ -296,8 +296,8 @@ impl<S: PrefixStore<Rc<Route>>> Player<S> {
         self.known.sweep_if_due();
     }
 
-    /// Forgets the oldest steps (played events), as few as leave at most `keep` before the cursor
-    /// that can still be undone, and returns how many it forgot: 0 if there are no more than `keep`. The
+    /// Forgets the oldest kept steps (played events) until at most `keep` steps before the cursor
+    /// can still be undone, and returns how many it forgot: 0 if there are no more than `keep`. The
     /// steps after the cursor, the position of the cursor, and the routes stay. Allocates no
     /// memory.
     pub fn forget(&mut self, keep: u64) -> u64

@@ -4,7 +4,7 @@ use Rattle.ip_prefix.specs.declared.turn.Turn.TheVariants.{Outside, Here, Left, 
 use Rattle.ip_prefix.specs.Network.{Network}
 use Rattle.ip_prefix.specs.Turns.{way, turn_of}
 use Rattle.ip_prefix.proofs.Turns.{here_only}
-use Rattle.rib_store.specs.Tree.{Shape, Empty, Rooted, at, select_by_turn, root, same_way, slot_of, IsOnSide, IsRooted, IsUpdatedAt, IsRadixTree, IsKeyOrFork}
+use Rattle.rib_store.specs.Tree.{Shape, Empty, Rooted, at, select_by_turn, root, same_way, slot_of, RootIsOnSide, IsRooted, IsUpdatedAt, IsRadixTree, IsKeyOrFork}
 use Rattle.rib_store.specs.declared.tree.KeySlot.{KeySlot}
 use Rattle.rib_store.proofs.WayLaws.{same_is}
 use Rattle.rib_store.proofs.TreeLaws.{at_left, at_right, at_rooted, on_same}
@@ -46,12 +46,12 @@ pub put_from : {A : Type 0} (f g h : List Bool → A) (key : List Bool) (v : A) 
 put_from f g h key v same p q = p q ∙ ap (λ x. cond (same_way key q) v x) (sym (same q))
 
 -- where only a right child is left, it holds the same
-pub join_right : {R : Type 0} (prefix : Network) (l r child : Shape R) (slot : Option (Option R)) → slot ≡ None → l ≡ Empty → child ≡ r → IsOnSide (way prefix) true r
+pub join_right : {R : Type 0} (prefix : Network) (l r child : Shape R) (slot : Option (Option R)) → slot ≡ None → l ≡ Empty → child ≡ r → RootIsOnSide (way prefix) true r
     → (q : List Bool) → at child q ≡ select_by_turn (turn_of (way prefix) q) None slot (at l q) (at r q)
 join_right prefix l r child slot s e h on q =
     ap (λ t. at t q) h ∙ at_right (way prefix) r on q ∙ (λ i. select_by_turn (turn_of (way prefix) q) None (sym s i) (at (sym e i) q) (at r q))
 
-pub join_left : {R : Type 0} (prefix : Network) (l r child : Shape R) (slot : Option (Option R)) → slot ≡ None → r ≡ Empty → child ≡ l → IsOnSide (way prefix) false l
+pub join_left : {R : Type 0} (prefix : Network) (l r child : Shape R) (slot : Option (Option R)) → slot ≡ None → r ≡ Empty → child ≡ l → RootIsOnSide (way prefix) false l
     → (q : List Bool) → at child q ≡ select_by_turn (turn_of (way prefix) q) None slot (at l q) (at r q)
 join_left prefix l r child slot s e h on q =
     ap (λ t. at t q) h ∙ at_left (way prefix) l on q ∙ (λ i. select_by_turn (turn_of (way prefix) q) None (sym s i) (at l q) (at (sym e i) q))

@@ -7,7 +7,7 @@ use Rattle.ip_prefix.specs.Network.{Address, Network, begin_with, contains}
 use Rattle.ip_prefix.specs.Turns.{way, turn_of, side}
 use Rattle.ip_prefix.proofs.Containing.{contains_parts}
 use Rattle.ip_prefix.proofs.Turns.{covers-way, here_only, here_from}
-use Rattle.rib_store.specs.Tree.{Shape, Empty, Rooted, at, slot_of, select_by_turn, IsOnSide, IsRadixTree}
+use Rattle.rib_store.specs.Tree.{Shape, Empty, Rooted, at, slot_of, select_by_turn, RootIsOnSide, IsRadixTree}
 use Rattle.prefix_store.specs.Lookups.{IsLongestMatch, IsLongestMatchOf}
 use Rattle.rib_store.specs.Slots.{route_of_slot, routes_in}
 use Rattle.rib_store.specs.Walks.{first_some, routed_at, deepest_route}
@@ -71,7 +71,7 @@ at_way prefix (Some (Some found)) slots key there here only =
     ((there, here), λ x route h. let e = ap length (only x route h) in omega (arith, e))
 
 -- what a tree on a side has lies there
-lies : {R : Type 0} (b x : List Bool) (s : Bool) (t : Shape R) (route : R) → IsOnSide b s t → at t x ≡ Some (Some route) → turn_of b x ≡ side s
+lies : {R : Type 0} (b x : List Bool) (s : Bool) (t : Shape R) (route : R) → RootIsOnSide b s t → at t x ≡ Some (Some route) → turn_of b x ≡ side s
 lies b x s Empty route on h = cc
 lies b x s (Rooted prefix slot l r) route on h =
     elim (beyond b (way prefix) x s on) [

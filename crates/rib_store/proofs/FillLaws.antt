@@ -7,7 +7,7 @@ use Rattle.ip_prefix.specs.declared.turn.Turn.{Turn}
 use Rattle.ip_prefix.specs.Turns.{way, turn_of, side}
 use Rattle.rib_store.specs.declared.tree.KeySlot.{KeySlot}
 use Rattle.rib_store.specs.declared.tree.Tree.{Tree}
-use Rattle.rib_store.specs.Tree.{shape_of, has_routes, HasCorrectMarks, Shape, Empty, Rooted, select_by_turn, own, slots_of, slot_of, IsOnSide, IsRadixTree}
+use Rattle.rib_store.specs.Tree.{shape_of, has_routes, HasCorrectMarks, Shape, Empty, Rooted, select_by_turn, own, slots_of, slot_of, RootIsOnSide, IsRadixTree}
 use Rattle.rib_store.specs.Slots.{Slots, routed}
 use Rattle.rib_store.specs.Walks.{first_some, routed_at, first, first_after, all_routes, all_after, filled}
 use Rattle.rib_store.proofs.MarkLaws.{unmarked_first}
@@ -122,12 +122,12 @@ unfolding routed
 above-own low prefix slot below e = grind arith
 
 -- all routes of a tree on a side are above, where all that lies there is
-all-above : {R : Type 0} (low : Network) (from : List Bool) (bit : Bool) (t : Shape R) → IsRadixTree t → IsOnSide from bit t → ((n : Network) → turn_of from (way n) ≡ side bit → below (way low) (way n) ≡ true) → all_routes t ≡ above (Some low) (routed (slots_of t))
+all-above : {R : Type 0} (low : Network) (from : List Bool) (bit : Bool) (t : Shape R) → IsRadixTree t → RootIsOnSide from bit t → ((n : Network) → turn_of from (way n) ≡ side bit → below (way low) (way n) ≡ true) → all_routes t ≡ above (Some low) (routed (slots_of t))
 all-above low from bit t shaped on holds =
     all-routed t ∙ sym (above-all low (slots_of t) (all-on (λ n. is_above (Some low) n ≡ true) from bit (λ n h. above-ways low n ∙ holds n h) t shaped on))
 
 -- and none is, where none there is
-none-above-side : {R : Type 0} (low : Network) (from : List Bool) (bit : Bool) (t : Shape R) → IsRadixTree t → IsOnSide from bit t → ((n : Network) → turn_of from (way n) ≡ side bit → below (way low) (way n) ≡ false) → [] ≡ above (Some low) (routed (slots_of t))
+none-above-side : {R : Type 0} (low : Network) (from : List Bool) (bit : Bool) (t : Shape R) → IsRadixTree t → RootIsOnSide from bit t → ((n : Network) → turn_of from (way n) ≡ side bit → below (way low) (way n) ≡ false) → [] ≡ above (Some low) (routed (slots_of t))
 none-above-side low from bit t shaped on holds =
     sym (above-no low (slots_of t) (all-on (λ n. is_above (Some low) n ≡ false) from bit (λ n h. above-ways low n ∙ holds n h) t shaped on))
 

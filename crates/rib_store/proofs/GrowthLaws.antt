@@ -4,7 +4,7 @@ use Rattle.ip_prefix.specs.declared.turn.Turn.{Turn}
 use Rattle.ip_prefix.specs.declared.turn.Turn.TheVariants.{Outside, Here, Left, Right}
 use Rattle.ip_prefix.specs.Network.{Network}
 use Rattle.ip_prefix.specs.Turns.{way, turn_of, shared, side}
-use Rattle.rib_store.specs.Tree.{Shape, Empty, Rooted, at, slot_of, select_by_turn, root, root_with_key, IsOnSide, IsRooted, IsRadixTree, IsUpdatedAt, IsInserted, IsKeyOrFork}
+use Rattle.rib_store.specs.Tree.{Shape, Empty, Rooted, at, slot_of, select_by_turn, root, root_with_key, RootIsOnSide, IsRooted, IsRadixTree, IsUpdatedAt, IsInserted, IsKeyOrFork}
 use Rattle.rib_store.proofs.WayLaws.{turn_shared, shared_inside, parts}
 use Rattle.std.specs.Prelude.{IsSome}
 use Rattle.rib_store.specs.declared.tree.KeySlot.TheVariants.{NoKey}
@@ -12,7 +12,7 @@ use Rattle.rib_store.proofs.TreeLaws.{ShapedParts, at_left, at_right, at_rooted,
 use Rattle.rib_store.proofs.ChangeLaws.{fork_left, fork_right, fork_here, put_from}
 
 -- a child with one more key is on its side still
-pub on_placed : {R : Type 0} (key : List Bool) (v : Option (Option R)) (l m : Shape R) (b : List Bool) (bit : Bool) → IsInserted key v l m → IsOnSide b bit l → turn_of b key ≡ side bit → IsOnSide b bit m
+pub on_placed : {R : Type 0} (key : List Bool) (v : Option (Option R)) (l m : Shape R) (b : List Bool) (bit : Bool) → IsInserted key v l m → RootIsOnSide b bit l → turn_of b key ≡ side bit → RootIsOnSide b bit m
 on_placed key v Empty m b bit placed on there = on_side m b key bit placed.roots there
 on_placed key v (Rooted prefix slot l r) m b bit placed on there = on_side m b (shared (way prefix) key) bit placed.roots (turn_shared b (way prefix) key bit on there)
 
@@ -122,7 +122,7 @@ over_side {R} {old} {new} key above b route slot beside bit none e shaped bits b
       roots = root_rooted new above slot (cond bit beside old) (cond bit old beside) is ∙ ap Some bits ∙ sym (ap (λ o. Some (root_with_key o (way key))) e);
     }
   where
-    on : (bit : Bool) → turn_of (way above) b ≡ side bit → IsOnSide (way above) bit old
+    on : (bit : Bool) → turn_of (way above) b ≡ side bit → RootIsOnSide (way above) bit old
     on bit below = on_side old (way above) b bit e below
 
     there : {s : Turn} → (turn_of (way above) (way key) ≡ Here) ⊎ (turn_of (way above) (way key) ≡ s) → (turn_of (way above) (way key) ≡ Here → ⊥) → turn_of (way above) (way key) ≡ s

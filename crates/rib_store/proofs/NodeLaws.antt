@@ -8,7 +8,7 @@ use Rattle.ip_prefix.specs.Turns.{way, turn_of, side}
 use Rattle.ip_prefix.proofs.Turns.{here_only, here_from}
 use Rattle.rib_store.specs.declared.tree.KeySlot.{KeySlot}
 use Rattle.rib_store.specs.declared.tree.KeySlot.TheVariants.{NoKey, Vacant, Filled}
-use Rattle.rib_store.specs.Tree.{Shape, Empty, Rooted, slot_of, select_by_turn, root, IsOnSide, IsRadixTree, IsKeyOrFork}
+use Rattle.rib_store.specs.Tree.{Shape, Empty, Rooted, slot_of, select_by_turn, root, RootIsOnSide, IsRadixTree, IsKeyOrFork}
 use Rattle.rib_store.proofs.WayLaws.{turn_through, outside_across, outside_above, outside_below}
 use Rattle.rib_store.proofs.TreeLaws.{on_below}
 
@@ -23,7 +23,7 @@ any_key test Empty = false
 any_key test (Rooted prefix slot l r) = (is_some (slot_of slot) && test (way prefix)) || (any_key test l || any_key test r)
 
 -- no key passes what none on the side does
-pub any_none : {R : Type 0} (test : List Bool → Bool) (b : List Bool) (bit : Bool) (t : Shape R) → IsOnSide b bit t → IsRadixTree t
+pub any_none : {R : Type 0} (test : List Bool → Bool) (b : List Bool) (bit : Bool) (t : Shape R) → RootIsOnSide b bit t → IsRadixTree t
     → ((k : List Bool) → turn_of b k ≡ side bit → test k ≡ false) → any_key test t ≡ false
 any_none test b bit Empty on shaped h = refl
 any_none test b bit (Rooted prefix slot l r) on shaped h =
@@ -33,7 +33,7 @@ any_none test b bit (Rooted prefix slot l r) on shaped h =
     grind arith
 
 -- some key passes what each on the side does
-pub any_some : {R : Type 0} (test : List Bool → Bool) (b : List Bool) (bit : Bool) (t : Shape R) → IsOnSide b bit t → IsRadixTree t → IsSome (root t)
+pub any_some : {R : Type 0} (test : List Bool → Bool) (b : List Bool) (bit : Bool) (t : Shape R) → RootIsOnSide b bit t → IsRadixTree t → IsSome (root t)
     → ((k : List Bool) → turn_of b k ≡ side bit → test k ≡ true) → any_key test t ≡ true
 any_some test b bit Empty on shaped some h = cc
 any_some test b bit (Rooted prefix NoKey l r) on shaped some h =
@@ -58,14 +58,14 @@ abbrev pub Told : {R : Type 0} → Shape R → List Bool → Type 0
 Told t q = node_at t q ≡ (any_key (by_turn at_here q) t || (any_key (by_turn (at_side false) q) t && any_key (by_turn (at_side true) q) t))
 
 -- where a key parts from all others below the node
-pub told_left : {R : Type 0} (b : List Bool) (slot : Option (Option R)) (l r : Shape R) (q : List Bool) (w : Turn → Bool) → w Outside ≡ false → IsOnSide b true r → IsRadixTree r
+pub told_left : {R : Type 0} (b : List Bool) (slot : Option (Option R)) (l r : Shape R) (q : List Bool) (w : Turn → Bool) → w Outside ≡ false → RootIsOnSide b true r → IsRadixTree r
     → turn_of b q ≡ Left → ((is_some slot && by_turn w q b) || (any_key (by_turn w q) l || any_key (by_turn w q) r)) ≡ any_key (by_turn w q) l
 told_left b slot l r q w none on shaped there =
     let here = ap w (outside_above b q false there) ∙ none in
     let right = any_none (by_turn w q) b true r on shaped (λ k h. ap w (outside_across b q k false true there h refl) ∙ none) in
     grind arith
 
-pub told_right : {R : Type 0} (b : List Bool) (slot : Option (Option R)) (l r : Shape R) (q : List Bool) (w : Turn → Bool) → w Outside ≡ false → IsOnSide b false l → IsRadixTree l
+pub told_right : {R : Type 0} (b : List Bool) (slot : Option (Option R)) (l r : Shape R) (q : List Bool) (w : Turn → Bool) → w Outside ≡ false → RootIsOnSide b false l → IsRadixTree l
     → turn_of b q ≡ Right → ((is_some slot && by_turn w q b) || (any_key (by_turn w q) l || any_key (by_turn w q) r)) ≡ any_key (by_turn w q) r
 told_right b slot l r q w none on shaped there =
     let here = ap w (outside_above b q true there) ∙ none in
@@ -107,7 +107,7 @@ on_both : (here a b c d : Bool) → a ≡ true → d ≡ true → true ≡ (here
 on_both here a b c d left right = grind arith
 
 -- the node itself: a key, or keys on both sides
-told_here : {R : Type 0} (b : List Bool) (slot : Option (Option R)) (l r : Shape R) → IsOnSide b false l → IsOnSide b true r → IsKeyOrFork slot l r → IsRadixTree l → IsRadixTree r
+told_here : {R : Type 0} (b : List Bool) (slot : Option (Option R)) (l r : Shape R) → RootIsOnSide b false l → RootIsOnSide b true r → IsKeyOrFork slot l r → IsRadixTree l → IsRadixTree r
     → true ≡ (((is_some slot && by_turn at_here b b) || (any_key (by_turn at_here b) l || any_key (by_turn at_here b) r))
     || (((is_some slot && by_turn (at_side false) b b) || (any_key (by_turn (at_side false) b) l || any_key (by_turn (at_side false) b) r))
     && ((is_some slot && by_turn (at_side true) b b) || (any_key (by_turn (at_side true) b) l || any_key (by_turn (at_side true) b) r))))

@@ -20,7 +20,7 @@ use Rattle.octet_forms.proofs.Booleans.{same_tests}
 use Rattle.octet_forms.proofs.Lists.{AllByRecursion-append}
 use Rattle.ip_prefix.proofs.Turns.{covers-way}
 use Rattle.rib_store.specs.declared.tree.KeySlot.TheVariants.{NoKey, Vacant, Filled}
-use Rattle.rib_store.specs.Tree.{Shape, Empty, Rooted, own, slots_of, slot_of, select_by_turn, same_way, root, AreSides, IsOnSide, IsRadixTree}
+use Rattle.rib_store.specs.Tree.{Shape, Empty, Rooted, own, slots_of, slot_of, select_by_turn, same_way, root, AreSides, RootIsOnSide, IsRadixTree}
 use Rattle.prefix_store.specs.Stored.{Keys}
 use Rattle.rib_store.specs.Slots.{Slots, keys_in}
 use Rattle.rib_store.specs.Walks.{node_count}
@@ -122,11 +122,11 @@ length-nodes_of Empty = refl
 length-nodes_of (Rooted prefix slot l r) = omega (arith, length-nodes_of l, length-nodes_of r, length-append (nodes_of l) (nodes_of r))
 
 -- a tree on a side has nodes there alone
-pub node_left : {R : Type 0} (b : List Bool) (t : Shape R) → IsOnSide b false t → (q : List Bool) → node_at t q ≡ select_by_turn (turn_of b q) false false (node_at t q) false
+pub node_left : {R : Type 0} (b : List Bool) (t : Shape R) → RootIsOnSide b false t → (q : List Bool) → node_at t q ≡ select_by_turn (turn_of b q) false false (node_at t q) false
 node_left b Empty on q = chosen_same (turn_of b q) false
 node_left b (Rooted prefix slot l r) on q = there_alone false b (way prefix) q false _ on (λ out. ap (λ t. select_by_turn t false true (node_at l q) (node_at r q)) out)
 
-pub node_right : {R : Type 0} (b : List Bool) (t : Shape R) → IsOnSide b true t → (q : List Bool) → node_at t q ≡ select_by_turn (turn_of b q) false false false (node_at t q)
+pub node_right : {R : Type 0} (b : List Bool) (t : Shape R) → RootIsOnSide b true t → (q : List Bool) → node_at t q ≡ select_by_turn (turn_of b q) false false false (node_at t q)
 node_right b Empty on q = chosen_same (turn_of b q) false
 node_right b (Rooted prefix slot l r) on q = there_alone false b (way prefix) q true _ on (λ out. ap (λ t. select_by_turn t false true (node_at l q) (node_at r q)) out)
 
@@ -143,7 +143,7 @@ is_in-nodes_of (Rooted prefix slot l r) q shaped =
 -- ---- each node stands once
 
 nodes-on : {R : Type 0} (P : Network → Type 0) (from : List Bool) (bit : Bool) → ((n : Network) → turn_of from (way n) ≡ side bit → P n)
-    → (t : Shape R) → IsRadixTree t → IsOnSide from bit t → AllByRecursion P (nodes_of t)
+    → (t : Shape R) → IsRadixTree t → RootIsOnSide from bit t → AllByRecursion P (nodes_of t)
 nodes-on P from bit holds Empty shaped on = tt
 nodes-on P from bit holds (Rooted prefix slot l r) shaped on =
     let deeper = λ (s : Bool) (n : Network) (h : turn_of (way prefix) (way n) ≡ side s). holds n (turn_through from (way prefix) (way n) bit s on h) in

@@ -11,7 +11,7 @@ use Rattle.rib_store.specs.declared.tree.KeySlot.{KeySlot}
 use Rattle.rib_store.specs.declared.tree.KeySlot.TheVariants.{NoKey, Vacant, Filled}
 use Rattle.rib_store.specs.declared.tree.Tree.{Tree}
 use Rattle.rib_store.specs.declared.tree.Tree.TheVariants as tree
-use Rattle.rib_store.specs.Tree.{Shape, shape_of, is_filled, has_routes, HasCorrectMarks, Empty, Rooted, own, root, slot_of, slots_of, vacated, without_routes, IsOnSide, IsRadixTree, IsKeyOrFork}
+use Rattle.rib_store.specs.Tree.{Shape, shape_of, is_filled, has_routes, HasCorrectMarks, Empty, Rooted, own, root, slot_of, slots_of, vacated, without_routes, RootIsOnSide, IsRadixTree, IsKeyOrFork}
 use Rattle.rib_store.specs.Slots.{Slots, slot_at, keys_in, routes_in, route_of_slot}
 use Rattle.rib_store.specs.Store.{Trees, slots_in, AreRadixTrees}
 use Rattle.rib_store.specs.Walks.{all_routes}
@@ -43,7 +43,7 @@ unmarked-without_routes network (tree.Rooted' routed key p slot left right) mark
 root-without_routes : {R : Type 0} (t : Shape R) → root (without_routes t) ≡ root t
 root-without_routes t = grind arith
 
-on-without_routes : {R : Type 0} (from : List Bool) (bit : Bool) (t : Shape R) → IsOnSide from bit t → IsOnSide from bit (without_routes t)
+on-without_routes : {R : Type 0} (from : List Bool) (bit : Bool) (t : Shape R) → RootIsOnSide from bit t → RootIsOnSide from bit (without_routes t)
 on-without_routes from bit Empty on = on
 on-without_routes from bit (Rooted prefix slot l r) on = on
 

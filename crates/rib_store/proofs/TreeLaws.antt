@@ -7,7 +7,7 @@ use Rattle.ip_prefix.specs.declared.addr.Family.{Family}
 use Rattle.ip_prefix.specs.Network.{Network}
 use Rattle.ip_prefix.specs.Turns.{way, turn_of, family_bit, side}
 use Rattle.rib_store.specs.declared.tree.KeySlot.{KeySlot}
-use Rattle.rib_store.specs.Tree.{Shape, Empty, Rooted, at, slot_of, select_by_turn, root, AreSides, IsOfFamily, IsOnFamilySide, IsOnSide, IsRooted, IsRadixTree, IsKeyOrFork}
+use Rattle.rib_store.specs.Tree.{Shape, Empty, Rooted, at, slot_of, select_by_turn, root, AreSides, IsOfFamily, IsOnFamilySide, RootIsOnSide, IsRooted, IsRadixTree, IsKeyOrFork}
 use Rattle.rib_store.proofs.WayLaws.{beyond, turn_through, family_of}
 
 pub chosen_same : {A : Type 0} (t : Turn) (x : A) → x ≡ select_by_turn t x x x x
@@ -23,12 +23,12 @@ there_alone none b x q bit found on away =
     ]
 
 -- so its keys on the left
-pub at_left : {R : Type 0} (b : List Bool) (t : Shape R) → IsOnSide b false t → (q : List Bool) → at t q ≡ select_by_turn (turn_of b q) None None (at t q) None
+pub at_left : {R : Type 0} (b : List Bool) (t : Shape R) → RootIsOnSide b false t → (q : List Bool) → at t q ≡ select_by_turn (turn_of b q) None None (at t q) None
 at_left b Empty on q = chosen_same (turn_of b q) None
 at_left b (Rooted prefix slot l r) on q = there_alone None b (way prefix) q false _ on (λ out. ap (λ t. select_by_turn t None (slot_of slot) (at l q) (at r q)) out)
 
 -- and on the right
-pub at_right : {R : Type 0} (b : List Bool) (t : Shape R) → IsOnSide b true t → (q : List Bool) → at t q ≡ select_by_turn (turn_of b q) None None None (at t q)
+pub at_right : {R : Type 0} (b : List Bool) (t : Shape R) → RootIsOnSide b true t → (q : List Bool) → at t q ≡ select_by_turn (turn_of b q) None None None (at t q)
 at_right b Empty on q = chosen_same (turn_of b q) None
 at_right b (Rooted prefix slot l r) on q = there_alone None b (way prefix) q true _ on (λ out. ap (λ t. select_by_turn t None (slot_of slot) (at l q) (at r q)) out)
 
@@ -44,7 +44,7 @@ at_right_under prefix slot l r q shaped under =
     let there = at_right (way prefix) r shaped.0.right q in grind arith
 
 -- what lies below a node lies where the node does
-pub on_below : {R : Type 0} (child : Shape R) (bits b : List Bool) (bit s : Bool) → turn_of bits b ≡ side bit → IsOnSide b s child → IsOnSide bits bit child
+pub on_below : {R : Type 0} (child : Shape R) (bits b : List Bool) (bit s : Bool) → turn_of bits b ≡ side bit → RootIsOnSide b s child → RootIsOnSide bits bit child
 on_below Empty bits b bit s there on = tt
 on_below (Rooted prefix slot l r) bits b bit s there on = turn_through bits b (way prefix) bit s there on
 
@@ -81,12 +81,12 @@ some_is None x e = cc
 some_is (Some y) x e = refl
 
 -- a tree with a known root lies on a side
-pub on_side : {R : Type 0} (t : Shape R) (b x : List Bool) (bit : Bool) → root t ≡ Some x → turn_of b x ≡ side bit → IsOnSide b bit t
+pub on_side : {R : Type 0} (t : Shape R) (b x : List Bool) (bit : Bool) → root t ≡ Some x → turn_of b x ≡ side bit → RootIsOnSide b bit t
 on_side Empty b x bit e h = tt
 on_side (Rooted prefix slot l r) b x bit e h = let same : way prefix ≡ x = cc in ap (turn_of b) same ∙ h
 
 -- so does another with its root
-pub on_same : {R : Type 0} (old new : Shape R) (from : List Bool) (bit : Bool) → root new ≡ root old → IsOnSide from bit old → IsOnSide from bit new
+pub on_same : {R : Type 0} (old new : Shape R) (from : List Bool) (bit : Bool) → root new ≡ root old → RootIsOnSide from bit old → RootIsOnSide from bit new
 on_same old new from bit same on = subst (λ to. IfSome to (λ way. turn_of from way ≡ side bit)) (sym same) on
 
 -- all nodes of a tree on a family's side are of the family

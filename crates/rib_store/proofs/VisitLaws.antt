@@ -16,7 +16,7 @@ use Rattle.ip_prefix.specs.OrderLaws.{network_cmp_total}
 use Rattle.ip_prefix.specs.Turns.{way, turn_of, side}
 use Rattle.ip_prefix.proofs.Containing.{contains_parts}
 use Rattle.ip_prefix.proofs.Turns.{here_only}
-use Rattle.rib_store.specs.Tree.{Shape, Empty, Rooted, select_by_turn, root, IsOnSide, IsRadixTree}
+use Rattle.rib_store.specs.Tree.{Shape, Empty, Rooted, select_by_turn, root, RootIsOnSide, IsRadixTree}
 use Rattle.prefix_store.specs.Stored.{Keys}
 use Rattle.rib_store.specs.Slots.{keys_in}
 use Rattle.rib_store.specs.Walks.{visit_count}
@@ -35,7 +35,7 @@ use Rattle.rib_store.proofs.DeepestLaws.{host, contains-way}
 abbrev pub AtLeast : {R : Type 0} → ℕ → Shape R → Type 0
 AtLeast n t = IfSome (root t) (λ b. n ≤ length b)
 
-on_longer : {R : Type 0} (t : Shape R) (b : List Bool) (bit : Bool) → IsOnSide b bit t → AtLeast (length b + 1) t
+on_longer : {R : Type 0} (t : Shape R) (b : List Bool) (bit : Bool) → RootIsOnSide b bit t → AtLeast (length b + 1) t
 on_longer Empty b bit on = tt
 on_longer (Rooted prefix slot l r) b bit on = omega (arith, turn_longer b (way prefix) bit on)
 
@@ -52,7 +52,7 @@ visits_le {R} (Rooted prefix slot l r) n key shaped above within =
     ] refl
 
 -- a tree of one family is left after as many nodes as the key has bits, and one
-pub visit_count-most : {R : Type 0} (t : Shape R) (bit : Bool) (key : List Bool) → IsRadixTree t → IsOnSide [] bit t → 1 ≤ length key → visit_count t key ≤ length key
+pub visit_count-most : {R : Type 0} (t : Shape R) (bit : Bool) (key : List Bool) → IsRadixTree t → RootIsOnSide [] bit t → 1 ≤ length key → visit_count t key ≤ length key
 visit_count-most t bit key shaped on some = omega (arith, visits_le t 1 key shaped (on_longer t [] bit on) some)
 
 -- ---- the nodes that are met
@@ -105,7 +105,7 @@ met (Rooted prefix slot l r) key q shaped =
 -- ---- each is met once
 
 path-on : {R : Type 0} (P : Network → Type 0) (from : List Bool) (bit : Bool) → ((n : Network) → turn_of from (way n) ≡ side bit → P n)
-    → (t : Shape R) (key : List Bool) → IsRadixTree t → IsOnSide from bit t → AllByRecursion P (path_in t key)
+    → (t : Shape R) (key : List Bool) → IsRadixTree t → RootIsOnSide from bit t → AllByRecursion P (path_in t key)
 path-on P from bit holds Empty key shaped on = tt
 path-on P from bit holds (Rooted prefix slot l r) key shaped on =
     let deeper = λ (s : Bool) (n : Network) (h : turn_of (way prefix) (way n) ≡ side s). holds n (turn_through from (way prefix) (way n) bit s on h) in

@@ -10,7 +10,7 @@ use Rattle.ip_prefix.specs.declared.turn.Turn.TheVariants.{Outside}
 use Rattle.ip_prefix.specs.Network.{Network, bits_cmp, network_cmp}
 use Rattle.ip_prefix.specs.Turns.{way, turn_of, side}
 use Rattle.octet_forms.proofs.Lists.{AllByRecursion-append}
-use Rattle.rib_store.specs.Tree.{Shape, Empty, Rooted, at, own, slots_of, slot_of, select_by_turn, same_way, AreSides, IsOnSide, IsRadixTree}
+use Rattle.rib_store.specs.Tree.{Shape, Empty, Rooted, at, own, slots_of, slot_of, select_by_turn, same_way, AreSides, RootIsOnSide, IsRadixTree}
 use Rattle.prefix_store.specs.Lookups.{is_above, above}
 use Rattle.rib_store.specs.Slots.{Slots, slot_at, routed}
 use Rattle.rib_store.specs.Walks.{first_some, first}
@@ -85,7 +85,7 @@ AllKeys-append P xs ys all more = subst (AllByRecursion P) (sym (keys_of-append 
 
 -- what holds of all that lies on a side holds of the keys of a tree there
 pub all-on : {R : Type 0} (P : Network → Type 0) (from : List Bool) (bit : Bool) → ((n : Network) → turn_of from (way n) ≡ side bit → P n)
-    → (t : Shape R) → IsRadixTree t → IsOnSide from bit t → AllByRecursion P (keys_of (slots_of t))
+    → (t : Shape R) → IsRadixTree t → RootIsOnSide from bit t → AllByRecursion P (keys_of (slots_of t))
 all-on P from bit holds Empty shaped on = tt
 all-on P from bit holds (Rooted prefix slot l r) shaped on =
     let deeper = λ (s : Bool) (n : Network) (h : turn_of (way prefix) (way n) ≡ side s). holds n (turn_through from (way prefix) (way n) bit s on h) in

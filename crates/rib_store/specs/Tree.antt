@@ -49,14 +49,14 @@ IsLeaf key (tree.Leaf other route) = other ≡ key
 IsLeaf key (tree.Forked' routed other p left right) = ⊥
 IsLeaf key (tree.Rooted' routed other p slot left right) = ⊥
 
--- the root of the tree is stored as a branch without a slot (`Forked`), and `key` is its prefix,
+-- the root of the tree is stored as a branch without a slot (`Forked`), and `prefix` is its prefix,
 -- which is no key
 abbrev pub IsFork : {K R : Type 0} → K → Tree K R → Type 0
-IsFork key tree.Empty = ⊥
-IsFork key (tree.Bare other) = ⊥
-IsFork key (tree.Leaf other route) = ⊥
-IsFork key (tree.Forked' routed other p left right) = other ≡ key
-IsFork key (tree.Rooted' routed other p slot left right) = ⊥
+IsFork prefix tree.Empty = ⊥
+IsFork prefix (tree.Bare other) = ⊥
+IsFork prefix (tree.Leaf other route) = ⊥
+IsFork prefix (tree.Forked' routed other p left right) = other ≡ prefix
+IsFork prefix (tree.Rooted' routed other p slot left right) = ⊥
 
 -- the position isn't to the left or the right below a node: it is `Outside` or `Here`
 abbrev pub IsNotBelow : Turn → Type 0
@@ -169,13 +169,13 @@ root (Rooted prefix slot left right) = Some (way prefix)
 
 -- the tree is empty, or the way of its root (the bit of the family, then those of the prefix)
 -- begins with `from` and then `bit`
-abbrev pub IsOnSide : {R : Type 0} → List Bool → Bool → Shape R → Type 0
-IsOnSide from bit tree = IfSome (root tree) (λ to. turn_of from to ≡ side bit)
+abbrev pub RootIsOnSide : {R : Type 0} → List Bool → Bool → Shape R → Type 0
+RootIsOnSide from bit tree = IfSome (root tree) (λ to. turn_of from to ≡ side bit)
 
 -- the tree is empty, or the way of its root begins with the family's bit, so that its prefix is of
 -- the family
 abbrev pub IsOnFamilySide : {R : Type 0} → Family → Shape R → Type 0
-IsOnFamilySide family = IsOnSide [] (family_bit family)
+IsOnFamilySide family = RootIsOnSide [] (family_bit family)
 
 -- the prefixes of all nodes of the tree are of the family
 abbrev pub IsOfFamily : {R : Type 0} → Family → Shape R → Type 0
@@ -184,8 +184,8 @@ IsOfFamily family (Rooted prefix slot left right) = (prefix.family ≡ family) �
 
 -- the two trees are on the left and on the right below the end of the way `from`
 pub record AreSides {R : Type 0} (from : List Bool) (l r : Shape R) : Type 0 where
-  pub left : IsOnSide from false l
-  pub right : IsOnSide from true r
+  pub left : RootIsOnSide from false l
+  pub right : RootIsOnSide from true r
 
 -- a node with this slot and these children is a key (`slot` isn't `None`), or has two children:
 -- neither tree is empty

@@ -3,7 +3,7 @@
 
 ghost use Rattle.std.specs.Prelude.{◌≡◌, None, List, Bool};
 ghost use Rattle.ip_prefix.specs.Turns.{way};
-ghost use Rattle.rib_store.specs.Tree.{shape_of, IsLeaf, HasCorrectMarks, at, IsOnSide, IsRadixTree, IsRadixTreeBelowRoot, IsUpdatedAt};
+ghost use Rattle.rib_store.specs.Tree.{shape_of, IsLeaf, HasCorrectMarks, at, RootIsOnSide, IsRadixTree, IsRadixTreeBelowRoot, IsUpdatedAt};
 
 use crate::tree::{KeySlot, Tree};
 use ip_prefix::{Prefix, Turn};
@@ -22,8 +22,8 @@ impl<K: PackedPrefix, R: Drop> Tree<K, R> {
         ensures slots { IsUpdatedAt (at (shape_of K.network self.old)) (way key.now) None
             (at (shape_of K.network self.new)) }
         ensures sides { (from : List Bool) (bit : Bool) →
-            IsOnSide from bit (shape_of K.network self.old) →
-            IsOnSide from bit (shape_of K.network self.new) }
+            RootIsOnSide from bit (shape_of K.network self.old) →
+            RootIsOnSide from bit (shape_of K.network self.new) }
     {
         match self {
             Tree::Empty => {}
@@ -71,8 +71,8 @@ fn discard_leaf<K: PackedPrefix, R: Drop>(tree: &mut Tree<K, R>, prefix: K, key:
     ensures slots { IsUpdatedAt (at (shape_of K.network tree.old)) (way key.now) None
         (at (shape_of K.network tree.new)) }
     ensures sides { (from : List Bool) (bit : Bool) →
-        IsOnSide from bit (shape_of K.network tree.old)
-        → IsOnSide from bit (shape_of K.network tree.new) }
+        RootIsOnSide from bit (shape_of K.network tree.old)
+        → RootIsOnSide from bit (shape_of K.network tree.new) }
 {
     if let Turn::Here = prefix.turn(key) {
         *tree = Tree::Empty;
@@ -90,8 +90,8 @@ fn drop_needless_root<K: PackedPrefix, R: Drop>(tree: &mut Tree<K, R>)
     ensures slots { (q : List Bool) → at (shape_of K.network tree.new) q
         ≡ at (shape_of K.network tree.old) q }
     ensures sides { (from : List Bool) (bit : Bool) →
-        IsOnSide from bit (shape_of K.network tree.old)
-        → IsOnSide from bit (shape_of K.network tree.new) }
+        RootIsOnSide from bit (shape_of K.network tree.old)
+        → RootIsOnSide from bit (shape_of K.network tree.new) }
 {
     match tree {
         Tree::Rooted(_, _, node) => {

@@ -5,7 +5,7 @@ use Rattle.bgp_wire.specs.declared.framing.TheConstants.{MP_REACH_NLRI}
 use Rattle.bgp_wire.specs.Attribute.{SpellsAttribute, first_value, repeats, SpellsOptional}
 use Rattle.bgp_wire.specs.Content.{SpellsRibAttrs}
 use Rattle.bgp_wire.specs.PlainValues.{lent_octets, SpellsUnmergedAttrs}
-use Rattle.bgp_wire.specs.Reach.{SpellsRibHop}
+use Rattle.bgp_wire.specs.Reach.{SpellsRibHopInEitherForm}
 use Rattle.bgp_wire.proofs.OneAttribute.{attribute_code}
 use Rattle.bgp_wire.proofs.Plainly.{rib_plainly}
 use Rattle.bgp_paths.proofs.Refusing.{refused_on}
@@ -32,10 +32,10 @@ returns-in_err-choose_rib_next_hop-clause-refused c =
     let Whole = SpellsRibAttrs c.args.family c.args.width in
     let read = c.in_ok-read_attribute_list.ensures.read in
     let value = lent_octets c.read_attribute_list.new.later.reach in
-    refused_on Whole (SpellsOptional SpellsRibHop) octets value Malformed c.from_residual-in_err-choose_rib_next_hop.result c.from_residual-in_err-choose_rib_next_hop.ensures.1
+    refused_on Whole (SpellsOptional SpellsRibHopInEitherForm) octets value Malformed c.from_residual-in_err-choose_rib_next_hop.result c.from_residual-in_err-choose_rib_next_hop.ensures.1
     (λ attrs s. (
       s.hop_said.reached,
-      subst (SpellsOptional SpellsRibHop s.hop_said.reached)
+      subst (SpellsOptional SpellsRibHopInEitherForm s.hop_said.reached)
           (ap (first_value MP_REACH_NLRI) (one_list SpellsAttribute attribute_code octets s.list read.list s.spelled read.spelled) ∙ sym read.values.reach) s.hop_said.reached_spelled,
     ))
     c.in_err-choose_rib_next_hop.ensures.refused

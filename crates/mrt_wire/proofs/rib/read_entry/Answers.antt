@@ -1,6 +1,6 @@
 use Rattle.std.proofs.Common.{sym, subst}
 use Rattle.std.proofs.lemmas.Result.{err_from_is_err_and}
-use Rattle.bgp_wire.specs.Readers.{RefusesFront}
+use Rattle.bgp_wire.specs.Readers.{MayRefuseFront}
 use Rattle.mrt_wire.specs.Rib.{SpellsEntry}
 use Rattle.mrt_wire.proofs.ReadingLaws.{refused_front}
 use Rattle.mrt_wire.proofs.RibLaws.{entry_fields, refused_attrs}
@@ -21,5 +21,5 @@ returns-in_err-route-clause-refused c =
     let f = c.in_ok-framed.framed in
     let p = err_from_is_err_and c.from_residual-in_err-route.result c.from_residual-in_err-route.ensures.1 in
     rw p.1
-    (subst (RefusesFront (SpellsEntry family) octets) (sym p.2)
+    (subst (MayRefuseFront (SpellsEntry family) octets) (sym p.2)
     (refused_attrs family f.index f.time f.attributes.now f.rest.now octets c.in_err-route.field-0.0 (rw c.in_ok-framed.ensures.ok_part at c.split_entry_fields.ensures.some) c.in_err-route.ensures.refused))

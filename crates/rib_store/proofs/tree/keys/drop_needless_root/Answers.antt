@@ -2,7 +2,7 @@ use Rattle.std.proofs.Common.{◌≡◌, true, false, None, refl, sym, ap, subst
 use Rattle.ip_prefix.specs.Turns.{way}
 use Rattle.rib_store.specs.declared.tree.KeySlot.TheVariants.{NoKey}
 use Rattle.rib_store.specs.declared.tree.Tree.TheVariants as tree
-use Rattle.rib_store.specs.Tree.{Rooted, shape_of, HasCorrectMarks, at, slot_of, IsOnSide, IsRadixTree, IsRadixTreeBelowRoot, IsKeyOrFork}
+use Rattle.rib_store.specs.Tree.{Rooted, shape_of, HasCorrectMarks, at, slot_of, RootIsOnSide, IsRadixTree, IsRadixTreeBelowRoot, IsKeyOrFork}
 use Rattle.rib_store.proofs.TreeLaws.{on_below}
 use Rattle.rib_store.proofs.ChangeLaws.{join_left, join_right}
 use Rattle.rib_store.proofs.ShapeLaws.{not_empty}
@@ -27,7 +27,7 @@ returns-in-Empty-clause-sides g c = λ from bit on.
     let prefix = net c.in-Rooted.field-1 in
     let shaped : IsRadixTreeBelowRoot (Rooted prefix n.slot (shape_of net n.left) (shape_of net n.right)) = subst (λ t. IsRadixTreeBelowRoot (shape_of net t)) c.in-Rooted.is c.requires.shaped in
     let child : c.replace-child.result ≡ n.right = cc in
-    on_below (shape_of net c.replace-child.result) from (way prefix) bit true (subst (λ t. IsOnSide from bit (shape_of net t)) c.in-Rooted.is on) (subst (λ t. IsOnSide (way prefix) true (shape_of net t)) (sym child) shaped.0.right)
+    on_below (shape_of net c.replace-child.result) from (way prefix) bit true (subst (λ t. RootIsOnSide from bit (shape_of net t)) c.in-Rooted.is on) (subst (λ t. RootIsOnSide (way prefix) true (shape_of net t)) (sym child) shaped.0.right)
 
 pub returns-in-Empty-right : goal.returns-in-Empty-right
 returns-in-Empty-right g c =
@@ -43,7 +43,7 @@ returns-in-Empty-right g c =
       marked = subst HasCorrectMarks (sym child) (subst HasCorrectMarks c.in-Rooted.is c.requires.marked).1;
       slots = λ q. join_left prefix (shape_of net n.left) (shape_of net n.right) (shape_of net c.replace-child-in-Empty-right.result) (slot_of n.slot) (ap slot_of slot) (ap (shape_of net) right) (ap (shape_of net) child) shaped.0.left q
           ∙ sym (ap (λ x. at (shape_of net x) q) c.in-Rooted.is);
-      sides = λ from bit on. on_below (shape_of net c.replace-child-in-Empty-right.result) from (way prefix) bit false (subst (λ t. IsOnSide from bit (shape_of net t)) c.in-Rooted.is on) (subst (λ t. IsOnSide (way prefix) false (shape_of net t)) (sym child) shaped.0.left);
+      sides = λ from bit on. on_below (shape_of net c.replace-child-in-Empty-right.result) from (way prefix) bit false (subst (λ t. RootIsOnSide from bit (shape_of net t)) c.in-Rooted.is on) (subst (λ t. RootIsOnSide (way prefix) false (shape_of net t)) (sym child) shaped.0.left);
     }
 
 pub returns-in_default-right : goal.returns-in_default-right
@@ -59,7 +59,7 @@ returns-in_default-right g c =
       shaped = (shaped.0, subst (λ s. IsKeyOrFork (slot_of s) (shape_of net n.left) (shape_of net n.right)) (sym slot) (not_empty net n.left left, not_empty net n.right right), shaped.1, shaped.2);
       marked = subst HasCorrectMarks c.in-Rooted.is c.requires.marked;
       slots = λ q. sym (ap (λ x. at (shape_of net x) q) c.in-Rooted.is);
-      sides = λ from bit on. subst (λ t. IsOnSide from bit (shape_of net t)) c.in-Rooted.is on;
+      sides = λ from bit on. subst (λ t. RootIsOnSide from bit (shape_of net t)) c.in-Rooted.is on;
     }
 
 -- ---- the same of a branch
@@ -82,7 +82,7 @@ returns-in-Empty-left-clause-sides g c = λ from bit on.
     let prefix = net c.in-Forked.field-1 in
     let shaped : IsRadixTreeBelowRoot (Rooted prefix NoKey (shape_of net n.left) (shape_of net n.right)) = subst (λ t. IsRadixTreeBelowRoot (shape_of net t)) c.in-Forked.is c.requires.shaped in
     let child : c.replace-child-in-Empty-left.result ≡ n.right = cc in
-    on_below (shape_of net c.replace-child-in-Empty-left.result) from (way prefix) bit true (subst (λ t. IsOnSide from bit (shape_of net t)) c.in-Forked.is on) (subst (λ t. IsOnSide (way prefix) true (shape_of net t)) (sym child) shaped.0.right)
+    on_below (shape_of net c.replace-child-in-Empty-left.result) from (way prefix) bit true (subst (λ t. RootIsOnSide from bit (shape_of net t)) c.in-Forked.is on) (subst (λ t. RootIsOnSide (way prefix) true (shape_of net t)) (sym child) shaped.0.right)
 
 pub returns-in-Empty-right-2 : goal.returns-in-Empty-right-2
 returns-in-Empty-right-2 g c =
@@ -97,5 +97,5 @@ returns-in-Empty-right-2 g c =
       marked = subst HasCorrectMarks (sym child) (subst HasCorrectMarks c.in-Forked.is c.requires.marked).1;
       slots = λ q. join_left prefix (shape_of net n.left) (shape_of net n.right) (shape_of net c.replace-child-in-Empty-right-2.result) None refl (ap (shape_of net) right) (ap (shape_of net) child) shaped.0.left q
           ∙ sym (ap (λ x. at (shape_of net x) q) c.in-Forked.is);
-      sides = λ from bit on. on_below (shape_of net c.replace-child-in-Empty-right-2.result) from (way prefix) bit false (subst (λ t. IsOnSide from bit (shape_of net t)) c.in-Forked.is on) (subst (λ t. IsOnSide (way prefix) false (shape_of net t)) (sym child) shaped.0.left);
+      sides = λ from bit on. on_below (shape_of net c.replace-child-in-Empty-right-2.result) from (way prefix) bit false (subst (λ t. RootIsOnSide from bit (shape_of net t)) c.in-Forked.is on) (subst (λ t. RootIsOnSide (way prefix) false (shape_of net t)) (sym child) shaped.0.left);
     }
