@@ -102,8 +102,8 @@ with_value kind octets first wanted = value_or (first wanted) (value_at kind oct
 -- `New` holds of a list with one attribute more at its end, of type `kind` and value `octets`, if `Old` holds
 -- of the list without it, which has none of `kind` if that is below `KINDS`. Both are of `first_values`, by
 -- type the value of the first attribute
-abbrev pub HoldsWithValue : ℕ → List ℕ → (FirstValues → Type 0) → (FirstValues → Type 0) → Type 0
-HoldsWithValue kind octets Old New = (first : FirstValues) → (kind < KINDS → first kind ≡ None) → Old first → New (with_value kind octets first)
+abbrev pub AddingGives : ℕ → List ℕ → (FirstValues → Type 0) → (FirstValues → Type 0) → Type 0
+AddingGives kind octets Old New = (first : FirstValues) → (kind < KINDS → first kind ≡ None) → Old first → New (with_value kind octets first)
 
 -- `new` is the content, before AS4_PATH and AS4_AGGREGATOR are merged, of any list with these types of which
 -- `old` is the content but for a path or communities left over where the list has no AS_PATH or COMMUNITIES;

@@ -4,7 +4,7 @@
 
 ghost use Rattle.std.specs.Prelude.{◌≡◌, ◌<◌, [], Some, OnOk, OnErr, IfErr};
 ghost use Rattle.bgp_wire.specs.declared.framing.TheConstants.{KINDS};
-ghost use Rattle.bgp_wire.specs.PlainValues.{HoldsWithValue, ClearsAbsentLists, AreDeferredValuesOf, ReadSoFar, AreUnmergedAttrsOf, SpellsUnmergedAttrs, ReadsList, AreTypesOf};
+ghost use Rattle.bgp_wire.specs.PlainValues.{AddingGives, ClearsAbsentLists, AreDeferredValuesOf, ReadSoFar, AreUnmergedAttrsOf, SpellsUnmergedAttrs, ReadsList, AreTypesOf};
 ghost use Rattle.bgp_wire.specs.Content.{FirstValues, first_values};
 ghost use Rattle.bgp_paths.specs.Readers.{Refuses};
 
@@ -58,7 +58,7 @@ fn read_attribute<'a>(
     attrs: &mut Attrs,
     later: &mut DeferredValues<'a>,
 ) -> Result<(), WireFault>
-    ensures read { OnOk result (HoldsWithValue framed.entry.kind framed.entry.value.now
+    ensures read { OnOk result (AddingGives framed.entry.kind framed.entry.value.now
         (ReadSoFar width attrs.old later.old) (ReadSoFar width attrs.new later.new)) }
     ensures refused { IfErr result (λ fault. (first : FirstValues) →
         first framed.entry.kind ≡ Some framed.entry.value.now →

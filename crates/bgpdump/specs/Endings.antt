@@ -30,8 +30,8 @@ HoldsForWriters contents contents' IsSo writers = IfSome writers (λ both. IsSo 
 -- `Relates` holds between what the two writers had got before the run, as `devices` has them, and what they have got
 -- after it, as `ended` has them; `contents` and `contents'` give the octets of each. True if the run gives no writers
 -- back.
-abbrev pub Leaves : {R O E : Type 0} → (O → Option (List ℕ)) → (E → Option (List ℕ)) → (Outputs → Outputs → Type 0) → Devices R O E → FinishedRun R O E → Type 0
-Leaves contents contents' Relates devices ended = HoldsForWriters contents contents' (Relates (outputs_of contents contents' devices.out devices.err)) ended.writers
+abbrev pub RelatesWriters : {R O E : Type 0} → (O → Option (List ℕ)) → (E → Option (List ℕ)) → (Outputs → Outputs → Type 0) → Devices R O E → FinishedRun R O E → Type 0
+RelatesWriters contents contents' Relates devices ended = HoldsForWriters contents contents' (Relates (outputs_of contents contents' devices.out devices.err)) ended.writers
 
 -- The octets that the two outputs of a run have got, and after them those that are still in their buffers; `contents`
 -- and `contents'` give what the writer of each has got, `None` where it isn't known.
@@ -64,11 +64,11 @@ HoldsForInput remaining Relates reader input = IfSome input (λ input. Relates (
 abbrev pub LeavesTexts : {R O E : Type 0} → (R → Option (List ℕ)) → (O → Option (List ℕ)) → (E → Option (List ℕ)) → Stamp → (List RecordResult → Texts) → Devices R O E → FinishedRun R O E → Type 0
 LeavesTexts remaining contents contents' stamp texts devices ended =
     (octets : List ℕ) (frames : List Frame) (rest : List ℕ) → remaining devices.reader ≡ Some octets → Splits stamp None octets frames rest
-    → Leaves contents contents' (EndsWithTexts ended.outcome (texts (all_results stamp frames rest))) devices ended
+    → RelatesWriters contents contents' (EndsWithTexts ended.outcome (texts (all_results stamp frames rest))) devices ended
 
--- Writers that had got nothing before the run hold what `texts` gives for all results of `octets`, or prefixes of it,
--- as `EndsWithTexts` says for the run's outcome, and nothing else; `contents` and `contents'` give what each writer
--- holds. True if the run gives no writers back.
+-- Each writer that the run gives back holds exactly this, if it was empty before: what `texts` gives for it over all
+-- results of `octets`, or a prefix of that, as `EndsWithTexts` says for the run's outcome. `contents` and `contents'`
+-- give what each writer holds. True if the run gives no writers back.
 abbrev pub WritersHoldTexts : {R O E : Type 0} → (O → Option (List ℕ)) → (E → Option (List ℕ)) → Stamp → (List RecordResult → Texts) → List ℕ → FinishedRun R O E → Type 0
 WritersHoldTexts contents contents' stamp texts octets ended =
     (frames : List Frame) (rest : List ℕ) → Splits stamp None octets frames rest
@@ -80,7 +80,7 @@ WritersHoldTexts contents contents' stamp texts octets ended =
 abbrev pub LeavesWholeRecords : {R O E : Type 0} → (R → Option (List ℕ)) → (O → Option (List ℕ)) → (E → Option (List ℕ)) → Stamp → (List RecordResult → Texts) → Devices R O E → FinishedRun R O E → Type 0
 LeavesWholeRecords remaining contents contents' stamp texts devices ended =
     EndedByInputFault ended.outcome
-    → HoldsForInput remaining (λ left left_after. HoldsForTaken stamp left left_after (λ frames rest. Leaves contents contents' (Writes (texts (all_results stamp frames []))) devices ended))
+    → HoldsForInput remaining (λ left left_after. HoldsForTaken stamp left left_after (λ frames rest. RelatesWriters contents contents' (Writes (texts (all_results stamp frames []))) devices ended))
     devices.reader ended.input
 
 -- If `script` has at most `LONGEST_SCRIPT` octets, writers that had got nothing before the run hold what the script's

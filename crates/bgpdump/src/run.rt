@@ -6,7 +6,7 @@ ghost use Rattle.std.specs.Io.Buffered.{writer_contents};
 ghost use Rattle.std.specs.Io.KnownBytes.{Consumes, Keeps};
 ghost use Rattle.bgpdump_tool.specs.Course.{HoldsForLines, texts_before_input_fault, play_texts};
 ghost use Rattle.bgpdump_tool.specs.Run.{dump_texts, outputs_of};
-ghost use Rattle.bgpdump.specs.Endings.{outcome_without_writers, HoldsForInput, Leaves, LeavesTexts, LeavesWholeRecords, TookInputLimit, KeepsBoth, HoldsForWriters, buffered_outputs, has_failed};
+ghost use Rattle.bgpdump.specs.Endings.{outcome_without_writers, HoldsForInput, RelatesWriters, LeavesTexts, LeavesWholeRecords, TookInputLimit, KeepsBoth, HoldsForWriters, buffered_outputs, has_failed};
 
 use crate::files::outcome_of_setup_error;
 use bgpdump_tool::{BufferedOutput, LONGEST_SCRIPT, Outcome, Output, run_dump, run_play};
@@ -139,7 +139,7 @@ pub fn play<R: Read + Drop, O: Write + Drop, E: Write + Drop>(
     ensures script_too_long { LONGEST_SCRIPT < length script.now →
         IfSome result.writers (λ writers. result.outcome ≡ Outcome.ScriptTooLong) }
     ensures untouched { LONGEST_SCRIPT < length script.now →
-        Leaves O.contents E.contents KeepsBoth devices result }
+        RelatesWriters O.contents E.contents KeepsBoth devices result }
 
     // Which runs end with a read fault, which don't begin, and which leave no writers.
     ensures read_fault { result.outcome ≡ Outcome.ReadFault → IfSome result.input has_failed }

@@ -10,7 +10,7 @@ use Rattle.mrt_wire.specs.declared.next.Phase.{Phase}
 use Rattle.mrt_wire.specs.declared.next.Phase.TheVariants.{Reading, Ended, Spent}
 use Rattle.mrt_wire.specs.Results.{Frame, Splits, spellings, RecordResult, SourceState, start_state, results, TakesFront}
 use Rattle.mrt_wire.specs.Record.{rest_fault_kind, IsRest, IsUnfinished}
-use Rattle.mrt_wire.specs.Answered.{IsUndecided, HasAnswered, RestSoFar}
+use Rattle.mrt_wire.specs.Answered.{IsUndecided, HasAnswered, MayBeRestIn}
 use Rattle.mrt_wire.specs.Taken.{MayFailAt}
 use Rattle.mrt_wire.proofs.FirstLaws.{same_taken}
 use Rattle.mrt_frames.proofs.RecordLaws.{BeginsWithNoRecord-short}
@@ -26,7 +26,7 @@ use Rattle.bgpdump_lines.specs.WrittenSoFar.{outcome_of_source_fault, TookWithou
 pub rest_so_far : (p q : SourceState) (left left' : Option (List ℕ)) (found : List RecordResult) → (s : HasAnswered p q left left' found) → IsRest s.rest
 rest_so_far p q left left' found s = by_phase q.phase s.rest_is
   where
-    by_phase : (phase : Phase) → RestSoFar phase left' s.rest → IsRest s.rest
+    by_phase : (phase : Phase) → MayBeRestIn phase left' s.rest → IsRest s.rest
     by_phase Reading none = subst IsRest (sym none) (record { none = BeginsWithNoRecord-short [] (omega arith); stops = inl refl })
     by_phase Ended ends = ends.rest
     by_phase Spent none = absurd none

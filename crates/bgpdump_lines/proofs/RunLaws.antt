@@ -10,8 +10,8 @@ use Rattle.mrt_wire.specs.declared.next.Phase.TheVariants.{Reading, Ended, Spent
 use Rattle.mrt_wire.specs.Taken.{MayFailAt}
 use Rattle.mrt_wire.specs.declared.RecordKind.{RecordKind}
 use Rattle.mrt_wire.specs.declared.RecordFault.{RecordFault}
-use Rattle.mrt_wire.specs.Results.{RecordResult, Found, Bad, fault_results, SourceState}
-use Rattle.mrt_wire.specs.Answered.{answer_results, NextReturns, HasAnswered, RestSoFar, is_nothing}
+use Rattle.mrt_wire.specs.Results.{RecordResult, Found, Bad, fault_if_any, SourceState}
+use Rattle.mrt_wire.specs.Answered.{answer_results, NextReturns, HasAnswered, MayBeRestIn, is_nothing}
 use Rattle.mrt_wire.proofs.SoFarLaws.{no_rest, HasAnswered-start, HasAnswered-answer, ends_with_none, Promises}
 use Rattle.bgpdump_lines.specs.declared.fault.WriteFault.{WriteFault}
 use Rattle.bgpdump_lines.specs.declared.fault.WriteFault.TheVariants.{Write, Memory}
@@ -107,7 +107,7 @@ TookUntilSourceFault-behind p q q' left left' left'' found fault s promised ende
       full = subst (λ n. MayFailAt fault n p.limit) (ap (λ x. x.offset) place) (subst (λ n. MayFailAt fault q'.offset n) s.limit stops);
     }
 
-    by_phase : (phase : Phase) → q.phase ≡ phase → RestSoFar phase left' s.rest → TookUntilSourceFault p left left'' found fault
+    by_phase : (phase : Phase) → q.phase ≡ phase → MayBeRestIn phase left' s.rest → TookUntilSourceFault p left left'' found fault
     by_phase Reading is rest = at is (promised is)
     by_phase Ended is rest = absurd (clash (ended is))
       where
@@ -145,7 +145,7 @@ told_reading p q q' left left' left'' found answer s promised some = by_phase q.
     none : true ≡ false → ⊥
     none e = cc
 
-    by_phase : (phase : Phase) → q.phase ≡ phase → RestSoFar phase left' s.rest → q.phase ≡ Reading
+    by_phase : (phase : Phase) → q.phase ≡ phase → MayBeRestIn phase left' s.rest → q.phase ≡ Reading
     by_phase Reading is rest = is
     by_phase Ended is rest = absurd (none (sym (ap is_nothing (promised.1 is).0) ∙ some))
     by_phase Spent is rest = absurd rest
@@ -173,7 +173,7 @@ Stops-writing p q q' left left' left'' a b c reported answer Memory g promised s
     let stop = Stops-fronts p q q' left left' left'' a b c reported answer g promised fronts within in
     inr (stop, no_rest p q' left left'' stop.found stop.so_far (by_answer reading (promised.0 reading)))
   where
-    by_findings : (found : List RecordResult) (number offset : ℕ) (kind : Option RecordKind) → found ≡ Found event ∷ [] → found ≡ fault_results number offset kind → ⊥
+    by_findings : (found : List RecordResult) (number offset : ℕ) (kind : Option RecordKind) → found ≡ Found event ∷ [] → found ≡ fault_if_any number offset kind → ⊥
     by_findings found number offset None e f = clash (sym e ∙ f)
       where
         clash : ◌≡◌ {A = List RecordResult} (Found event ∷ []) [] → ⊥

@@ -87,8 +87,8 @@ abbrev pub prefix_at : FieldOffsets → List ℕ → List ℕ
 prefix_at offsets text = slice_range text offsets.front offsets.tail
 
 -- The octets of a text from the end of a line's prefix, by the offsets of its fields, up to the end of the text.
-abbrev pub tail_at : FieldOffsets → List ℕ → List ℕ
-tail_at offsets text = drop offsets.tail text
+abbrev pub after_prefix_at : FieldOffsets → List ℕ → List ℕ
+after_prefix_at offsets text = drop offsets.tail text
 
 -- The text has these fields at `offsets`: `head_text`, the first three of a line; `front_text`, all before the bar
 -- ahead of its prefix; `prefix_text`, that bar and the prefix; and `tail_text`, all after it up to the end of the
@@ -98,12 +98,12 @@ pub record HasFieldsAt (text head_text front_text prefix_text tail_text : List �
   pub head : head_at offsets text ≡ head_text
   pub front : front_at offsets text ≡ front_text
   pub prefix : prefix_at offsets text ≡ prefix_text
-  pub tail : tail_at offsets text ≡ tail_text
+  pub tail : after_prefix_at offsets text ≡ tail_text
 
 -- `text` ends in the line under `heading` of the announcement of `line` (its peer, prefix and route), whose fields
 -- are at the offsets of `line`.
-abbrev pub EndsInLine : Heading → LastLine → List ℕ → Type 0
-EndsInLine heading line text =
+abbrev pub EndsInLineUnder : Heading → LastLine → List ℕ → Type 0
+EndsInLineUnder heading line text =
     HasFieldsAt text (first_three_fields heading line.announcement.route.now) (fields_before_prefix heading line.announcement.peer.now line.announcement.route.now)
     (prefix_field line.announcement.prefix.now) (fields_after_prefix line.announcement.route.now) line.offsets
 
@@ -111,4 +111,4 @@ EndsInLine heading line text =
 pub record EndsInLineOfRoute (heading : Heading) (peer : Peer) (route : Route) (offsets : FieldOffsets) (text : List ℕ) : Type 0 where
   pub ordered : AreOffsetsOrdered offsets text
   pub front : front_at offsets text ≡ fields_before_prefix heading peer route
-  pub tail : tail_at offsets text ≡ fields_after_prefix route
+  pub tail : after_prefix_at offsets text ≡ fields_after_prefix route

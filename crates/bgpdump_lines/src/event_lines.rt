@@ -7,7 +7,7 @@ ghost use Rattle.std.specs.Prelude.{◌≡◌, ◌++◌, ◌∷◌, [], map, All
 ghost use Rattle.mrt_events.specs.Event.{Announced, item_value};
 ghost use Rattle.mrt_events.specs.SharedRoute.{Announces, AnnounceOneRoute};
 ghost use Rattle.bgpdump_lines.specs.Lines.{event_lines};
-ghost use Rattle.bgpdump_lines.specs.Heading.{line_under_heading, lines_under_heading, EndsInLine, EndsInLineOfRoute};
+ghost use Rattle.bgpdump_lines.specs.Heading.{line_under_heading, lines_under_heading, EndsInLineUnder, EndsInLineOfRoute};
 ghost use Rattle.bgpdump_lines.specs.WrittenSoFar.{Prints};
 
 use crate::fields::{put_peer_fields, put_prefix_field, put_u32_field};
@@ -33,11 +33,11 @@ pub(crate) fn put_item_line<'a>(
     last: Option<LastLine<'a>>,
     text: &mut Text,
 ) -> Result<Option<LastLine<'a>>, AllocError>
-    requires { IfSome last (λ line. EndsInLine heading.now line text.old) }
+    requires { IfSome last (λ line. EndsInLineUnder heading.now line text.old) }
     ensures printed { Prints text.old text.new
         (line_under_heading heading.now (item_value item.now)) result }
     ensures last { IfOk result (λ last. IfSome last
-        (λ line. EndsInLine heading.now line text.new)) }
+        (λ line. EndsInLineUnder heading.now line text.new)) }
 {
     match item {
         Item::Announce(peer, prefix, route) => {

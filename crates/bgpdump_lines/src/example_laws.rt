@@ -7,7 +7,7 @@ ghost use Rattle.std.specs.Prelude.{◌≡◌, [], ◌∷◌, None, codes};
 ghost use Rattle.mrt_events.specs.declared.stamp.Stamp.{Stamp};
 ghost use Rattle.mrt_events.specs.declared.stamp.Stamp.TheVariants.{Dump, Change};
 ghost use Rattle.mrt_wire.specs.Results.{Splits};
-ghost use Rattle.bgpdump_lines.specs.Examples.{state_change_octets, state_change_frame, timed_state_change_octets, timed_state_change_frame, message_octets, message_frame, message_lines, table_octets, table_frames, table_dump_octets, table_dump_frame, as4_table_dump_octets, as4_table_dump_frame, as4_line, cut_octets, faulty_octets, faulty_frames, faulty_reports, too_long_octets, only_lines, only_reports};
+ghost use Rattle.bgpdump_lines.specs.Examples.{state_change_octets, state_change_frame, timed_state_change_octets, timed_state_change_frame, message_octets, message_frame, message_lines, table_octets, table_frames, table_dump_octets, table_dump_frame, as4_table_dump_octets, as4_table_dump_frame, as4_table_dump_line, cut_octets, faulty_input, faulty_frames, faulty_reports, too_long_octets, only_lines, only_reports};
 ghost use Rattle.bgpdump_lines.specs.Ipv6Example.{ipv6_message_octets, ipv6_message_frame, ipv6_message_lines};
 ghost use Rattle.bgpdump_lines.specs.Run.{all_results, dump_texts};
 
@@ -85,7 +85,7 @@ pub fn law_example_as4_path()
     ensures split { (stamp : Stamp) →
         Splits stamp None as4_table_dump_octets (as4_table_dump_frame stamp ∷ []) [] }
     ensures dump { dump_texts (all_results Dump (as4_table_dump_frame Dump ∷ []) [])
-        ≡ only_lines as4_line }
+        ≡ only_lines as4_table_dump_line }
 {}
 
 /// States the report printed for an example, a BGP4MP_STATE_CHANGE record without its last octet:
@@ -113,7 +113,7 @@ pub fn law_example_too_long()
 /// this table doesn't have, and a state change without its last octet. Their octets are six whole
 /// records and an incomplete one. A theorem: the function has no code.
 pub fn law_example_faulty_records()
-    ensures split { (stamp : Stamp) → Splits stamp None faulty_octets faulty_frames cut_octets }
+    ensures split { (stamp : Stamp) → Splits stamp None faulty_input faulty_frames cut_octets }
     ensures texts { (stamp : Stamp) → dump_texts (all_results stamp faulty_frames cut_octets)
         ≡ record { out = codes "BGP4MP|100|STATE|192.0.2.1|64500|6|1\n"; err = faulty_reports } }
 {}

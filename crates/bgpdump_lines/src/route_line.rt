@@ -4,7 +4,7 @@
 
 ghost use Rattle.std.specs.Prelude.{◌≡◌, ◌≤◌, ◌++◌, take, length, IfOk, IfSome};
 ghost use Rattle.mrt_events.specs.Event.{Announced};
-ghost use Rattle.bgpdump_lines.specs.Heading.{peer_fields, prefix_field, fields_after_prefix, line_under_heading, AreOffsetsOrdered, HasFieldsAt, EndsInLine, head_at, front_at, prefix_at, tail_at};
+ghost use Rattle.bgpdump_lines.specs.Heading.{peer_fields, prefix_field, fields_after_prefix, line_under_heading, AreOffsetsOrdered, HasFieldsAt, EndsInLineUnder, head_at, front_at, prefix_at, after_prefix_at};
 ghost use Rattle.bgpdump_lines.specs.CachedLines.{HoldsPrefixOf};
 ghost use Rattle.bgpdump_lines.specs.CachedStarts.{start_octets, BeginsLinesOf, HasFieldsByCached};
 ghost use Rattle.bgpdump_lines.specs.WrittenSoFar.{Prints};
@@ -66,7 +66,7 @@ pub(crate) fn put_whole_route_line(
         (Announced announcement.entry.peer.now announcement.entry.prefix.now
         announcement.entry.route.now)) result }
     ensures last { IfOk result (λ offsets.
-        EndsInLine heading.now (record { announcement = announcement.entry; offsets = offsets })
+        EndsInLineUnder heading.now (record { announcement = announcement.entry; offsets = offsets })
         text.new) }
 {
     let start = text.len();
@@ -96,10 +96,10 @@ pub(crate) fn repeat_with_prefix(
 ) -> Result<FieldOffsets, AllocError>
     requires { AreOffsetsOrdered last text.old }
     ensures printed { Prints text.old text.new
-        (front_at last text.old ++ (prefix_field prefix.now ++ tail_at last text.old)) result }
+        (front_at last text.old ++ (prefix_field prefix.now ++ after_prefix_at last text.old)) result }
     ensures parts { IfOk result (HasFieldsAt text.new
         (head_at last text.old) (front_at last text.old)
-        (prefix_field prefix.now) (tail_at last text.old)) }
+        (prefix_field prefix.now) (after_prefix_at last text.old)) }
 {
     let start = text.len();
     text.extend_from_within(last.start, last.front)?;
@@ -160,7 +160,7 @@ pub(crate) fn prefixless_last_line(text: &Text, last: FieldOffsets) -> Prefixles
     ensures within { result.head ≤ length result.front.now }
     ensures head { take result.head result.front.now ≡ head_at last text.now }
     ensures front { result.front.now ≡ front_at last text.now }
-    ensures tail { result.tail.now ≡ tail_at last text.now }
+    ensures tail { result.tail.now ≡ after_prefix_at last text.now }
 {
     let octets = text.as_slice();
     PrefixlessLine {
@@ -260,12 +260,12 @@ pub(crate) fn put_route_line<'a>(
     last: Option<LastLine<'a>>,
     text: &mut Text,
 ) -> Result<LastLine<'a>, AllocError>
-    requires { IfSome last (λ line. EndsInLine heading.now line text.old) }
+    requires { IfSome last (λ line. EndsInLineUnder heading.now line text.old) }
     ensures printed { Prints text.old text.new (line_under_heading heading.now
         (Announced announcement.entry.peer.now announcement.entry.prefix.now
         announcement.entry.route.now)) result }
     ensures announcement { IfOk result (λ line. line.announcement ≡ announcement.entry) }
-    ensures last { IfOk result (λ line. EndsInLine heading.now line text.new) }
+    ensures last { IfOk result (λ line. EndsInLineUnder heading.now line text.new) }
 {
     let offsets = match last {
         Some(line)

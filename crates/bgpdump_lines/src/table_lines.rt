@@ -4,7 +4,7 @@
 
 ghost use Rattle.std.specs.Prelude.{◌≡◌, IfOk, IfSome};
 ghost use Rattle.mrt_events.specs.Event.{Announced, item_value};
-ghost use Rattle.bgpdump_lines.specs.Heading.{line_under_heading, EndsInLine};
+ghost use Rattle.bgpdump_lines.specs.Heading.{line_under_heading, EndsInLineUnder};
 ghost use Rattle.bgpdump_lines.specs.CachedLines.{IsTableHeading};
 ghost use Rattle.bgpdump_lines.specs.WrittenSoFar.{Prints};
 
@@ -37,11 +37,11 @@ fn put_and_cache<'a>(
 ) -> Result<LastLine<'a>, AllocError>
     requires tables { IsTableHeading heading.now }
     requires same { route.now.value ≡ announcement.route.now }
-    requires last { IfSome last (λ line. EndsInLine heading.now line text.old) }
+    requires last { IfSome last (λ line. EndsInLineUnder heading.now line text.old) }
     ensures printed { Prints text.old text.new (line_under_heading heading.now
         (Announced announcement.entry.peer.now announcement.entry.prefix.now
         announcement.entry.route.now)) result }
-    ensures last { IfOk result (λ line. EndsInLine heading.now line text.new) }
+    ensures last { IfOk result (λ line. EndsInLineUnder heading.now line text.new) }
 {
     let line = put_route_line(heading, announcement, last, text)?;
     cache.insert(
@@ -73,11 +73,11 @@ fn put_entry_line<'a>(
 ) -> Result<LastLine<'a>, AllocError>
     requires tables { IsTableHeading heading.now }
     requires same { route.now.value ≡ announcement.route.now }
-    requires last { IfSome last (λ line. EndsInLine heading.now line text.old) }
+    requires last { IfSome last (λ line. EndsInLineUnder heading.now line text.old) }
     ensures printed { Prints text.old text.new (line_under_heading heading.now
         (Announced announcement.entry.peer.now announcement.entry.prefix.now
         announcement.entry.route.now)) result }
-    ensures last { IfOk result (λ line. EndsInLine heading.now line text.new) }
+    ensures last { IfOk result (λ line. EndsInLineUnder heading.now line text.new) }
 {
     let Some((index, line)) = cache.line_of(announcement.peer, announcement.route.time) else {
         return put_and_cache(heading, announcement, route, last, cache, text);
@@ -112,11 +112,11 @@ pub(crate) fn put_table_item_line<'a>(
     text: &mut Text,
 ) -> Result<Option<LastLine<'a>>, AllocError>
     requires tables { IsTableHeading heading.now }
-    requires last { IfSome last (λ line. EndsInLine heading.now line text.old) }
+    requires last { IfSome last (λ line. EndsInLineUnder heading.now line text.old) }
     ensures printed { Prints text.old text.new
         (line_under_heading heading.now (item_value item.now)) result }
     ensures last { IfOk result (λ last. IfSome last
-        (λ line. EndsInLine heading.now line text.new)) }
+        (λ line. EndsInLineUnder heading.now line text.new)) }
 {
     match item {
         Item::Announce(peer, prefix, route) => {

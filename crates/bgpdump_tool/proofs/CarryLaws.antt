@@ -19,7 +19,7 @@ use Rattle.bgpdump_lines.specs.declared.outcome.Outcome.{Outcome}
 use Rattle.bgpdump_lines.specs.Run.{AppendsPrefix, reports}
 use Rattle.bgpdump_lines.specs.WrittenSoFar.{outcome_of_write_fault, with_outcome_error, Puts, PutsAllOrFront}
 use Rattle.bgpdump_tool.specs.Replies.{at_text, labelled_numbers_line}
-use Rattle.bgpdump_tool.specs.Meaning.{events, results_needed, loss, answer, retreat_to, advance, meaning, meets_end, reports_of_taken}
+use Rattle.bgpdump_tool.specs.Meaning.{events, results_needed, loss, answer, retreat_to, forward_then_play, meaning, meets_end, reports_of_taken}
 use Rattle.bgpdump_tool.specs.Execution.{Progress, RunState, HasFound, HasProgress, state_with_unread, at_cursor, progress_after, HasRoom, MovesForward, StepsFrom, Steps, IsLed, ExecutesFrom}
 use Rattle.bgpdump_tool.proofs.WalkLaws.{PutsAllOrFront-put, PutsAllOrFront-behind}
 use Rattle.bgpdump_tool.proofs.StepLaws.{kept-Appends, kept-AppendsPrefix}
@@ -57,11 +57,11 @@ taken_by found more count true all few =
     (ap (take count) same ∙ take_all count found within, ap (drop count) same ∙ drop_all count found within ∙ sym none, grind (arith, nat_tests, size))
 
 -- a run that went on was led by a command that takes so many results
-pub IsLed-advance : (command : Command) (from : SourceState) (left : Option (List ℕ)) (s : Progress) (old new : RunState) (over : ℕ) (found : List RecordResult) (ended : Bool) (count : List RecordResult → ℕ) → MovesForward from left s old new over found ended
-    → ((more : List RecordResult) → meaning command (state_with_unread s (found ++ more)) ≡ advance over (count more) (state_with_unread s (found ++ more)))
+pub IsLed-forward_then_play : (command : Command) (from : SourceState) (left : Option (List ℕ)) (s : Progress) (old new : RunState) (over : ℕ) (found : List RecordResult) (ended : Bool) (count : List RecordResult → ℕ) → MovesForward from left s old new over found ended
+    → ((more : List RecordResult) → meaning command (state_with_unread s (found ++ more)) ≡ forward_then_play over (count more) (state_with_unread s (found ++ more)))
     → (ended ≡ false → (more : List RecordResult) → length found ≡ count more) → (ended ≡ true → (more : List RecordResult) → length found < count more)
     → (led : IsLed command from left s old new) × (led.reply ≡ at_text new.player.cursor ended)
-IsLed-advance command from left s old new over found ended count goes means all few = (
+IsLed-forward_then_play command from left s old new over found ended count goes means all few = (
   record {
     after = progress_after over found ended s;
     taken = found;
@@ -156,8 +156,8 @@ Execution-stopped command from left s a b c out out' over found outcome kept few
 pub Next-all : (count n : ℕ) (from : SourceState) (left : Option (List ℕ)) (s : Progress) (a b : RunState) → n ≡ count → Forth n from left s a b → (led : IsLed (Next count) from left s a b) × (led.reply ≡ at_text b.player.cursor false)
 Next-all count n from left s a b e (over, found, sum, goes) =
     let same : min count (length s.history - s.cursor) ≡ over = grind (arith, goes.few, goes.all, sum, e) in
-    IsLed-advance (Next count) from left s a b over found false (λ more. count - over) goes
-    (λ more. ap (λ o. advance o (count - o) (state_with_unread s (found ++ more))) same)
+    IsLed-forward_then_play (Next count) from left s a b over found false (λ more. count - over) goes
+    (λ more. ap (λ o. forward_then_play o (count - o) (state_with_unread s (found ++ more))) same)
     (λ _ more. omega (arith, sum, e)) (λ x more. cc)
 
 pub Next-end : (count n : ℕ) (from : SourceState) (left : Option (List ℕ)) (s : Progress) (a b c : RunState) (ended : Bool) → HasProgress from left a s → n < count → Forth n from left s a b → ended ≡ true → Steps b c (Ok ended)
@@ -166,8 +166,8 @@ Next-end count n from left s a b c false stands below forth e step = cc
 Next-end count n from left s a b c true stands below (over, found, sum, first) e step =
     let goes = MovesForward-twice from left s a b c over 0 found [] true stands first (step from left (progress_after over found false s) first.stands) in
     let same : min count (length s.history - s.cursor) ≡ over + 0 = omega (arith, (goes.met refl).0, sum, below) in
-    IsLed-advance (Next count) from left s a c (over + 0) (found ++ []) true (λ more. count - (over + 0)) goes
-    (λ more. ap (λ o. advance o (count - o) (state_with_unread s ((found ++ []) ++ more))) same)
+    IsLed-forward_then_play (Next count) from left s a c (over + 0) (found ++ []) true (λ more. count - (over + 0)) goes
+    (λ more. ap (λ o. forward_then_play o (count - o) (state_with_unread s ((found ++ []) ++ more))) same)
     (λ x more. cc) (λ _ more. omega (arith, sum, below, length-append found []))
 
 pub Next-stops : (count n : ℕ) (from : SourceState) (left : Option (List ℕ)) (s : Progress) (a b c : RunState) (out out' : Option (List ℕ)) (outcome : Outcome) → HasProgress from left a s → n < count → Forth n from left s a b → Steps b c (Err outcome)
@@ -181,16 +181,16 @@ Next-stops count n from left s a b c out out' outcome stands below (over, found,
 
 -- on to a position it takes the results that are needed
 goto_means : (k : ℕ) (s : Progress) (over : ℕ) (found more : List RecordResult) → s.cursor ≤ k → min (k - s.cursor) (length s.history - s.cursor) ≡ over
-    → meaning (Goto k) (state_with_unread s (found ++ more)) ≡ advance over (results_needed (k - length s.history) (found ++ more)) (state_with_unread s (found ++ more))
+    → meaning (Goto k) (state_with_unread s (found ++ more)) ≡ forward_then_play over (results_needed (k - length s.history) (found ++ more)) (state_with_unread s (found ++ more))
 goto_means k s over found more above same =
     let test : nat_lt k s.cursor ≡ false = grind (arith, nat_tests, above) in
-    rw test (ap (λ o. advance o (results_needed (k - length s.history) (found ++ more)) (state_with_unread s (found ++ more))) same)
+    rw test (ap (λ o. forward_then_play o (results_needed (k - length s.history) (found ++ more)) (state_with_unread s (found ++ more))) same)
 
 pub Goto-all : (k : ℕ) (from : SourceState) (left : Option (List ℕ)) (s : Progress) (a b : RunState) → s.cursor ≤ k → Reaches k from left s a b → ¬ (b.player.cursor < k) → (led : IsLed (Goto k) from left s a b) × (led.reply ≡ at_text b.player.cursor false)
 Goto-all k from left s a b above r done =
     let e : b.player.cursor ≡ k = omega (arith, r.within) in
     let same : min (k - s.cursor) (length s.history - s.cursor) ≡ r.over = grind (arith, e, r.goes.stands.cursor, r.goes.few, r.goes.all, events_few r.found) in
-    IsLed-advance (Goto k) from left s a b r.over r.found false (λ more. results_needed (k - length s.history) (r.found ++ more)) r.goes
+    IsLed-forward_then_play (Goto k) from left s a b r.over r.found false (λ more. results_needed (k - length s.history) (r.found ++ more)) r.goes
     (λ more. goto_means k s r.over r.found more above same)
     (λ _ more. sym (r.needs e more)) (λ x more. cc)
 
@@ -203,7 +203,7 @@ Goto-end k from left s a b c true above stands below r e step =
     let all = (goes.met refl).0 in
     let few : length (events (r.found ++ [])) < k - length s.history = omega (arith, HasProgress-inside from left a s stands, all, below, last.stands.cursor, r.goes.stands.cursor, goes.stands.cursor) in
     let same : min (k - s.cursor) (length s.history - s.cursor) ≡ r.over + 0 = omega (arith, few, all) in
-    IsLed-advance (Goto k) from left s a c (r.over + 0) (r.found ++ []) true (λ more. results_needed (k - length s.history) ((r.found ++ []) ++ more)) goes
+    IsLed-forward_then_play (Goto k) from left s a c (r.over + 0) (r.found ++ []) true (λ more. results_needed (k - length s.history) ((r.found ++ []) ++ more)) goes
     (λ more. goto_means k s (r.over + 0) (r.found ++ []) more above same)
     (λ x more. cc) (λ _ more. needed_beyond (k - length s.history) (r.found ++ []) more few)
 

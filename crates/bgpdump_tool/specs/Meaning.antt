@@ -93,8 +93,8 @@ retreat_to cursor s = answer (at_text cursor false) (record s { cursor = cursor 
 -- what a command does that moves the cursor of state `s` over `over` events ahead, and then over the events of the
 -- next `count` unread results, which it wants. Its reply is the position after that, with `end` if fewer results are
 -- left
-abbrev pub advance : ℕ → ℕ → State → Meaning
-advance over count s =
+abbrev pub forward_then_play : ℕ → ℕ → State → Meaning
+forward_then_play over count s =
     record { wanted = count; after = moved_forward over count s; reply = at_text (moved_forward over count s).cursor (nat_lt (length s.unread) count) }
 
 -- what a command does in state `s`. `next` moves the cursor over `n` events ahead and, where these end, over unread
@@ -102,11 +102,11 @@ advance over count s =
 -- `back` moves it back by `n`; `goto` and `back` stop at the floor. `where`, `peers`, `table`, `route` and `lookup`
 -- only reply; `lose` plays `loss`, and `forget` keeps at most `n` events that can be undone
 abbrev pub meaning : Command → State → Meaning
-meaning (Next n) s = advance (min n (steps_ahead s)) (n - min n (steps_ahead s)) s
+meaning (Next n) s = forward_then_play (min n (steps_ahead s)) (n - min n (steps_ahead s)) s
 meaning (Back n) s = retreat_to (s.cursor - min n (s.cursor - s.floor)) s
 meaning (Goto k) s =
     if nat_lt k s.cursor then retreat_to (max k s.floor) s
-    else advance (min (k - s.cursor) (steps_ahead s)) (results_needed (k - length s.history) s.unread) s
+    else forward_then_play (min (k - s.cursor) (steps_ahead s)) (results_needed (k - length s.history) s.unread) s
 meaning Position s = answer (labelled_numbers_line ((codes "at ", s.cursor) ∷ (codes " ahead ", steps_ahead s) ∷ [])) s
 meaning Peers s = answer (peers_text (routes_at s)) s
 meaning (Table peer) s = answer (table_text (routes_at s) peer) s

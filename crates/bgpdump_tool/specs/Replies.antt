@@ -15,7 +15,7 @@ abbrev pub labelled_numbers_text : List (List ℕ × ℕ) → List ℕ → List 
 labelled_numbers_text [] ending = ending
 labelled_numbers_text ((word, number) ∷ numbers) ending = word ++ (decimal number ++ labelled_numbers_text numbers ending)
 
--- a line of words, each with its number in decimal right after it, and a line feed at the end
+-- a line: each word followed by its number in decimal, with nothing added between them, and a line feed at the end
 abbrev pub labelled_numbers_line : List (List ℕ × ℕ) → List ℕ
 labelled_numbers_line numbers = labelled_numbers_text numbers (line_feed ∷ [])
 

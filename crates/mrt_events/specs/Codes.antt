@@ -9,7 +9,7 @@ use Rattle.bgp_wire.specs.Codes.{coded_attrs}
 use Rattle.mrt_events.specs.declared.peer.Peer.{Peer}
 use Rattle.mrt_events.specs.declared.event.Route.{Route}
 
--- a code of peers as plain data, for keys and values of finite maps: the pair of address and AS number
+-- a one-to-one encoding (`Coded`) of peers as tuples of address and AS number, for keys and values of finite maps
 abbrev pub coded_peer : Coded Peer
 coded_peer = code_by (Address × ℕ) (coded× coded_address coded_ℕ) (λ p. (p.addr, p.asn)) (λ p. record { addr = p.0; asn = p.1 }) (λ _. refl)
 

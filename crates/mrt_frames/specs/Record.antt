@@ -45,8 +45,8 @@ BeginsWithNoRecord octets = (r : Record) (more : List ℕ) → IsRecord r → oc
 
 -- the length of the body that a header states, where the octets begin with that header: their octets 8 to 11 as a
 -- big-endian number. It means nothing of fewer than 12 octets
-abbrev pub stated_size : List ℕ → ℕ
-stated_size octets = from_be_bytes w32 (take 4 (drop 8 octets))
+abbrev pub stated_body_size : List ℕ → ℕ
+stated_body_size octets = from_be_bytes w32 (take 4 (drop 8 octets))
 
 -- the fault of `rest`, the octets after the last whole record of an input: `TooLong`, with the stated length, if they
 -- begin with a header that states more than 16,777,216 octets, and `CutRecord` otherwise. An empty `rest` has no
@@ -54,7 +54,7 @@ stated_size octets = from_be_bytes w32 (take 4 (drop 8 octets))
 abbrev pub rest_fault_kind : List ℕ → RecordKind
 rest_fault_kind rest =
     if nat_lt (length rest) HEADER_SIZE then CutRecord
-    else (if nat_lt LONGEST_BODY (stated_size rest) then TooLong (stated_size rest) else CutRecord)
+    else (if nat_lt LONGEST_BODY (stated_body_size rest) then TooLong (stated_body_size rest) else CutRecord)
 
 -- the fault of the octets after the last whole record of an input, `TooLong` or `CutRecord`, as `rest_fault_kind`
 -- says; `None` if there are no such octets, which is the proper end of the input

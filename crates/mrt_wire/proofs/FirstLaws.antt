@@ -12,23 +12,23 @@ use Rattle.mrt_frames.specs.declared.fault.SourceFault.{SourceFault}
 use Rattle.mrt_wire.specs.declared.next.Next.{Next}
 use Rattle.mrt_wire.specs.declared.next.Next.TheVariants as next
 use Rattle.mrt_frames.specs.declared.header.TheConstants.{LONGEST_BODY}
-use Rattle.mrt_frames.specs.Record.{Record, spelling, IsRecord, BeginsWithNoRecord, stated_size, rest_fault_kind, rest_fault, IsRest}
-use Rattle.mrt_wire.specs.Results.{Frame, Splits, spellings, RecordResult, Found, Bad, fault_results, SourceState, results, TakesFront}
-use Rattle.mrt_wire.specs.Answered.{NextReturns, answer_results, MayFollow, AnswersFrame, AnswersRest}
+use Rattle.mrt_frames.specs.Record.{Record, spelling, IsRecord, BeginsWithNoRecord, stated_body_size, rest_fault_kind, rest_fault, IsRest}
+use Rattle.mrt_wire.specs.Results.{Frame, Splits, spellings, RecordResult, Found, Bad, fault_if_any, SourceState, results, TakesFront}
+use Rattle.mrt_wire.specs.Answered.{NextReturns, answer_results, MayBeLeftAfter, AnswersFrame, AnswersRest}
 use Rattle.mrt_wire.proofs.SplitLaws.{frames_first, frames_all}
 use lib.Seq.{take-append-le}
 
 -- the length that a record's header states
-stated_size-record : (r : Record) (more : List ℕ) → IsRecord r → stated_size (spelling r ++ more) ≡ length r.body
-stated_size-record r more p = from_be_bytes-to_be_bytes_4 (length r.body) p.header.size_fits
+stated_body_size-record : (r : Record) (more : List ℕ) → IsRecord r → stated_body_size (spelling r ++ more) ≡ length r.body
+stated_body_size-record r more p = from_be_bytes-to_be_bytes_4 (length r.body) p.header.size_fits
 
 -- octets that state too much begin with no record
-BeginsWithNoRecord-stated : (octets : List ℕ) → LONGEST_BODY < stated_size octets → BeginsWithNoRecord octets
-BeginsWithNoRecord-stated octets long r more p e = absurd (omega (arith, ap stated_size e, stated_size-record r more p, p.size))
+BeginsWithNoRecord-stated : (octets : List ℕ) → LONGEST_BODY < stated_body_size octets → BeginsWithNoRecord octets
+BeginsWithNoRecord-stated octets long r more p e = absurd (omega (arith, ap stated_body_size e, stated_body_size-record r more p, p.size))
 
 -- what follows twelve octets doesn't change what they state
-stated_size-front : (octets more : List ℕ) → length octets ≡ 12 → stated_size (octets ++ more) ≡ stated_size octets
-stated_size-front octets more size =
+stated_body_size-front : (octets more : List ℕ) → length octets ≡ 12 → stated_body_size (octets ++ more) ≡ stated_body_size octets
+stated_body_size-front octets more size =
     let front : List ℕ = take 8 octets in
     let back : List ℕ = drop 8 octets in
     let parts : octets ≡ front ++ back = sym (take-append-drop 8 octets) in
@@ -45,8 +45,8 @@ rest_fault_kind-front octets more size =
     short : nat_lt (length (octets ++ more)) 12 ≡ nat_lt (length octets) 12
     short = le-ltb (length (octets ++ more)) 12 (omega (arith, length-append octets more)) ∙ sym (le-ltb (length octets) 12 (omega arith))
 
-    same : stated_size (octets ++ more) ≡ stated_size octets
-    same = stated_size-front octets more size
+    same : stated_body_size (octets ++ more) ≡ stated_body_size octets
+    same = stated_body_size-front octets more size
 
 -- the fault of octets that aren't empty
 rest_fault-front : (octets more : List ℕ) → length octets ≡ 12 → rest_fault (octets ++ more) ≡ rest_fault octets
@@ -54,16 +54,16 @@ rest_fault-front [] more size = absurd (omega (arith, size))
 rest_fault-front (octet ∷ octets) more size = ap Some (rest_fault_kind-front (octet ∷ octets) more size)
 
 -- a length that isn't too long is no fault but a cut
-rest_fault_kind-small : (octets : List ℕ) → stated_size octets ≤ LONGEST_BODY → rest_fault_kind octets ≡ CutRecord
+rest_fault_kind-small : (octets : List ℕ) → stated_body_size octets ≤ LONGEST_BODY → rest_fault_kind octets ≡ CutRecord
 rest_fault_kind-small octets small = elim (cases_lt (length octets) 12) [
-  | inl short ↦ ap (λ b. cond b CutRecord (cond (nat_lt LONGEST_BODY (stated_size octets)) (TooLong (stated_size octets)) CutRecord)) (lt-ltb (length octets) 12 short)
+  | inl short ↦ ap (λ b. cond b CutRecord (cond (nat_lt LONGEST_BODY (stated_body_size octets)) (TooLong (stated_body_size octets)) CutRecord)) (lt-ltb (length octets) 12 short)
   | inr long ↦
-      ap (λ b. cond b CutRecord (cond (nat_lt LONGEST_BODY (stated_size octets)) (TooLong (stated_size octets)) CutRecord)) (le-ltb (length octets) 12 long)
-      ∙ ap (λ b. cond b (TooLong (stated_size octets)) CutRecord) (le-ltb LONGEST_BODY (stated_size octets) small)
+      ap (λ b. cond b CutRecord (cond (nat_lt LONGEST_BODY (stated_body_size octets)) (TooLong (stated_body_size octets)) CutRecord)) (le-ltb (length octets) 12 long)
+      ∙ ap (λ b. cond b (TooLong (stated_body_size octets)) CutRecord) (le-ltb LONGEST_BODY (stated_body_size octets) small)
 ]
 
 -- an answer to a cut record, or to none, saw the end
-nothing_follows : (answer : Next) (number offset : ℕ) (octets more : List ℕ) → answer_results answer ≡ fault_results number offset (rest_fault octets) → rest_fault_kind octets ≡ CutRecord → MayFollow answer more → more ≡ []
+nothing_follows : (answer : Next) (number offset : ℕ) (octets more : List ℕ) → answer_results answer ≡ fault_if_any number offset (rest_fault octets) → rest_fault_kind octets ≡ CutRecord → MayBeLeftAfter answer more → more ≡ []
 nothing_follows (next.Event event) number offset [] more tells cut follows = cc
 nothing_follows (next.Event event) number offset (octet ∷ octets) more tells cut follows = cc
 nothing_follows (next.Bad fault) number offset [] more tells cut follows = cc
@@ -88,18 +88,18 @@ RestStays-end octets more none end =
 pub RestStays-rest : (octets more : List ℕ) → IsRest octets → (rest_fault_kind octets ≡ CutRecord → more ≡ []) → RestStays octets more
 RestStays-rest octets more rest end = elim rest.stops [
   | inl cut ↦ RestStays-end octets more rest.none (end cut)
-  | inr size ↦ elim (cases_lt LONGEST_BODY (stated_size octets)) [
+  | inr size ↦ elim (cases_lt LONGEST_BODY (stated_body_size octets)) [
     | inl long ↦ record {
-      none = BeginsWithNoRecord-stated (octets ++ more) (omega (arith, long, stated_size-front octets more size));
+      none = BeginsWithNoRecord-stated (octets ++ more) (omega (arith, long, stated_body_size-front octets more size));
       fault = rest_fault-front octets more size;
     }
     | inr small ↦ RestStays-end octets more rest.none (end (rest_fault_kind-small octets small))
   ]
 ]
 
-take-fault_results : (number offset : ℕ) (fault : Option RecordKind) → take 1 (fault_results number offset fault) ≡ fault_results number offset fault
-take-fault_results number offset None = refl
-take-fault_results number offset (Some kind) = refl
+take-fault_if_any : (number offset : ℕ) (fault : Option RecordKind) → take 1 (fault_if_any number offset fault) ≡ fault_if_any number offset fault
+take-fault_if_any number offset None = refl
+take-fault_if_any number offset (Some kind) = refl
 
 -- the first result of octets that begin with a frame
 first_of_frame : (p q : SourceState) (octets : List ℕ) (answer : Next) (frame : Frame) → AnswersFrame p q answer octets frame
@@ -111,16 +111,16 @@ first_of_frame p q octets answer frame at more frames rest split =
 
 -- the first result of octets that are a rest
 first_of_rest : (p q : SourceState) (left : Option (List ℕ)) (octets : List ℕ) (answer : Next) → AnswersRest p q left answer octets
-    → (more : List ℕ) (frames : List Frame) (rest : List ℕ) → MayFollow answer more → Splits p.stamp p.index (octets ++ more) frames rest → take 1 (results p frames rest) ≡ answer_results answer
+    → (more : List ℕ) (frames : List Frame) (rest : List ℕ) → MayBeLeftAfter answer more → Splits p.stamp p.index (octets ++ more) frames rest → take 1 (results p frames rest) ≡ answer_results answer
 first_of_rest p q left octets answer at more frames rest follows split =
     let stays = RestStays-rest octets more at.ends.rest (λ cut. nothing_follows answer (p.number + 1) p.offset octets more at.tells cut follows) in
     let all = frames_all p.stamp p.index [] frames (octets ++ more) rest tt split.are_frames stays.none split.none split.whole in
     (λ i. take 1 (results p (all.0 i) (all.1 i)))
-    ∙ ap (λ f. take 1 (fault_results (p.number + 1) p.offset f)) stays.fault
-    ∙ take-fault_results (p.number + 1) p.offset (rest_fault octets) ∙ sym at.tells
+    ∙ ap (λ f. take 1 (fault_if_any (p.number + 1) p.offset f)) stays.fault
+    ∙ take-fault_if_any (p.number + 1) p.offset (rest_fault octets) ∙ sym at.tells
 
 pub first_result : (p q : SourceState) (left : Option (List ℕ)) (octets : List ℕ) (answer : Next) → NextReturns p q left octets (Ok answer)
-    → (more : List ℕ) (frames : List Frame) (rest : List ℕ) → MayFollow answer more → Splits p.stamp p.index (octets ++ more) frames rest → take 1 (results p frames rest) ≡ answer_results answer
+    → (more : List ℕ) (frames : List Frame) (rest : List ℕ) → MayBeLeftAfter answer more → Splits p.stamp p.index (octets ++ more) frames rest → take 1 (results p frames rest) ≡ answer_results answer
 first_result p q left octets answer (inl (frame, at)) more frames rest follows split = first_of_frame p q octets answer frame at more frames rest split
 first_result p q left octets answer (inr at) more frames rest follows split = first_of_rest p q left octets answer at more frames rest follows split
 
@@ -133,7 +133,7 @@ same_taken left left' octets taken after consumed p =
 
 -- the same of a call, where the input tells its octets
 pub first_answered : (p q : SourceState) (left left' : Option (List ℕ)) (result : Result Next SourceFault) (answer : Next) → ((octets : List ℕ) × Consumes left left' octets × NextReturns p q left' octets result) → result ≡ Ok answer
-    → (taken after more : List ℕ) (frames : List Frame) (rest : List ℕ) → TakesFront left left' taken after → MayFollow answer more → Splits p.stamp p.index (taken ++ more) frames rest
+    → (taken after more : List ℕ) (frames : List Frame) (rest : List ℕ) → TakesFront left left' taken after → MayBeLeftAfter answer more → Splits p.stamp p.index (taken ++ more) frames rest
     → take 1 (results p frames rest) ≡ answer_results answer
 first_answered p q left left' result answer (octets, consumed, nexts) is taken after more frames rest took follows split =
     let same = same_taken left left' octets taken after consumed took in

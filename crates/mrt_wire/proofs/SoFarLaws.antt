@@ -10,8 +10,8 @@ use Rattle.mrt_wire.specs.declared.next.Phase.{Phase}
 use Rattle.mrt_wire.specs.declared.next.Phase.TheVariants.{Reading, Ended, Spent}
 use Rattle.mrt_frames.specs.Record.{header_octets, spelling, IsRecord, BeginsWithNoRecord, rest_fault_kind, rest_fault}
 use Rattle.mrt_frames.specs.Taken.{EndsAt}
-use Rattle.mrt_wire.specs.Results.{Frame, ReadsAs, index_after, AreFrames, Splits, spellings, RecordResult, record_result, fault_results, SourceState, state_after, results}
-use Rattle.mrt_wire.specs.Answered.{NextReturns, answer_results, AnswersFrame, AnswersRest, HasAnswered, RestSoFar, is_nothing, state_after_all}
+use Rattle.mrt_wire.specs.Results.{Frame, ReadsAs, index_after, AreFrames, Splits, spellings, RecordResult, record_result, fault_if_any, SourceState, state_after, results}
+use Rattle.mrt_wire.specs.Answered.{NextReturns, answer_results, AnswersFrame, AnswersRest, HasAnswered, MayBeRestIn, is_nothing, state_after_all}
 use Rattle.mrt_wire.proofs.SplitLaws.{frames_first, frames_all}
 use Rattle.mrt_wire.proofs.FirstLaws.{RestStays-rest}
 
@@ -58,12 +58,12 @@ HasAnswered-start p left reading = record {
   offset = omega arith;
   limit = refl;
   stamp = refl;
-  rest_is = subst (λ s. RestSoFar s left []) (sym reading) refl;
+  rest_is = subst (λ s. MayBeRestIn s left []) (sym reading) refl;
 }
 
 -- nothing but frames was taken while the source reads
 pub no_rest : (p q : SourceState) (left left' : Option (List ℕ)) (found : List RecordResult) → (s : HasAnswered p q left left' found) → q.phase ≡ Reading → s.rest ≡ []
-no_rest p q left left' found s reading = subst (λ t. RestSoFar t left' s.rest) reading s.rest_is
+no_rest p q left left' found s reading = subst (λ t. MayBeRestIn t left' s.rest) reading s.rest_is
 
 -- a frame more was taken
 abbrev HasAnswered-frame : (p q q' : SourceState) (left left' left'' : Option (List ℕ)) (found : List RecordResult) (answer : Next) (octets : List ℕ) (frame : Frame) → HasAnswered p q left left' found → q.phase ≡ Reading
@@ -90,7 +90,7 @@ HasAnswered-frame p q q' left left' left'' found answer octets frame s reading t
       offset = omega (arith, ap (λ x. x.offset) at.state, s.offset, ap length at.whole, ap length octets_are, length-append (spellings s.frames ++ s.rest) octets);
       limit = ap (λ x. x.limit) at.state ∙ s.limit;
       stamp = ap (λ x. x.stamp) at.state ∙ s.stamp;
-      rest_is = subst (λ t. RestSoFar t left'' []) (sym phase) refl;
+      rest_is = subst (λ t. MayBeRestIn t left'' []) (sym phase) refl;
     }
 
 -- the rest was taken
@@ -107,13 +107,13 @@ HasAnswered-rest p q q' left left' left'' found answer octets s reading taken at
       rest = octets;
       are_frames = s.are_frames;
       consumed = subst (Consumes left left'') octets_are (Consumes-trans left left' left'' (spellings s.frames ++ s.rest) octets s.consumed taken);
-      found_is = (λ i. (s.found_is ∙ ap (results p s.frames) none) i ++ at.tells i) ∙ (λ i. results p s.frames [] ++ fault_results (s.number i + 1) (offset i) (rest_fault octets)) ∙ sym (results-rest p s.frames octets);
+      found_is = (λ i. (s.found_is ∙ ap (results p s.frames) none) i ++ at.tells i) ∙ (λ i. results p s.frames [] ++ fault_if_any (s.number i + 1) (offset i) (rest_fault octets)) ∙ sym (results-rest p s.frames octets);
       index = ap (λ x. x.index) at.state ∙ s.index;
       number = ap (λ x. x.number) at.state ∙ s.number;
       offset = omega (arith, ap (λ x. x.offset) at.state, s.offset, ap length octets_are, length-append (spellings s.frames ++ s.rest) octets);
       limit = ap (λ x. x.limit) at.state ∙ s.limit;
       stamp = ap (λ x. x.stamp) at.state ∙ s.stamp;
-      rest_is = subst (λ t. RestSoFar t left'' octets) (sym (ap (λ x. x.phase) at.state)) at.ends;
+      rest_is = subst (λ t. MayBeRestIn t left'' octets) (sym (ap (λ x. x.phase) at.state)) at.ends;
     }
 
 -- what is found so far is first in whatever the input may hold, and all of it where the source has ended
@@ -138,7 +138,7 @@ all_of_frames p q left done frames last more rest ends follows are are' none joi
     record {
       later = [];
       first = (λ i. results p (all.0 i) (all.1 i)) ∙ results-rest p done (last ++ more)
-          ∙ ap (λ f. results p done [] ++ fault_results ((state_after_all p done).number + 1) (state_after_all p done).offset f) stays.fault
+          ∙ ap (λ f. results p done [] ++ fault_if_any ((state_after_all p done).number + 1) (state_after_all p done).offset f) stays.fault
           ∙ sym (results-rest p done last) ∙ sym (append-nil (results p done last));
       all = λ _. refl;
     }
@@ -151,7 +151,7 @@ first_so_far p q left left' found s more follows frames rest split = subst (λ f
     joined : spellings s.frames ++ (s.rest ++ more) ≡ spellings frames ++ rest
     joined = sym (append_assoc (spellings s.frames) s.rest more) ∙ split.whole
 
-    by_phase : (phase : Phase) → q.phase ≡ phase → RestSoFar phase left' s.rest → FirstSoFar p q (results p s.frames s.rest) frames rest
+    by_phase : (phase : Phase) → q.phase ≡ phase → MayBeRestIn phase left' s.rest → FirstSoFar p q (results p s.frames s.rest) frames rest
     by_phase Reading is none =
         let first = first_of_frames p s.frames frames (s.rest ++ more) rest s.are_frames split.are_frames split.none joined in
         subst (λ l. FirstSoFar p q (results p s.frames l) frames rest) (sym none) (record { later = first.0; first = first.1; all = λ ended. cc })
@@ -188,7 +188,7 @@ cases_answer : (p q q' : SourceState) (left left' left'' : Option (List ℕ)) (f
     → IsAnswer q q' left' left'' answer
 cases_answer p q q' left left' left'' found answer s promised = by_phase q.phase refl s.rest_is
   where
-    by_phase : (phase : Phase) → q.phase ≡ phase → RestSoFar phase left' s.rest → IsAnswer q q' left' left'' answer
+    by_phase : (phase : Phase) → q.phase ≡ phase → MayBeRestIn phase left' s.rest → IsAnswer q q' left' left'' answer
     by_phase Reading is rest = inl (is, promised.0 is)
     by_phase Ended is rest =
         let (tells, same, unasked) = promised.1 is in
@@ -245,6 +245,6 @@ HasAnswered-told p q q' left left' left'' found answer s promised some = by_case
     )
     by_cases (inl (is, (octets, taken, inr at))) = (
       HasAnswered-rest p q q' left left' left'' found answer octets s is taken at,
-      (λ ended none. let e : true ≡ false = sym (ap is_nothing (at.tells ∙ ap (λ o. fault_results (q.number + 1) q.offset (rest_fault o)) none)) ∙ some in cc),
+      (λ ended none. let e : true ≡ false = sym (ap is_nothing (at.tells ∙ ap (λ o. fault_if_any (q.number + 1) q.offset (rest_fault o)) none)) ∙ some in cc),
     )
     by_cases (inr (is, tells, same, unasked)) = let e : true ≡ false = sym (ap is_nothing tells) ∙ some in cc

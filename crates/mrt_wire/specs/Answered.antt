@@ -4,7 +4,7 @@ use Rattle.std.specs.Prelude.{◌≡◌, ℕ, ◌+◌, Bool, true, false, List, 
 use Rattle.std.specs.Io.KnownBytes.{Consumes}
 use Rattle.mrt_wire.specs.declared.next.Phase.{Phase}
 use Rattle.mrt_wire.specs.declared.next.Phase.TheVariants.{Reading, Ended, Spent}
-use Rattle.mrt_wire.specs.Results.{Frame, ReadsAs, PeerTable, AreFrames, spellings, RecordResult, SourceState, state_after, results, Found, Bad, record_result, fault_results, TakesFront, Splits}
+use Rattle.mrt_wire.specs.Results.{Frame, ReadsAs, PeerTable, AreFrames, spellings, RecordResult, SourceState, state_after, results, Found, Bad, record_result, fault_if_any, TakesFront, Splits}
 use Rattle.mrt_frames.specs.Taken.{EndsAt, MayFailAt}
 use Rattle.mrt_frames.specs.declared.fault.RecordKind.TheVariants.{CutRecord}
 use Rattle.mrt_frames.specs.declared.fault.SourceFault.{SourceFault}
@@ -24,10 +24,10 @@ state_after_all old (frame ∷ frames) = state_after_all (state_after old frame)
 -- `rest` is what a source in this phase may have taken after the last whole record, with `left` left of its input
 -- then: no octets while it reads, and what is read up to its end (`EndsAt`) where it has ended. It holds of no octets
 -- where the source has failed.
-abbrev pub RestSoFar : Phase → Option (List ℕ) → List ℕ → Type 0
-RestSoFar Reading left rest = rest ≡ []
-RestSoFar Ended left rest = EndsAt left rest
-RestSoFar Spent left rest = ⊥
+abbrev pub MayBeRestIn : Phase → Option (List ℕ) → List ℕ → Type 0
+MayBeRestIn Reading left rest = rest ≡ []
+MayBeRestIn Ended left rest = EndsAt left rest
+MayBeRestIn Spent left rest = ⊥
 
 -- from state `old` to state `new` calls of `next` returned the results `found`, and took the octets of frames and
 -- maybe of a rest off the front of an input, which had `left` before and has `left_after` afterwards
@@ -42,7 +42,7 @@ pub record HasAnswered (old new : SourceState) (left left_after : Option (List �
   pub offset : new.offset ≡ old.offset + length (spellings frames ++ rest)
   pub limit : new.limit ≡ old.limit
   pub stamp : new.stamp ≡ old.stamp
-  pub rest_is : RestSoFar new.phase left_after rest
+  pub rest_is : MayBeRestIn new.phase left_after rest
 
 -- true of an empty list of results
 abbrev pub is_nothing : List RecordResult → Bool
@@ -81,7 +81,7 @@ pub record AnswersFrame (old new : SourceState) (answer : Next) (octets : List �
 -- left state `new`. The input, which has `left` left, ends there, unless a header states too much.
 pub record AnswersRest (old new : SourceState) (left : Option (List ℕ)) (answer : Next) (octets : List ℕ) : Type 0 where
   pub ends : EndsAt left octets
-  pub tells : answer_results answer ≡ fault_results (old.number + 1) old.offset (rest_fault octets)
+  pub tells : answer_results answer ≡ fault_if_any (old.number + 1) old.offset (rest_fault octets)
   pub state : new ≡ stopped_state Ended old octets
 
 -- `octets` may be all that a call of `next` took before it failed with this error: the beginning of a record, maybe
@@ -102,18 +102,18 @@ IsNextCall old new left left_after result = (octets : List ℕ) × Consumes left
 
 -- `more` may be the octets after those taken by a call that returned this: none after the end or the fault
 -- `CutRecord`, which the end of the input makes, and any after another
-abbrev pub MayFollow : Next → List ℕ → Type 0
-MayFollow (next.Event event) more = Unit {0}
-MayFollow (next.Bad fault) more = fault.kind ≡ CutRecord → more ≡ []
-MayFollow next.End more = more ≡ []
+abbrev pub MayBeLeftAfter : Next → List ℕ → Type 0
+MayBeLeftAfter (next.Event event) more = Unit {0}
+MayBeLeftAfter (next.Bad fault) more = fault.kind ≡ CutRecord → more ≡ []
+MayBeLeftAfter next.End more = more ≡ []
 
 -- what `next` returned in state `old` is the first of the results, from `old` on, of the octets that it took and then
--- any octets that may follow (`MayFollow`), however these split into frames and a rest; where it returned the end,
+-- any octets that may follow (`MayBeLeftAfter`), however these split into frames and a rest; where it returned the end,
 -- there are no results. The input had `left` before and has `left_after` afterwards; of one that doesn't know its
 -- octets this always holds.
 abbrev pub IsFirstResult : SourceState → Option (List ℕ) → Option (List ℕ) → Next → Type 0
 IsFirstResult old left left_after answer =
-    (taken after more : List ℕ) (frames : List Frame) (rest : List ℕ) → TakesFront left left_after taken after → MayFollow answer more
+    (taken after more : List ℕ) (frames : List Frame) (rest : List ℕ) → TakesFront left left_after taken after → MayBeLeftAfter answer more
     → Splits old.stamp old.index (taken ++ more) frames rest → take 1 (results old frames rest) ≡ answer_results answer
 
 -- the octets split in at most one way into frames, which are whole records with their outcomes, and a rest, with peer

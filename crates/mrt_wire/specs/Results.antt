@@ -139,10 +139,10 @@ abbrev pub record_result : ℕ → ℕ → RecordOutcome → RecordResult
 record_result number offset (Accepted content event) = Found event
 record_result number offset (Refused kind) = Bad (record { number = number; offset = offset; kind = kind })
 
--- the fault with this number and offset, as a list of one; the empty list if there is no fault (`None`)
-abbrev pub fault_results : ℕ → ℕ → Option RecordKind → List RecordResult
-fault_results number offset None = []
-fault_results number offset (Some kind) = Bad (record { number = number; offset = offset; kind = kind }) ∷ []
+-- the fault of this kind in the record with this number and offset, as a list of one; empty if the kind is `None`
+abbrev pub fault_if_any : ℕ → ℕ → Option RecordKind → List RecordResult
+fault_if_any number offset None = []
+fault_if_any number offset (Some kind) = Bad (record { number = number; offset = offset; kind = kind }) ∷ []
 
 -- the state of a source, which reads records from an input, as contracts see it: the peer index table, how many
 -- records (`number`) and octets (`offset`) it has read, how many octets it may read, which time table entries get
@@ -168,5 +168,5 @@ start_state stamp limit = record { index = None; number = 0; offset = 0; limit =
 -- the results of an input from state `p` on, whose octets from there are those of the records of these frames and
 -- then `rest`: an event or a fault for each frame, in order, and then the fault of `rest`, if it isn't empty
 abbrev pub results : SourceState → List Frame → List ℕ → List RecordResult
-results p [] rest = fault_results (p.number + 1) p.offset (rest_fault rest)
+results p [] rest = fault_if_any (p.number + 1) p.offset (rest_fault rest)
 results p (frame ∷ frames) rest = record_result (p.number + 1) p.offset frame.outcome ∷ results (state_after p frame) frames rest

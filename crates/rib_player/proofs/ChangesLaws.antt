@@ -32,18 +32,18 @@ found-append [] more q = refl
 found-append (first ∷ sides) more q = grind (arith, found-append sides more q)
 
 -- where the peer isn't lost, what is appended for a pair comes before all that is noted
-pub noted_effect-first : (sides : List Side) (peers : List Peer) (side : Side) (q : Pair) → is_lost peers side.0 ≡ false
+pub effect_of_changes-first : (sides : List Side) (peers : List Peer) (side : Side) (q : Pair) → is_lost peers side.0 ≡ false
     → effect_of (found (sides ++ side ∷ []) q) (is_lost peers q)
     ≡ later (effect_if (eq_by_cmp pair_cmp q side.0) (effect_of (Some side.1) false)) (effect_of (found sides q) (is_lost peers q))
-noted_effect-first sides peers side q held =
+effect_of_changes-first sides peers side q held =
     let one = same_pair q side.0 in
     let found_there = found-append sides (side ∷ []) q in
     grind arith
 
 -- where the peer is lost, an earlier effect changes nothing
-pub noted_effect-lost : (sides : List Side) (peers : List Peer) (pair : Pair) (first : Effect) (q : Pair) → is_lost peers pair ≡ true
+pub effect_of_changes-lost : (sides : List Side) (peers : List Peer) (pair : Pair) (first : Effect) (q : Pair) → is_lost peers pair ≡ true
     → effect_of (found sides q) (is_lost peers q) ≡ later (effect_if (eq_by_cmp pair_cmp q pair) first) (effect_of (found sides q) (is_lost peers q))
-noted_effect-lost sides peers pair first q lost = let one = same_pair q pair in grind arith
+effect_of_changes-lost sides peers pair first q lost = let one = same_pair q pair in grind arith
 
 -- what is found stays where the pair is not among those
 pub or_no_route-false : (kept : Option (Option Route)) → kept ≡ or_no_route kept false

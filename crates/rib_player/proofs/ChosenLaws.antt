@@ -4,7 +4,7 @@ use Rattle.std.proofs.lemmas.Bool.{cases_eq, lt-ltb, le-ltb, ltb-true}
 use Rattle.std.proofs.lemmas.Bool.Decides.{nat_tests}
 use Rattle.std.proofs.lemmas.List.{length-set, length-map, length_push, length-take, map-append}
 use Rattle.std.proofs.lemmas.Option.{slice_get_within, slice_get-map, slice_get_past, get_or_from_slice_get, same_Some}
-use Rattle.rib_player.specs.Indices.{PointsBack, AreInverse, IsSetAt, IsSwapRemoved, ListsAll, swapped_index}
+use Rattle.rib_player.specs.Indices.{PointsBack, AreInverse, IsSetAt, IsSwapRemoved, ContainsEachChosen, swapped_index}
 use Rattle.rib_player.proofs.ListLaws.{get-set_same, get-set_other, get-push_last, get-push_other, get-past}
 
 -- ---- what changes places
@@ -263,7 +263,7 @@ front-added count places places' n is behind =
     ap (in_front count) is ∙ map-append (λ place. nat_lt place count) places (n ∷ []) ∙ ap (λ b. in_front count places ++ b ∷ []) (le-ltb n count behind)
 
 -- those in front are listed
-pub front-listed : (count : ℕ) {numbers places : List ℕ} → AreInverse numbers places → ListsAll (in_front count places) (take count numbers)
+pub front-listed : (count : ℕ) {numbers places : List ℕ} → AreInverse numbers places → ContainsEachChosen (in_front count places) (take count numbers)
 front-listed count {numbers = numbers} {places = places} inverse n told =
     let p = some_place places n (told-place count places n true told) in
     let before = ltb-true p.0 count (told-choice count places n p.0 true p.1 told) in

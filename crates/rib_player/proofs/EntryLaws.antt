@@ -17,7 +17,7 @@ use Rattle.rib_player.specs.Tables.{Routes, table_after, is_named, named_pairs}
 use Rattle.rib_player.specs.Entries.{Entry}
 use Rattle.rib_player.specs.Journal.{Side, side_of, sides_of, pairs_in}
 use Rattle.rib_player.specs.Sides.{sides_across, AreDistinct, IsStepFor}
-use Rattle.rib_player.specs.Changes.{found, is_lost, effect_of, noted_effect, or_no_route}
+use Rattle.rib_player.specs.Changes.{found, is_lost, effect_of, effect_of_changes, or_no_route}
 use Rattle.rib_player.proofs.PairLaws.{pair_cmp_total, same_pair}
 use Rattle.rib_player.proofs.TableLaws.{get-table_after, contains-named_pairs}
 use Rattle.rib_player.proofs.StoreLaws.{same_pairs}
@@ -98,7 +98,7 @@ route_after-found kept lost before route e = grind arith
 
 -- those that stay of such sides are those of the event's step
 pub IsStepFor-made : (routes : Routes) (event : Event) (changes : Changes) (sides kept : List Side)
-    → ((q : Pair) → noted_effect changes q ≡ effect q event)
+    → ((q : Pair) → effect_of_changes changes q ≡ effect q event)
     → ((q : Pair) → found sides q ≡ or_no_route (found (sides_of changes.entries.items) q) (is_lost changes.lost.keys q && is_some (get routes q)))
     → AreDistinct sides
     → kept ≡ filter (has_route (get routes)) sides

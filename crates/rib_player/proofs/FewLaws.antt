@@ -19,7 +19,7 @@ use Rattle.rib_player.specs.History.{pair_of}
 use Rattle.rib_player.specs.Tables.{Routes, PeerStores, store_at, routes_in, peer_routes, routed_peers}
 use Rattle.rib_player.specs.Lookups.{counted_peers}
 use Rattle.rib_player.specs.Representation.{IsUpdatedAt, route_presence}
-use Rattle.rib_player.specs.Indices.{ListsAll}
+use Rattle.rib_player.specs.Indices.{ContainsEachChosen}
 use Rattle.rib_player.specs.SparseSet.{choices}
 use Rattle.rib_player.specs.StoresByPeer.{stores_in}
 use Rattle.rib_player.specs.Noted.{routed_marks}
@@ -148,7 +148,7 @@ module _ {S : Type 0} (routes : S → stored.Routes (Rc Route Global)) where
 
   -- all were looked at
   module _ (s : numbered.Stores S) {numbers : List ℕ} {found : List (Peer × ℕ)} (whole : IsFound (stores_in s) s.order.entries numbers found)
-      (listed : ListsAll (choices s.routed) numbers) (noted : AreNoted routes (stores_in s) (routed_marks s)) where
+      (listed : ContainsEachChosen (choices s.routed) numbers) (noted : AreNoted routes (stores_in s) (routed_marks s)) where
     found-at : (p : Peer) → lookup (same_peer p) found ≡ listed_count (store_at (stores_in s) p)
     found-at p = at (store_at (stores_in s) p) refl
       where

@@ -19,7 +19,7 @@ use Rattle.rib_player.specs.Entries.{Entry}
 use Rattle.rib_player.specs.Representation.{cleared_entries}
 use Rattle.rib_player.specs.Lookups.{value_of}
 use Rattle.rib_player.specs.declared.changes.Changes.{Changes}
-use Rattle.rib_player.specs.Changes.{found, is_lost, effect_of, noted_effect}
+use Rattle.rib_player.specs.Changes.{found, is_lost, effect_of, effect_of_changes}
 use Rattle.rib_player.specs.History.{pair_cmp, pair_of, effect, effect_if, Clear, route_after}
 use Rattle.rib_player.specs.Tables.{Routes, table_after, is_named, named_pairs, peer_routes}
 use Rattle.rib_player.specs.Journal.{Side, side_of, sides_of, pairs_in, routes_across}
@@ -104,7 +104,7 @@ only-first (key ∷ []) (Some k) peer one is told = grind (arith, is, told)
 only-first (key ∷ other ∷ keys) first peer one is told = grind (arith, one)
 
 -- an event of which nothing but a loss is noted does just that
-pub lost-alone : (event : Event) (changes : Changes) (peer : Peer) → ((q : Pair) → noted_effect changes q ≡ effect q event) → changes.entries.items ≡ [] → changes.lost.keys ≡ peer ∷ []
+pub lost-alone : (event : Event) (changes : Changes) (peer : Peer) → ((q : Pair) → effect_of_changes changes q ≡ effect q event) → changes.entries.items ≡ [] → changes.lost.keys ≡ peer ∷ []
     → (q : Pair) → effect q event ≡ effect_if (same_peer q.peer peer) Clear
 lost-alone event changes peer notes none one q =
     sym (notes q) ∙ ap₂ (λ (entries : List Entry) (peers : List Peer). effect_of (found (sides_of entries) q) (is_lost peers q)) none one

@@ -19,7 +19,7 @@ use Rattle.rib_player.specs.History.{pair_cmp}
 use Rattle.rib_player.specs.Tables.{Routes}
 use Rattle.rib_player.specs.Claims.{is_routed}
 use Rattle.rib_player.specs.Journal.{Side, sides_of, pairs_in, step_sides}
-use Rattle.rib_player.specs.Sides.{Mark, mark_of, marks_of, step_marks, named_by, releases_at, releases_claim, any_releases_claim_of, marks_across, IsMarkOf, AreMarksOf, AreMarked}
+use Rattle.rib_player.specs.Sides.{Mark, mark_of, marks_of, step_marks, named_by, releases_at, releases_claim, any_releases_claim_of, marks_across, IsMarkOf, AreMarksOf, AreMarksOfSteps}
 use Rattle.rib_player.proofs.PairLaws.{pair_cmp_total, same_pair, pair_symm}
 
 abbrev pub tied : Pair → Pair → Bool
@@ -144,7 +144,7 @@ named-routed before after (m ∷ marks) q all there =
 
 -- ---- marks by step
 
-pub marked-length : (tables : List Routes) (steps : List (List Mark)) → AreMarked tables steps → length tables ≡ suc (length steps)
+pub marked-length : (tables : List Routes) (steps : List (List Mark)) → AreMarksOfSteps tables steps → length tables ≡ suc (length steps)
 marked-length [] steps all = absurd all
 marked-length (last ∷ []) [] all = refl
 marked-length (last ∷ []) (marks ∷ steps) all = absurd all
@@ -152,7 +152,7 @@ marked-length (before ∷ after ∷ tables) [] all = absurd all
 marked-length (before ∷ after ∷ tables) (marks ∷ steps) all = ap suc (marked-length (after ∷ tables) steps all.1)
 
 -- the first steps
-pub marked-take : (n : ℕ) (tables : List Routes) (steps : List (List Mark)) → AreMarked tables steps → AreMarked (take (suc n) tables) (take n steps)
+pub marked-take : (n : ℕ) (tables : List Routes) (steps : List (List Mark)) → AreMarksOfSteps tables steps → AreMarksOfSteps (take (suc n) tables) (take n steps)
 marked-take n [] steps all = absurd all
 marked-take zero (last ∷ []) steps all = tt
 marked-take zero (before ∷ after ∷ tables) steps all = tt
@@ -162,7 +162,7 @@ marked-take (suc n) (before ∷ after ∷ tables) [] all = absurd all
 marked-take (suc n) (before ∷ after ∷ tables) (marks ∷ steps) all = (all.0, marked-take n (after ∷ tables) steps all.1)
 
 -- the last of them
-pub marked-last : (tables : List Routes) (steps : List (List Mark)) (gone : List Mark) → AreMarked tables (steps ++ gone ∷ [])
+pub marked-last : (tables : List Routes) (steps : List (List Mark)) (gone : List Mark) → AreMarksOfSteps tables (steps ++ gone ∷ [])
     → AreMarksOf (slice_index_or tables (length steps) finite.empty) (slice_index_or tables (suc (length steps)) finite.empty) gone
 marked-last [] steps gone all = absurd all
 marked-last (last ∷ []) [] gone all = absurd all
@@ -171,8 +171,8 @@ marked-last (before ∷ after ∷ tables) [] gone all = all.0
 marked-last (before ∷ after ∷ tables) (marks ∷ steps) gone all = marked-last (after ∷ tables) steps gone all.1
 
 -- one more
-pub marked-push : (tables : List Routes) (steps : List (List Mark)) (next : Routes) (marks : List Mark) → AreMarked tables steps → AreMarksOf (slice_index_or tables (length steps) finite.empty) next marks
-    → AreMarked (tables ++ next ∷ []) (steps ++ marks ∷ [])
+pub marked-push : (tables : List Routes) (steps : List (List Mark)) (next : Routes) (marks : List Mark) → AreMarksOfSteps tables steps → AreMarksOf (slice_index_or tables (length steps) finite.empty) next marks
+    → AreMarksOfSteps (tables ++ next ∷ []) (steps ++ marks ∷ [])
 marked-push [] steps next marks all one = absurd all
 marked-push (last ∷ []) [] next marks all one = (one, tt)
 marked-push (last ∷ []) (first ∷ steps) next marks all one = absurd all
@@ -180,8 +180,8 @@ marked-push (before ∷ after ∷ tables) [] next marks all one = absurd all
 marked-push (before ∷ after ∷ tables) (first ∷ steps) next marks all one = (all.0, marked-push (after ∷ tables) steps next marks all.1 one)
 
 -- the first of them, and the others
-pub marked-first : (tables : List Routes) (marks : List Mark) (steps : List (List Mark)) → AreMarked tables (marks ∷ steps)
-    → AreMarksOf (slice_index_or tables 0 finite.empty) (slice_index_or tables 1 finite.empty) marks × AreMarked (drop 1 tables) steps
+pub marked-first : (tables : List Routes) (marks : List Mark) (steps : List (List Mark)) → AreMarksOfSteps tables (marks ∷ steps)
+    → AreMarksOf (slice_index_or tables 0 finite.empty) (slice_index_or tables 1 finite.empty) marks × AreMarksOfSteps (drop 1 tables) steps
 marked-first [] marks steps all = absurd all
 marked-first (last ∷ []) marks steps all = absurd all
 marked-first (before ∷ after ∷ tables) marks steps all = all

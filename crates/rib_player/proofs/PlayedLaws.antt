@@ -18,7 +18,7 @@ use Rattle.rib_player.specs.Tables.{Routes, Pairs, table_after, named_pairs, Con
 use Rattle.rib_player.specs.Timeline.{Timeline, after_play, needed_keys, IsWellFormed}
 use Rattle.rib_player.specs.Claims.{is_routed, one_if, brings, claims_along, held_claims, OnlyKeysHaveExtraClaims}
 use Rattle.rib_player.specs.Journal.{Side, pairs_in, step_sides, sides_by_step, tables_over, timeline_of, routes_across}
-use Rattle.rib_player.specs.Sides.{sides_at, sides_across, AreDistinctKeys, AreDistinct, IsStepFor, Mark, marks_by_step, step_marks, marks_across, any_releases_claim_of, IsMarkOf, AreMarksOf, AreMarked}
+use Rattle.rib_player.specs.Sides.{sides_at, sides_across, AreDistinctKeys, AreDistinct, IsStepFor, Mark, marks_by_step, step_marks, marks_across, any_releases_claim_of, IsMarkOf, AreMarksOf, AreMarksOfSteps}
 use Rattle.rib_player.specs.JournalState.{IsConsistentJournal, IsStepSwapped, AreClaimed, CanDrop}
 use Rattle.octet_forms.proofs.Lists.{AllByRecursion-get_or, AllByRecursion-set, AllByRecursion-push, AllByRecursion-take}
 use Rattle.rib_player.proofs.PairLaws.{pair_cmp_total}
@@ -34,7 +34,7 @@ use Rattle.rib_player.proofs.ClaimLaws.{NameFor, needed_keys-claimed, claimed-so
 -- ---- the keys are the wanted pairs
 
 -- what marks are right says which pairs steps name
-names-marked : (q : Pair) (tables : List Routes) (steps : List Step) → AreMarked tables (marks_by_step steps) → NameFor q tables (map (λ (sides : List Side). names.from_list (pairs_in sides)) (sides_by_step steps))
+names-marked : (q : Pair) (tables : List Routes) (steps : List Step) → AreMarksOfSteps tables (marks_by_step steps) → NameFor q tables (map (λ (sides : List Side). names.from_list (pairs_in sides)) (sides_by_step steps))
 names-marked q [] steps all = absurd all
 names-marked q (last ∷ []) [] all = tt
 names-marked q (last ∷ []) (step ∷ steps) all = absurd all
@@ -119,7 +119,7 @@ module _ {table table' : Contents} {beyond : Pair → ℕ} {cursor index : ℕ} 
       record {
         within = omega (arith, within, ap length crossed.marks, length-map steps step_marks, length-map steps' step_marks);
         distinct = subst (AllByRecursion AreDistinct) (sym crossed.sides) (distinct-crossed (sides_by_step steps) index table.routes (omega (arith, there, length-map steps step_sides)) played.distinct);
-        marked = subst (λ ts. AreMarked ts (marks_by_step steps')) (sym tables) (subst (AreMarked (tables-played played)) (sym crossed.marks) played.marked);
+        marked = subst (λ ts. AreMarksOfSteps ts (marks_by_step steps')) (sym tables) (subst (AreMarksOfSteps (tables-played played)) (sym crossed.marks) played.marked);
         held = subst (λ k. OnlyKeysHaveExtraClaims k beyond) (sym crossed.keys) played.held;
         claimed = λ q. ap (λ k. held_claims k beyond q) crossed.keys ∙ played.claimed q ∙ ap (claims_along q) (sym tables);
       }
@@ -176,7 +176,7 @@ module _ {n : ℕ} {first : Step} {steps : List Step} {table : Contents} {beyond
   forgotten-played table' beyond' same held less = record {
     within = omega (arith, played.within);
     distinct = played.distinct.1;
-    marked = subst (λ ts. AreMarked ts (marks_by_step steps)) (rest ∙ ap (tables_over n (sides_by_step steps)) (sym same))
+    marked = subst (λ ts. AreMarksOfSteps ts (marks_by_step steps)) (rest ∙ ap (tables_over n (sides_by_step steps)) (sym same))
         (marked-first (tables-played played) (step_marks first) (marks_by_step steps) played.marked).1;
     held = held;
     claimed = λ q. omega (arith, less q, forgotten q, ap (λ r. claims_along q (tables_over n (sides_by_step steps) r)) same);
@@ -203,8 +203,8 @@ pub claimed-dropped : (steps : List (List Mark)) (gone : List Mark) (held held' 
     → ((q : Pair) → held' q + one_if (any_releases_claim_of Last gone q) ≡ held q) → AreClaimed steps held' (take (length steps + 1) tables) new
 claimed-dropped steps gone held held' tables new are less =
     let n = length steps in record {
-      marked = subst (AreMarked (take (n + 1) tables)) (take_at steps (gone ∷ []) n refl)
-          (subst (λ m. AreMarked (take m tables) (take n (steps ++ gone ∷ []))) {x = suc n} {y = n + 1} (omega arith) (marked-take n tables (steps ++ gone ∷ []) are.marked));
+      marked = subst (AreMarksOfSteps (take (n + 1) tables)) (take_at steps (gone ∷ []) n refl)
+          (subst (λ m. AreMarksOfSteps (take m tables) (take n (steps ++ gone ∷ []))) {x = suc n} {y = n + 1} (omega arith) (marked-take n tables (steps ++ gone ∷ []) are.marked));
       claimed = λ q. omega (arith, less q, dropped steps gone held tables new q are);
     }
 
@@ -342,7 +342,7 @@ module _ {table : Contents} {beyond : Pair → ℕ} {cursor : ℕ} {steps : List
               (AllByRecursion-push AreDistinct (sides_by_step steps') (step_sides new)
               (subst (AllByRecursion AreDistinct) (take-map step_sides cursor steps ∙ ap sides_by_step (sym left)) (AllByRecursion-take AreDistinct cursor (sides_by_step steps) played.distinct))
               (subst (IsDistinct (eq_by_cmp pair_cmp)) (sym (ap pairs_in crossing ∙ pairs_in-sides_across table.routes sides)) step.distinct));
-          marked = subst (λ ts. AreMarked ts (marks_by_step (steps' ++ new ∷ []))) (sym tables) (subst (AreMarked (behind ++ next ∷ [])) (sym marks)
+          marked = subst (λ ts. AreMarksOfSteps ts (marks_by_step (steps' ++ new ∷ []))) (sym tables) (subst (AreMarksOfSteps (behind ++ next ∷ [])) (sym marks)
               (marked-push behind (marks_by_step steps') next (step_marks new) are.marked
               (subst (λ r. AreMarksOf r next (step_marks new)) (sym (ap (λ n. slice_index_or behind n finite.empty) count ∙ behind-last)) (right (step_marks new) is))));
           held = held;

@@ -38,8 +38,8 @@ effect_at pair route q = effect_if (eq_by_cmp pair_cmp q pair) (effect_of (Some 
 
 -- the effect on a pair of the changes noted for an event: the first entry of the pair sets or clears its
 -- route; without one, it is cleared if the session of its peer is lost, and else kept
-abbrev pub noted_effect : Changes → Pair → Effect
-noted_effect changes pair = effect_of (found (sides_of changes.entries.items) pair) (is_lost changes.lost.keys pair)
+abbrev pub effect_of_changes : Changes → Pair → Effect
+effect_of_changes changes pair = effect_of (found (sides_of changes.entries.items) pair) (is_lost changes.lost.keys pair)
 
 -- the first argument, or, if that is `None` and `absent` is true, `Some None`, which stands for a pair
 -- without a route

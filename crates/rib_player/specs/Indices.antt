@@ -30,5 +30,5 @@ pub record IsSwapRemoved {X : Type 0} (old new : List X) (i : ℕ) : Type 0 wher
   pub others : (j : ℕ) → j ≢ i → j < length new → slice_get new j ≡ slice_get old j
 
 -- `numbers` contains each index at which `choices` has `true`
-abbrev pub ListsAll : List Bool → List ℕ → Type 0
-ListsAll choices numbers = (n : ℕ) → slice_get choices n ≡ Some true → Contains numbers n
+abbrev pub ContainsEachChosen : List Bool → List ℕ → Type 0
+ContainsEachChosen choices numbers = (n : ℕ) → slice_get choices n ≡ Some true → Contains numbers n

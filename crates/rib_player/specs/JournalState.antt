@@ -9,7 +9,7 @@ use Rattle.rib_player.specs.Tables.{Routes, Contents}
 use Rattle.rib_player.specs.Claims.{claims_along, held_claims, OnlyKeysHaveExtraClaims}
 use Rattle.rib_player.specs.Entries.{Entry}
 use Rattle.rib_player.specs.Journal.{tables_over, routes_across, sides_of, sides_by_step}
-use Rattle.rib_player.specs.Sides.{sides_at, sides_across, AreDistinct, Mark, marks_of, marks_by_step, marks_across, AreMarked}
+use Rattle.rib_player.specs.Sides.{sides_at, sides_across, AreDistinct, Mark, marks_of, marks_by_step, marks_across, AreMarksOfSteps}
 
 -- a table, the claims beyond its keys, a cursor and steps fit together: the cursor is within the steps; each
 -- step names a pair once, and marks it as the tables before and after the step have it; and each pair has as
@@ -17,7 +17,7 @@ use Rattle.rib_player.specs.Sides.{sides_at, sides_across, AreDistinct, Mark, ma
 pub record IsConsistentJournal (table : Contents) (beyond : Pair → ℕ) (cursor : ℕ) (steps : List Step) : Type 0 where
   pub within : cursor ≤ length steps
   pub distinct : AllByRecursion AreDistinct (sides_by_step steps)
-  pub marked : AreMarked (tables_over cursor (sides_by_step steps) table.routes) (marks_by_step steps)
+  pub marked : AreMarksOfSteps (tables_over cursor (sides_by_step steps) table.routes) (marks_by_step steps)
   pub held : OnlyKeysHaveExtraClaims table.keys beyond
   pub claimed : (q : Pair) → held_claims table.keys beyond q ≡ claims_along q (tables_over cursor (sides_by_step steps) table.routes)
 
@@ -39,14 +39,14 @@ pub record AreApplied (old new : Contents) (entries entries' : List Entry) : Typ
 -- the marks of steps fit the tables around them, and the claims that are held are those that these tables
 -- make, plus new ones, of a step that isn't among the steps yet
 pub record AreClaimed (steps : List (List Mark)) (held : Pair → ℕ) (tables : List Routes) (new : Pair → ℕ) : Type 0 where
-  pub marked : AreMarked tables steps
+  pub marked : AreMarksOfSteps tables steps
   pub claimed : (q : Pair) → held q ≡ claims_along q tables + new q
 
 -- if the marks of `steps` and the claims `held` are right for some tables and some claims of a new step
 -- (`AreClaimed`), then those of `steps'` and `held'` are right for the first `cursor + 1` of these tables and
 -- that step: the steps after the cursor were dropped with their claims
-abbrev pub StayClaimed : ℕ → List Step → (Pair → ℕ) → List Step → (Pair → ℕ) → Type 0
-StayClaimed cursor steps held steps' held' =
+abbrev pub ClaimsStayRightWithoutSteps : ℕ → List Step → (Pair → ℕ) → List Step → (Pair → ℕ) → Type 0
+ClaimsStayRightWithoutSteps cursor steps held steps' held' =
     (tables : List Routes) (new : Pair → ℕ) → AreClaimed (marks_by_step steps) held tables new → AreClaimed (marks_by_step steps') held' (take (cursor + 1) tables) new
 
 -- the steps after the cursor can be dropped: the held claims fit the steps, and a pair that has no claim

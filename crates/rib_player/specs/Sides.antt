@@ -127,9 +127,9 @@ pub record AreMarksOf (before after : Routes) (marks : List Mark) : Type 0 where
   pub unnamed : (q : Pair) → named_by marks q ≡ false → is_routed q before ≡ is_routed q after
 
 -- for each step, its marks are right for the tables before and after it: each says in which of the two its
--- pair has a route, at least one of them, and pairs without a mark have one in both or in neither. There is
--- one table more than steps
-abbrev pub AreMarked : List Routes → List (List Mark) → Type 0
-AreMarked (last ∷ []) [] = Unit {0}
-AreMarked (before ∷ after ∷ tables) (marks ∷ steps) = AreMarksOf before after marks × AreMarked (after ∷ tables) steps
-AreMarked tables steps = ⊥
+-- pair has a route, at least one of them, and pairs without a mark have one in both or in neither. The oldest
+-- table is the first, and there is one more than steps
+abbrev pub AreMarksOfSteps : List Routes → List (List Mark) → Type 0
+AreMarksOfSteps (last ∷ []) [] = Unit {0}
+AreMarksOfSteps (before ∷ after ∷ tables) (marks ∷ steps) = AreMarksOf before after marks × AreMarksOfSteps (after ∷ tables) steps
+AreMarksOfSteps tables steps = ⊥

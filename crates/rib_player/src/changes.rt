@@ -12,7 +12,7 @@ ghost use Rattle.rib_player.specs.declared.pair.Pair.{Pair};
 ghost use Rattle.mrt_events.specs.declared.peer.Peer.{Peer};
 ghost use Rattle.rib_player.specs.History.{pair_of, Clear, effect_if, item_effect, later, effect};
 ghost use Rattle.rib_player.specs.Tables.{pointed_route};
-ghost use Rattle.rib_player.specs.Changes.{noted_effect, effect_at, items_effect, HasRoute};
+ghost use Rattle.rib_player.specs.Changes.{effect_of_changes, effect_at, items_effect, HasRoute};
 
 use crate::entry::Entry;
 use crate::numbered_peer::{NO_NUMBER, NumberedPeer};
@@ -66,9 +66,9 @@ impl Changes {
         prefix: &Prefix,
         route: Option<Rc<Route>>,
     ) -> Result<(), AllocError>
-        ensures { OnOk result ((q : Pair) → noted_effect self.new q
+        ensures { OnOk result ((q : Pair) → effect_of_changes self.new q
             ≡ later (effect_at (pair_of peer.now prefix.now) (pointed_route route) q)
-            (noted_effect self.old q)) }
+            (effect_of_changes self.old q)) }
     {
         if self.is_peer_lost(peer) {
             return Ok(());
@@ -93,8 +93,8 @@ impl Changes {
         items: &[Item],
         known: &mut RouteInterner,
     ) -> Result<(), AllocError>
-        ensures { OnOk result ((q : Pair) → noted_effect self.new q
-            ≡ later (items_effect q items.now) (noted_effect self.old q)) }
+        ensures { OnOk result ((q : Pair) → effect_of_changes self.new q
+            ≡ later (items_effect q items.now) (effect_of_changes self.old q)) }
     {
         // Of most events either all items share a route or none do, so that `items` is often empty.
         // This function is inlined, which saves a call then.
@@ -121,8 +121,8 @@ impl Changes {
     ) -> Result<(), AllocError>
         requires { IfSome shared (λ route.
             AllByRecursion (λ item. HasRoute route.now.value (item_value item)) items.now) }
-        ensures { OnOk result ((q : Pair) → noted_effect self.new q
-            ≡ later (items_effect q items.now) (noted_effect self.old q)) }
+        ensures { OnOk result ((q : Pair) → effect_of_changes self.new q
+            ≡ later (items_effect q items.now) (effect_of_changes self.old q)) }
     {
         let mut rest = items.len();
         'items: while rest > 0 {
@@ -160,8 +160,8 @@ impl Changes {
         known: &mut RouteInterner,
     ) -> Result<(), AllocError>
         requires { AnnounceOneRoute (map item_value items.now) }
-        ensures { OnOk result ((q : Pair) → noted_effect self.new q
-            ≡ later (items_effect q items.now) (noted_effect self.old q)) }
+        ensures { OnOk result ((q : Pair) → effect_of_changes self.new q
+            ≡ later (items_effect q items.now) (effect_of_changes self.old q)) }
     {
         let Some(Item::Announce(peer, _, route)) = items.first() else {
             return self.note_items_if_any(table, items, known);
@@ -183,7 +183,7 @@ pub(crate) fn changes_of<S: PrefixStore<Rc<Route>>>(
     table: &Table<S>,
     known: &mut RouteInterner,
 ) -> Result<Changes, AllocError>
-    ensures { IfOk result (λ changes. (q : Pair) → noted_effect changes q ≡ effect q event.now) }
+    ensures { IfOk result (λ changes. (q : Pair) → effect_of_changes changes q ≡ effect q event.now) }
 {
     let mut changes = Changes {
         alloc,

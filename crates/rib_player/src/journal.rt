@@ -13,7 +13,7 @@ ghost use Rattle.rib_player.specs.declared.entry.JournalEnd.TheVariants.{Last};
 ghost use Rattle.rib_player.specs.Claims.{one_if, claims_beyond, held_claims_of, OnlyKeysHaveExtraClaims};
 ghost use Rattle.rib_player.specs.Journal.{sides_of, sides_by_step, routes_across};
 ghost use Rattle.rib_player.specs.Sides.{sides_at, sides_across, ClearAllOf, AreDistinctKeys, AreDistinct, marks_of, marks_by_step, any_releases_claim_of, entry_count};
-ghost use Rattle.rib_player.specs.JournalState.{IsStepSwapped, AreApplied, CanDrop, StayClaimed};
+ghost use Rattle.rib_player.specs.JournalState.{IsStepSwapped, AreApplied, CanDrop, ClaimsStayRightWithoutSteps};
 
 use crate::claims::{ExtraKeyClaims, apply_entry, release_claims};
 use crate::entry::{Entry, JournalEnd, Step};
@@ -214,7 +214,7 @@ pub(crate) fn drop_steps_ahead<S: PrefixStore<Rc<Route>>>(
     requires claimed { CanDrop (marks_by_step steps.old.items) cursor
         (held_claims_of table.old claims.old) table.old.routes }
     ensures held { OnlyKeysHaveExtraClaims table.new.keys (claims_beyond claims.new) }
-    ensures claimed { StayClaimed cursor steps.old.items (held_claims_of table.old claims.old)
+    ensures claimed { ClaimsStayRightWithoutSteps cursor steps.old.items (held_claims_of table.old claims.old)
         steps.new.items (held_claims_of table.new claims.new) }
     ensures routes { table.new.routes ≡ table.old.routes }
     ensures steps { steps.new.items ≡ take cursor steps.old.items }

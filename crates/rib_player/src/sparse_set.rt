@@ -3,7 +3,7 @@
 //! have a route. Read [`SparseSet`] first.
 
 ghost use Rattle.std.specs.Prelude.{◌≡◌, ◌<◌, ◌≤◌, ◌++◌, ◌∷◌, ℕ, [], false, not, Some, length, OnOk, slice_get, vec_len, vec_capacity};
-ghost use Rattle.rib_player.specs.Indices.{AreInverse, IsSetAt, IsSwapRemoved, ListsAll, swapped_index};
+ghost use Rattle.rib_player.specs.Indices.{AreInverse, IsSetAt, IsSwapRemoved, ContainsEachChosen, swapped_index};
 ghost use Rattle.std.proofs.Props.{props};
 
 use crate::spare_capacity::shrink_if_oversized;
@@ -133,7 +133,7 @@ impl SparseSet {
 
     /// Returns the members, each once, in unspecified order.
     pub(crate) fn numbers(&self) -> &[usize]
-        ensures { ListsAll (choices self.now) result.now }
+        ensures { ContainsEachChosen (choices self.now) result.now }
     {
         &self.numbers[..self.count]
     }

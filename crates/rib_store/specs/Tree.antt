@@ -42,12 +42,12 @@ leaf_route (tree.Rooted' routed key p slot left right) = None
 
 -- the tree is the single key `key`, with or without a route, stored without a heap node (`Bare` or
 -- `Leaf`)
-abbrev pub IsLeaf : {K R : Type 0} → K → Tree K R → Type 0
-IsLeaf key tree.Empty = ⊥
-IsLeaf key (tree.Bare other) = other ≡ key
-IsLeaf key (tree.Leaf other route) = other ≡ key
-IsLeaf key (tree.Forked' routed other p left right) = ⊥
-IsLeaf key (tree.Rooted' routed other p slot left right) = ⊥
+abbrev pub IsSingleKey : {K R : Type 0} → K → Tree K R → Type 0
+IsSingleKey key tree.Empty = ⊥
+IsSingleKey key (tree.Bare other) = other ≡ key
+IsSingleKey key (tree.Leaf other route) = other ≡ key
+IsSingleKey key (tree.Forked' routed other p left right) = ⊥
+IsSingleKey key (tree.Rooted' routed other p slot left right) = ⊥
 
 -- the root of the tree is stored as a branch without a slot (`Forked`), and `prefix` is its prefix,
 -- which is no key

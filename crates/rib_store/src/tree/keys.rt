@@ -3,7 +3,7 @@
 
 ghost use Rattle.std.specs.Prelude.{◌≡◌, None, List, Bool};
 ghost use Rattle.ip_prefix.specs.Turns.{way};
-ghost use Rattle.rib_store.specs.Tree.{shape_of, IsLeaf, HasCorrectMarks, at, RootIsOnSide, IsRadixTree, IsRadixTreeBelowRoot, IsUpdatedAt};
+ghost use Rattle.rib_store.specs.Tree.{shape_of, IsSingleKey, HasCorrectMarks, at, RootIsOnSide, IsRadixTree, IsRadixTreeBelowRoot, IsUpdatedAt};
 
 use crate::tree::{KeySlot, Tree};
 use ip_prefix::{Prefix, Turn};
@@ -65,7 +65,7 @@ impl<K: PackedPrefix, R: Drop> Tree<K, R> {
 /// Otherwise does nothing. `prefix` is the node's prefix; requires that the tree has this node
 /// only.
 fn discard_leaf<K: PackedPrefix, R: Drop>(tree: &mut Tree<K, R>, prefix: K, key: &Prefix)
-    requires { IsLeaf prefix tree.old }
+    requires { IsSingleKey prefix tree.old }
     ensures shaped { IsRadixTree (shape_of K.network tree.new) }
     ensures marked { HasCorrectMarks tree.new }
     ensures slots { IsUpdatedAt (at (shape_of K.network tree.old)) (way key.now) None

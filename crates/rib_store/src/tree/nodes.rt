@@ -5,7 +5,7 @@ ghost use Rattle.std.specs.Prelude.{◌≡◌, ◌⊎◌, ◌||◌, Some, None, 
 ghost use Rattle.ip_prefix.specs.Turns.{way};
 ghost use Rattle.rib_store.specs.declared.tree.KeySlot.TheVariants.{NoKey};
 ghost use Rattle.ip_prefix.specs.declared.turn.Turn.TheVariants.{Left, Right};
-ghost use Rattle.rib_store.specs.Tree.{Empty, shape_of, leaf_route, is_filled, has_routes, any_has_routes, IsLeaf, HasCorrectMarks, slot_of, IsRootedOver};
+ghost use Rattle.rib_store.specs.Tree.{Empty, shape_of, leaf_route, is_filled, has_routes, any_has_routes, IsSingleKey, HasCorrectMarks, slot_of, IsRootedOver};
 
 use crate::tree::{Fork, KeySlot, Node, Tree};
 use ip_prefix::Turn;
@@ -16,7 +16,7 @@ use std::mem;
 /// Returns a tree that keeps one prefix, `prefix`, with the route that `route` holds, or without a
 /// route if that is `None`. Leaves `None` in `route`. Allocates no memory.
 pub(crate) fn new_leaf<K: PackedPrefix, R: Drop>(prefix: K, route: &mut Option<R>) -> Tree<K, R>
-    ensures leaf { IsLeaf prefix result }
+    ensures leaf { IsSingleKey prefix result }
     ensures marked { HasCorrectMarks result }
     ensures slot { leaf_route result ≡ route.old }
     ensures routed { has_routes result ≡ is_some route.old }

@@ -4,7 +4,7 @@
 ghost use Rattle.std.specs.Prelude.{◌≡◌, ◌≢◌, ◌||◌, Some, None, true, is_some, not, OnOk, OnErr, IfOk};
 ghost use Rattle.ip_prefix.specs.Turns.{way, turn_of};
 ghost use Rattle.ip_prefix.specs.declared.turn.Turn.TheVariants.{Outside, Here};
-ghost use Rattle.rib_store.specs.Tree.{shape_of, has_routes, IsLeaf, IsFork, IsAtRoot, HasCorrectMarks, at, root, IsOfFamily, IsRadixTree, IsInserted, IsInsertedAt};
+ghost use Rattle.rib_store.specs.Tree.{shape_of, has_routes, IsSingleKey, IsFork, IsAtRoot, HasCorrectMarks, at, root, IsOfFamily, IsRadixTree, IsInserted, IsInsertedAt};
 ghost use Rattle.rib_store.specs.Slots.{route_of_slot};
 
 use crate::tree::nodes::{
@@ -287,7 +287,7 @@ fn put_at_leaf<K: PackedPrefix, R: Drop>(
     key: &Prefix,
     route: &mut Option<R>,
 ) -> Result<bool, AllocError>
-    requires leaf { IsLeaf prefix tree.old }
+    requires leaf { IsSingleKey prefix tree.old }
     requires family { (K.network prefix).family ≡ key.now.family }
     requires kind { key.now.family ≡ K.family }
     ensures made { IfOk result (λ made. made ≡

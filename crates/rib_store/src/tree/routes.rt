@@ -3,7 +3,7 @@
 
 ghost use Rattle.std.specs.Prelude.{◌≡◌, ◌+◌, ◌<◌, ◌≤◌, ◌⊎◌, ◌++◌, Some, None, true, false, is_some, not, option_to_list, IsSome, length, map, vec_capacity};
 ghost use Rattle.ip_prefix.specs.Turns.{way};
-ghost use Rattle.rib_store.specs.Tree.{shape_of, leaf_route, is_filled, has_routes, IsLeaf, HasCorrectMarks, at, root, slot_of, vacated, without_routes, IsRadixTree, IsUpdatedAt};
+ghost use Rattle.rib_store.specs.Tree.{shape_of, leaf_route, is_filled, has_routes, IsSingleKey, HasCorrectMarks, at, root, slot_of, vacated, without_routes, IsRadixTree, IsUpdatedAt};
 ghost use Rattle.rib_store.specs.Slots.{route_of_slot};
 ghost use Rattle.rib_store.specs.Walks.{all_routes};
 
@@ -169,8 +169,8 @@ pub(crate) fn exchange_leaf<K: PackedPrefix, R: Drop>(
     prefix: K,
     route: &mut Option<R>,
 )
-    requires { IsLeaf prefix tree.old }
-    ensures leaf { IsLeaf prefix tree.new }
+    requires { IsSingleKey prefix tree.old }
+    ensures leaf { IsSingleKey prefix tree.new }
     ensures marked { HasCorrectMarks tree.new }
     ensures slot { leaf_route tree.new ≡ route.old }
     ensures taken_out { leaf_route tree.old ≡ route.new }

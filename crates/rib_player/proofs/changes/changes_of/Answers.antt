@@ -4,7 +4,7 @@ use Rattle.rib_player.specs.declared.pair.Pair.{Pair}
 use Rattle.rib_player.specs.History.{item_effect, later, last_effect}
 use Rattle.rib_player.specs.Entries.{Entry}
 use Rattle.rib_player.specs.Journal.{sides_of}
-use Rattle.rib_player.specs.Changes.{noted_effect, found, is_lost, effect_of, items_effect}
+use Rattle.rib_player.specs.Changes.{effect_of_changes, found, is_lost, effect_of, items_effect}
 use Rattle.rib_player.proofs.ChangesLaws.{effect-parts, effects-sayings}
 use Rattle.rib_player.proofs.changes.changes_of.Goals as goal
 
@@ -22,7 +22,7 @@ returns g c =
     let ranges = c.shared_ranges-shared.result in
     let shared = c.shared_ranges-shared.ensures in
     λ (q : Pair). effect-parts q items ranges.start ranges.middle ranges.end
-    (noted_effect c.note_items_if_any.new.self q) (noted_effect c.note_items_of_one_route.new.self q) (noted_effect c.note_items_of_one_route-2.new.self q) (noted_effect c.note_items_if_any-2.new.self q)
+    (effect_of_changes c.note_items_if_any.new.self q) (effect_of_changes c.note_items_of_one_route.new.self q) (effect_of_changes c.note_items_of_one_route-2.new.self q) (effect_of_changes c.note_items_if_any-2.new.self q)
     shared.first.ordered shared.second.ordered
     (c.in_ok-note_items_if_any.ensures q
     ∙ ap₂ (λ l before. later (items_effect q l) before) (take_all _ (drop ranges.end items) (omega (arith, length-drop ranges.end items)))

@@ -1,6 +1,6 @@
 use Rattle.std.proofs.Common.{Some, None, false, is_some, refl, sym, subst, ◌∙◌}
 use Rattle.ip_prefix.specs.Turns.{way}
-use Rattle.rib_store.specs.Tree.{Rooted, shape_of, is_filled, has_routes, IsLeaf, HasCorrectMarks, at, slot_of, IsRadixTree}
+use Rattle.rib_store.specs.Tree.{Rooted, shape_of, is_filled, has_routes, IsSingleKey, HasCorrectMarks, at, slot_of, IsRadixTree}
 use Rattle.rib_store.proofs.ChangeLaws.{put_left, put_right, put_here, shaped_left, shaped_right}
 use Rattle.rib_store.proofs.MarkLaws.{marked_right}
 use Rattle.rib_store.proofs.ShapeLaws.{put_leaf}
@@ -8,12 +8,12 @@ use Rattle.rib_store.proofs.tree.+exchange.Goals as goal
 
 pub Tree::exchange-returns-in-Bare-clause-slots : goal.Tree::exchange-returns-in-Bare-clause-slots
 Tree::exchange-returns-in-Bare-clause-slots g t c =
-    let was : IsLeaf c.in-Bare.prefix c.args.self.now = rw c.in-Bare.is refl in
+    let was : IsSingleKey c.in-Bare.prefix c.args.self.now = rw c.in-Bare.is refl in
     put_leaf g.K.PackedPrefix.network c.args.self.now c.exchange_leaf.new.tree c.in-Bare.prefix (way c.args.key.now) c.args.route.now was c.exchange_leaf.ensures.leaf c.exchange_leaf.ensures.slot c.requires.key
 
 pub Tree::exchange-returns-in-Leaf-clause-slots : goal.Tree::exchange-returns-in-Leaf-clause-slots
 Tree::exchange-returns-in-Leaf-clause-slots g t c =
-    let was : IsLeaf c.in-Leaf.prefix c.args.self.now = rw c.in-Leaf.is refl in
+    let was : IsSingleKey c.in-Leaf.prefix c.args.self.now = rw c.in-Leaf.is refl in
     put_leaf g.K.PackedPrefix.network c.args.self.now c.exchange_leaf-in-Leaf.new.tree c.in-Leaf.prefix (way c.args.key.now) c.args.route.now was c.exchange_leaf-in-Leaf.ensures.leaf c.exchange_leaf-in-Leaf.ensures.slot c.requires.key
 
 pub Tree::exchange-returns-in-Here-clause-slots : goal.Tree::exchange-returns-in-Here-clause-slots
