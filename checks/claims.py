@@ -96,8 +96,7 @@ CLAIMS = {
         Ground(RESULTS, 'Splits', (), 'octets split into frames and a rest'),
         Ground('mrt_wire/src/laws.rt', 'law_input_splits_in_one_way', ('',), 'they do so in one way, so the texts are a function of them'),
         Ground('mrt_wire/src/laws.rt', 'law_input_splits_into_records', ('',),
-               'and no octets are without one. That it is a double negation suffices: what is said of texts can be '
-               'decided'),
+               'and no octets are without one'),
         Ground('bgpdump_tool/src/laws.rt', 'law_one_script', ('one', 'some'), 'likewise a script and its lines'),
         Ground('bgpdump_command_line/src/command_line.rt', 'settings', ('answers',),
                '`-t` gives the `Stamp` of the clauses; that `main` hands it on is tested'),
@@ -128,9 +127,10 @@ CLAIMS = {
         Ground('mrt_wire/src/source.rt', 'next', ('next', 'first'), 'its fault is returned, and the next call reads on'),
         Ground(DUMP, 'run_dump', ('octets',), 'each fault is reported; `run_play` likewise'),
         Ground(RESULTS, 'record_result', (), 'the fault has number and offset of its record'),
-        Ground(RESULTS, 'state_after', (), 'its offset is that after the octets which this one states (`Splits`)'),
+        Ground(RESULTS, 'state_after', (), 'the next record begins after the octets that this one states (`Splits`)'),
         Ground('mrt_frames/specs/Record.antt', 'rest_fault', (), 'unless it is cut or too long'),
         Ground(RESULTS, 'index_after', (), 'a damaged peer index leaves the one before'),
+        Ground(RESULTS, 'entries_fault', (), 'without one, records of entries are faulty'),
         Ground('bgpdump_lines/specs/Run.antt', 'fault_report', (), 'the report'),
     ),
 }

@@ -4,7 +4,7 @@ use Rattle.std.proofs.lemmas.List.Sums.{sum_by-cons}
 use Rattle.octet_forms.proofs.Lists.{append_parts}
 use Rattle.bgp_paths.specs.declared.segment.SegmentKind.{SegmentKind}
 use Rattle.bgp_paths.specs.declared.segment.SegmentKind.TheVariants.{AsSet, AsSequence}
-use Rattle.bgp_paths.specs.Merge.{PathUnit, units_by_kind, unit_weight, units_weight, weight_by, IsLongest}
+use Rattle.bgp_paths.specs.Merge.{PathUnit, units_of_segment_at, unit_weight, units_weight, weight_by, IsLongest}
 use Rattle.bgp_paths.proofs.Weights.{light}
 
 -- a hop that weighs so much, before what is kept of others with what it leaves; nothing where too little is left for it
@@ -101,16 +101,16 @@ front-append (hop ∷ hops) others left h =
     ∙ ap (λ n. hop ∷ (hops ++ front others n)) same
 
 -- of a sequence that weighs more than is left, as many numbers as are left
-numbers_cut : (place : ℕ) (ns : List ℕ) (others : List PathUnit) (left : ℕ) → left < length ns → front (units_by_kind AsSequence place ns ++ others) left ≡ units_by_kind AsSequence place (take left ns)
+numbers_cut : (place : ℕ) (ns : List ℕ) (others : List PathUnit) (left : ℕ) → left < length ns → front (units_of_segment_at AsSequence place ns ++ others) left ≡ units_of_segment_at AsSequence place (take left ns)
 numbers_cut place [] others left h = absurd (omega arith)
 numbers_cut place (n ∷ ns) others zero h = refl
 numbers_cut place (n ∷ ns) others (suc left) h =
     let first : PathUnit = record { place = place; part = record { numbers = n ∷ []; kind = AsSequence } } in
     ap (λ l. first ∷ l) (numbers_cut place ns others left (omega arith))
 
-set_cut : (place : ℕ) (ns : List ℕ) (others : List PathUnit) (left : ℕ) → left < 1 → front (units_by_kind AsSet place ns ++ others) left ≡ units_by_kind AsSequence place (take left ns)
+set_cut : (place : ℕ) (ns : List ℕ) (others : List PathUnit) (left : ℕ) → left < 1 → front (units_of_segment_at AsSet place ns ++ others) left ≡ units_of_segment_at AsSequence place (take left ns)
 set_cut place ns others left h = grind arith
 
 -- of a segment that weighs more than is left, as much as is left
-pub front_cut : (kind : SegmentKind) (place : ℕ) (ns : List ℕ) (others : List PathUnit) (left : ℕ) → left < weight_by kind (length ns) → front (units_by_kind kind place ns ++ others) left ≡ units_by_kind AsSequence place (take left ns)
+pub front_cut : (kind : SegmentKind) (place : ℕ) (ns : List ℕ) (others : List PathUnit) (left : ℕ) → left < weight_by kind (length ns) → front (units_of_segment_at kind place ns ++ others) left ≡ units_of_segment_at AsSequence place (take left ns)
 front_cut kind place ns others left h = grind (arith, set_cut place ns others left, numbers_cut place ns others left)

@@ -6,9 +6,9 @@ use Rattle.std.proofs.lemmas.List.Sums.{sum_by-cons, sum_by-append}
 use Rattle.bgp_paths.specs.declared.segment.SegmentKind.{SegmentKind}
 use Rattle.bgp_paths.specs.declared.segment.SegmentKind.TheVariants.{AsSequence}
 use Rattle.bgp_paths.specs.declared.segment.Segment.{Segment}
-use Rattle.bgp_paths.specs.Merge.{PathUnit, units_by_kind, units_from, unit_weight, joined_units, gathered_units, segments_of, weight_by, segment_weight}
+use Rattle.bgp_paths.specs.Merge.{PathUnit, units_of_segment_at, units_from, unit_weight, joined_units, gathered_units, segments_of, weight_by, segment_weight}
 use Rattle.bgp_paths.specs.Readers.{segment_unless_empty}
-use Rattle.bgp_paths.proofs.Weights.{cut_fits, total, weight-units_by_kind}
+use Rattle.bgp_paths.proofs.Weights.{cut_fits, total, weight-units_of_segment_at}
 use Rattle.bgp_paths.proofs.Fronts.{hops_before, front, front-append, front_cut}
 
 -- ---- hops of later segments
@@ -37,14 +37,14 @@ behind-gathered_units : (place : ℕ) (hops : List PathUnit) → IsBehind place 
 behind-gathered_units place [] h = tt
 behind-gathered_units place (hop ∷ hops) h = behind-joined_units place hop (gathered_units hops) h
 
-behind-units_by_kind : (kind : SegmentKind) (place next : ℕ) (ns : List ℕ) (more : List PathUnit) → place < next → IsBehind place more → IsBehind place (units_by_kind kind next ns ++ more)
-behind-units_by_kind AsSequence place next [] more h a = a
-behind-units_by_kind AsSequence place next (n ∷ ns) more h a = h
-behind-units_by_kind kind place next ns more h a = h
+behind-units_of_segment_at : (kind : SegmentKind) (place next : ℕ) (ns : List ℕ) (more : List PathUnit) → place < next → IsBehind place more → IsBehind place (units_of_segment_at kind next ns ++ more)
+behind-units_of_segment_at AsSequence place next [] more h a = a
+behind-units_of_segment_at AsSequence place next (n ∷ ns) more h a = h
+behind-units_of_segment_at kind place next ns more h a = h
 
 behind-units_from : (place next : ℕ) (ss : List Segment) → place < next → IsBehind place (units_from next ss)
 behind-units_from place next [] h = tt
-behind-units_from place next (s ∷ ss) h = behind-units_by_kind s.kind place next s.numbers (units_from (suc next) ss) h (behind-units_from place (suc next) ss (omega arith))
+behind-units_from place next (s ∷ ss) h = behind-units_of_segment_at s.kind place next s.numbers (units_from (suc next) ss) h (behind-units_from place (suc next) ss (omega arith))
 
 -- ---- the hops of one segment, and others behind them
 
@@ -56,13 +56,13 @@ abbrev hop_at : ℕ → SegmentKind → List ℕ → PathUnit
 hop_at place kind ns = record { place = place; part = record { numbers = ns; kind = kind } }
 
 gathered_units-numbers : (place n : ℕ) (ns : List ℕ) (others : List PathUnit) → IsBehind place (gathered_units others)
-    → gathered_units (units_by_kind AsSequence place (n ∷ ns) ++ others) ≡ hop_at place AsSequence (n ∷ ns) ∷ gathered_units others
+    → gathered_units (units_of_segment_at AsSequence place (n ∷ ns) ++ others) ≡ hop_at place AsSequence (n ∷ ns) ∷ gathered_units others
 gathered_units-numbers place n [] others h = apart (hop_at place AsSequence (n ∷ [])) (gathered_units others) h
 gathered_units-numbers place n (m ∷ ns) others h =
     ap (joined_units (hop_at place AsSequence (n ∷ []))) (gathered_units-numbers place m ns others h) ∙ cond-true (place == place) _ _ (eq-eqb place place refl)
 
 -- the hops of a segment are put back into it
-parted : (kind : SegmentKind) (place : ℕ) (ns : List ℕ) (others : List PathUnit) → IsBehind place (gathered_units others) → segments_of (units_by_kind kind place ns ++ others) ≡ segment_unless_empty kind ns ++ segments_of others
+parted : (kind : SegmentKind) (place : ℕ) (ns : List ℕ) (others : List PathUnit) → IsBehind place (gathered_units others) → segments_of (units_of_segment_at kind place ns ++ others) ≡ segment_unless_empty kind ns ++ segments_of others
 parted AsSequence place [] others h = refl
 parted AsSequence place (n ∷ ns) others h = ap (map (λ hop. hop.part)) (gathered_units-numbers place n ns others h)
 parted kind place ns others h = ap (map (λ hop. hop.part)) (apart (hop_at place kind ns) (gathered_units others) h)
@@ -81,17 +81,17 @@ kept_segments place ss left = segments_of (front (units_from place ss) left)
 pub kept_whole : (place left : ℕ) (s : Segment) (ss : List Segment) → segment_weight s ≤ left
     → kept_segments place (s ∷ ss) left ≡ segment_unless_empty s.kind s.numbers ++ kept_segments (suc place) ss (left - segment_weight s)
 kept_whole place left s ss h =
-    let first = units_by_kind s.kind place s.numbers in
+    let first = units_of_segment_at s.kind place s.numbers in
     let others = units_from (suc place) ss in
     let more = front others (left - segment_weight s) in
-    let weighs = weight-units_by_kind s.kind place s.numbers in
+    let weighs = weight-units_of_segment_at s.kind place s.numbers in
     ap segments_of (front-append first others left (omega arith) ∙ ap (λ n. first ++ front others (left - n)) weighs)
     ∙ parted s.kind place s.numbers more (behind-gathered_units place more (behind-front place (left - segment_weight s) others (behind-units_from place (suc place) ss (omega arith))))
 
 -- of another so many numbers are kept, and nothing behind it
 pub kept_cut : (place left : ℕ) (s : Segment) (ss : List Segment) → left < segment_weight s → kept_segments place (s ∷ ss) left ≡ segment_unless_empty AsSequence (take left s.numbers)
 kept_cut place left s ss h =
-    let numbers = units_by_kind AsSequence place (take left s.numbers) in
+    let numbers = units_of_segment_at AsSequence place (take left s.numbers) in
     ap segments_of (front_cut s.kind place s.numbers (units_from (suc place) ss) left h ∙ sym (append-nil numbers))
     ∙ parted AsSequence place (take left s.numbers) [] tt ∙ append-nil (segment_unless_empty AsSequence (take left s.numbers))
 

@@ -5,7 +5,7 @@ use Rattle.std.proofs.lemmas.List.Sums.{sum_by-cons, sum_by-append}
 use Rattle.bgp_paths.specs.declared.segment.SegmentKind.{SegmentKind}
 use Rattle.bgp_paths.specs.declared.segment.SegmentKind.TheVariants.{AsSequence}
 use Rattle.bgp_paths.specs.declared.segment.Segment.{Segment}
-use Rattle.bgp_paths.specs.Merge.{PathUnit, units_by_kind, units_from, kind_weight, unit_weight, units_weight, weight_by, segment_weight, segments_without_confederations}
+use Rattle.bgp_paths.specs.Merge.{PathUnit, units_of_segment_at, units_from, kind_weight, unit_weight, units_weight, weight_by, segment_weight, segments_without_confederations}
 
 -- what segments weigh together
 abbrev pub total : List Segment → ℕ
@@ -18,23 +18,23 @@ light_kind kind = grind arith
 pub light : (hop : PathUnit) → unit_weight hop ≤ 1
 light hop = light_kind hop.part.kind
 
-weight-numbers : (place : ℕ) (ns : List ℕ) → units_weight (units_by_kind AsSequence place ns) ≡ length ns
+weight-numbers : (place : ℕ) (ns : List ℕ) → units_weight (units_of_segment_at AsSequence place ns) ≡ length ns
 weight-numbers place [] = refl
 weight-numbers place (n ∷ ns) =
     let first : PathUnit = record { place = place; part = record { numbers = n ∷ []; kind = AsSequence } } in
-    omega (arith, sum_by-cons unit_weight first (units_by_kind AsSequence place ns), weight-numbers place ns)
+    omega (arith, sum_by-cons unit_weight first (units_of_segment_at AsSequence place ns), weight-numbers place ns)
 
 -- the hops of a segment weigh what it weighs
-pub weight-units_by_kind : (kind : SegmentKind) (place : ℕ) (ns : List ℕ) → units_weight (units_by_kind kind place ns) ≡ weight_by kind (length ns)
-weight-units_by_kind kind place ns = grind (arith, weight-numbers place ns)
+pub weight-units_of_segment_at : (kind : SegmentKind) (place : ℕ) (ns : List ℕ) → units_weight (units_of_segment_at kind place ns) ≡ weight_by kind (length ns)
+weight-units_of_segment_at kind place ns = grind (arith, weight-numbers place ns)
 
 -- the hops of segments weigh what those weigh together
 pub weight-units_from : (place : ℕ) (ss : List Segment) → units_weight (units_from place ss) ≡ total ss
 weight-units_from place [] = refl
 weight-units_from place (s ∷ ss) =
-    let first = units_by_kind s.kind place s.numbers in
+    let first = units_of_segment_at s.kind place s.numbers in
     let others = units_from (suc place) ss in
-    omega (arith, sum_by-append unit_weight first others, weight-units_by_kind s.kind place s.numbers, weight-units_from (suc place) ss, sum_by-cons segment_weight s ss)
+    omega (arith, sum_by-append unit_weight first others, weight-units_of_segment_at s.kind place s.numbers, weight-units_from (suc place) ss, sum_by-cons segment_weight s ss)
 
 -- of a segment that weighs more than is left, so many numbers can be taken
 pub cut_fits : (kind : SegmentKind) (size left : ℕ) → left < weight_by kind size → left ≤ size

@@ -21,15 +21,15 @@ same_kind AsSequence = refl
 same_kind ConfedSequence = refl
 same_kind ConfedSet = refl
 
--- a code of kinds of segments as plain data, for keys and values of finite maps: the number of the kind
+-- an encoding of kinds of segments as plain data, for keys and values of finite maps: the number of the kind
 -- (`kind_code`)
 abbrev pub coded_segment_kind : Coded SegmentKind
 coded_segment_kind = code_by ℕ coded_ℕ kind_code kind_of same_kind
 
--- a code of segments as plain data, for keys and values of finite maps: the pair of AS numbers and kind
+-- an encoding of segments as plain data, for keys and values of finite maps: the pair of AS numbers and kind
 abbrev pub coded_segment : Coded Segment
 coded_segment = code_by (List ℕ × SegmentKind) (coded× (coded_list coded_ℕ) coded_segment_kind) (λ s. (s.numbers, s.kind)) (λ p. record { numbers = p.0; kind = p.1 }) (λ _. refl)
 
--- a code of AS paths as plain data, for keys and values of finite maps: the list of segments
+-- an encoding of AS paths as plain data, for keys and values of finite maps: the list of segments
 abbrev pub coded_as_path : Coded AsPath
 coded_as_path = code_by (List Segment) (coded_list coded_segment) (λ path. path.segments) (λ segments. record { segments = segments }) (λ _. refl)

@@ -15,15 +15,15 @@ pub record PathUnit : Type 0 where
 
 -- the units of the segment that has the index `place` in its path, this kind, and the AS numbers `ns`: one
 -- unit for each number of a sequence, or else one for the whole segment
-abbrev pub units_by_kind : SegmentKind → ℕ → List ℕ → List PathUnit
-units_by_kind AsSequence place ns = map (λ n. record { place = place; part = record { numbers = n ∷ []; kind = AsSequence } }) ns
-units_by_kind kind place ns = record { place = place; part = record { numbers = ns; kind = kind } } ∷ []
+abbrev pub units_of_segment_at : SegmentKind → ℕ → List ℕ → List PathUnit
+units_of_segment_at AsSequence place ns = map (λ n. record { place = place; part = record { numbers = n ∷ []; kind = AsSequence } }) ns
+units_of_segment_at kind place ns = record { place = place; part = record { numbers = ns; kind = kind } } ∷ []
 
 -- the units of `segments`, in order; `place` is the index of the first segment in its path, and the indexes
 -- of the others follow
 abbrev pub units_from : ℕ → List Segment → List PathUnit
 units_from place [] = []
-units_from place (segment ∷ segments) = units_by_kind segment.kind place segment.numbers ++ units_from (suc place) segments
+units_from place (segment ∷ segments) = units_of_segment_at segment.kind place segment.numbers ++ units_from (suc place) segments
 
 -- how many ASes a unit of a segment of this kind counts in the length of a path (RFC 6793, section 4.2.3; RFC
 -- 5065, section 5.3): 1, for a number of a sequence or for a whole set, but 0 for a segment of a

@@ -24,16 +24,16 @@ same_origin Igp = refl
 same_origin Egp = refl
 same_origin Incomplete = refl
 
--- a code of origins as plain data, for keys and values of finite maps: the number of the origin
+-- an encoding of origins as plain data, for keys and values of finite maps: the number of the origin
 -- (`origin_code`)
 abbrev pub coded_origin : Coded Origin
 coded_origin = code_by ℕ coded_ℕ origin_code origin_of same_origin
 
--- a code of aggregators as plain data, for keys and values of finite maps: the pair of address and AS number
+-- an encoding of aggregators as plain data, for keys and values of finite maps: the pair of address and AS number
 abbrev pub coded_aggregator : Coded Aggregator
 coded_aggregator = code_by (Address × ℕ) (coded× coded_address coded_ℕ) (λ a. (a.addr, a.asn)) (λ p. record { addr = p.0; asn = p.1 }) (λ _. refl)
 
--- a code of a route's attributes as plain data, for keys and values of finite maps: the tuple of all their
+-- an encoding of a route's attributes as plain data, for keys and values of finite maps: the tuple of all their
 -- fields
 abbrev pub coded_attrs : Coded Attrs
 coded_attrs =

@@ -27,7 +27,7 @@ use Rattle.mrt_wire.specs.Rib.{SpellsView, SpellsPeer, SpellsEntry, SpellsEntrie
 use Rattle.mrt_wire.specs.Session.{SpellsSessionPeer, SpellsStateChange, StateChange, AreAsnFields, AreAddressFields}
 use Rattle.mrt_wire.proofs.ContentLaws.{same_form}
 use Rattle.mrt_wire.specs.Content.{Content, IsBody, SpellsContent}
-use Rattle.bgpdump_lines.specs.Examples.{example_change, rib_entries, ipv4_address, ipv4_prefix, example_peer, example_prefix, withdrawn_prefix, example_attrs, example_attribute_octets, session_octets, state_change_body, state_change_frame, timed_state_change_frame, update_octets, example_update, message_body, message_frame, peer_index_body, peer_index_frame, rib_body, rib_record, rib_frame, table_dump_body, table_dump_frame, unsupported_frame, malformed_frame, no_peers_body, no_peers_frame, cut_octets, too_long_octets}
+use Rattle.bgpdump_lines.specs.Examples.{example_change, rib_entries, ipv4_address, ipv4_prefix, example_peer, example_prefix, withdrawn_prefix, example_attrs, example_attribute_octets, session_fields_octets, state_change_body, state_change_frame, timed_state_change_frame, update_octets, example_update, message_body, message_frame, peer_index_body, peer_index_frame, rib_body, rib_record, rib_frame, table_dump_body, table_dump_frame, unsupported_frame, malformed_frame, no_peers_body, no_peers_frame, cut_octets, too_long_octets}
 
 -- ---- parts of octets
 
@@ -64,13 +64,13 @@ address octets four = record { of_family = refl; spelled = record { size = four;
 -- ---- BGP4MP
 
 -- the session fields of the peer
-session : SpellsSessionPeer Two example_peer session_octets
+session : SpellsSessionPeer Two example_peer session_fields_octets
 session = (_, _, _, _, both 6 systems addresses)
   where
-    systems : AreAsnFields Two (64500, (0xFB ∷ 0xF5 ∷ [], 0 ∷ 0 ∷ [])) (take 6 session_octets)
+    systems : AreAsnFields Two (64500, (0xFB ∷ 0xF5 ∷ [], 0 ∷ 0 ∷ [])) (take 6 session_fields_octets)
     systems = both 2 (record { fits = omega arith; whole = refl }) (both 2 (record { long = refl; whole = refl }) (record { long = refl; whole = refl }))
 
-    addresses : AreAddressFields (V4, (example_peer.addr, 0xC0 ∷ 0x00 ∷ 0x02 ∷ 0x02 ∷ [])) (drop 6 session_octets)
+    addresses : AreAddressFields (V4, (example_peer.addr, 0xC0 ∷ 0x00 ∷ 0x02 ∷ 0x02 ∷ [])) (drop 6 session_fields_octets)
     addresses = both 2 refl (both 4 (address _ refl) (record { long = refl; whole = refl }))
 
 -- the state change

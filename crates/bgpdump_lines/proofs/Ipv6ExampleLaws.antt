@@ -16,7 +16,7 @@ use Rattle.mrt_wire.specs.Record.{IsRecord}
 use Rattle.mrt_wire.specs.Results.{PeerTable, ReadsAs}
 use Rattle.mrt_wire.specs.Session.{SpellsSessionPeer, AreAsnFields, AreAddressFields}
 use Rattle.bgpdump_lines.specs.Examples.{ipv4_address}
-use Rattle.bgpdump_lines.specs.Ipv6Example.{ipv6_peer, ipv6_hop, ipv6_prefix, withdrawn_ipv6_prefix, all_attrs, reach_octets, unreach_octets, all_attribute_octets, ipv6_update_octets, ipv6_update, ipv6_session_octets, ipv6_message_body, ipv6_message_frame}
+use Rattle.bgpdump_lines.specs.Ipv6Example.{ipv6_peer, ipv6_hop, ipv6_prefix, withdrawn_ipv6_prefix, all_attrs, reach_octets, unreach_octets, all_attribute_octets, ipv6_update_octets, ipv6_update, ipv6_session_fields_octets, ipv6_message_body, ipv6_message_frame}
 use Rattle.bgpdump_lines.proofs.ExampleLaws.{front, both, is_record, address}
 
 -- ---- prefixes and the session
@@ -52,13 +52,13 @@ withdrawn =
     }
 
 -- the session fields of the peer
-session : SpellsSessionPeer Four ipv6_peer ipv6_session_octets
+session : SpellsSessionPeer Four ipv6_peer ipv6_session_fields_octets
 session = (_, _, _, _, both 10 systems addresses)
   where
-    systems : AreAsnFields Four (64500, (0 ∷ 0 ∷ 0xFB ∷ 0xF5 ∷ [], 0 ∷ 0 ∷ [])) (take 10 ipv6_session_octets)
+    systems : AreAsnFields Four (64500, (0 ∷ 0 ∷ 0xFB ∷ 0xF5 ∷ [], 0 ∷ 0 ∷ [])) (take 10 ipv6_session_fields_octets)
     systems = both 4 (record { fits = omega arith; whole = refl }) (both 4 (record { long = refl; whole = refl }) (record { long = refl; whole = refl }))
 
-    addresses : AreAddressFields (V6, (ipv6_peer.addr, drop 28 ipv6_session_octets)) (drop 10 ipv6_session_octets)
+    addresses : AreAddressFields (V6, (ipv6_peer.addr, drop 28 ipv6_session_fields_octets)) (drop 10 ipv6_session_fields_octets)
     addresses = both 2 refl (both 16 (record { of_family = refl; spelled = record { size = refl; bits = refl } }) (record { long = refl; whole = refl }))
 
 -- ---- attributes

@@ -73,8 +73,8 @@ pub record AreOffsetsOrdered (offsets : FieldOffsets) (text : List ℕ) : Type 0
 
 -- The octets of a text from the start of a line up to the end of its first three fields, by the offsets of its
 -- fields.
-abbrev pub head_at : FieldOffsets → List ℕ → List ℕ
-head_at offsets text = slice_range text offsets.start offsets.head
+abbrev pub first_three_fields_at : FieldOffsets → List ℕ → List ℕ
+first_three_fields_at offsets text = slice_range text offsets.start offsets.head
 
 -- The octets of a text from the start of a line up to, and without, the bar ahead of its prefix, by the offsets of
 -- its fields.
@@ -95,7 +95,7 @@ after_prefix_at offsets text = drop offsets.tail text
 -- text.
 pub record HasFieldsAt (text head_text front_text prefix_text tail_text : List ℕ) (offsets : FieldOffsets) : Type 0 where
   pub ordered : AreOffsetsOrdered offsets text
-  pub head : head_at offsets text ≡ head_text
+  pub head : first_three_fields_at offsets text ≡ head_text
   pub front : front_at offsets text ≡ front_text
   pub prefix : prefix_at offsets text ≡ prefix_text
   pub tail : after_prefix_at offsets text ≡ tail_text

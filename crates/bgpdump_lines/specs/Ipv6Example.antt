@@ -133,8 +133,8 @@ ipv6_message = record { message = messages.Update ipv6_update; peer = ipv6_peer 
 
 -- the first fields of a BGP4MP body (RFC 6396, section 4.4), which describe a session between `ipv6_peer` and
 -- 2001:db8::2 of AS 64501, with AS numbers of four octets
-abbrev pub ipv6_session_octets : List ℕ
-ipv6_session_octets =
+abbrev pub ipv6_session_fields_octets : List ℕ
+ipv6_session_fields_octets =
     -- Peer AS Number: 64500; Local AS Number: 64501
     0x00 ∷ 0x00 ∷ 0xFB ∷ 0xF4 ∷ 0x00 ∷ 0x00 ∷ 0xFB ∷ 0xF5
     -- Interface Index: 0; Address Family: IPv6
@@ -146,11 +146,11 @@ ipv6_session_octets =
     ∷ 0x20 ∷ 0x01 ∷ 0x0D ∷ 0xB8 ∷ 0x00 ∷ 0x00 ∷ 0x00 ∷ 0x00
     ∷ 0x00 ∷ 0x00 ∷ 0x00 ∷ 0x00 ∷ 0x00 ∷ 0x00 ∷ 0x00 ∷ 0x02 ∷ []
 
--- the body of a BGP4MP_MESSAGE_AS4 record (RFC 6396, section 4.4.3): `ipv6_session_octets`, and an UPDATE message,
+-- the body of a BGP4MP_MESSAGE_AS4 record (RFC 6396, section 4.4.3): `ipv6_session_fields_octets`, and an UPDATE message,
 -- which is the header of BGP messages and `ipv6_update_octets`
 abbrev pub ipv6_message_body : List ℕ
 ipv6_message_body =
-    ipv6_session_octets
+    ipv6_session_fields_octets
     -- Marker
     ++ 0xFF ∷ 0xFF ∷ 0xFF ∷ 0xFF ∷ 0xFF ∷ 0xFF ∷ 0xFF ∷ 0xFF
     ∷ 0xFF ∷ 0xFF ∷ 0xFF ∷ 0xFF ∷ 0xFF ∷ 0xFF ∷ 0xFF ∷ 0xFF

@@ -4,7 +4,7 @@
 
 ghost use Rattle.std.specs.Prelude.{◌≡◌, ◌≤◌, ◌++◌, take, length, IfOk, IfSome};
 ghost use Rattle.mrt_events.specs.Event.{Announced};
-ghost use Rattle.bgpdump_lines.specs.Heading.{peer_fields, prefix_field, fields_after_prefix, line_under_heading, AreOffsetsOrdered, HasFieldsAt, EndsInLineUnder, head_at, front_at, prefix_at, after_prefix_at};
+ghost use Rattle.bgpdump_lines.specs.Heading.{peer_fields, prefix_field, fields_after_prefix, line_under_heading, AreOffsetsOrdered, HasFieldsAt, EndsInLineUnder, first_three_fields_at, front_at, prefix_at, after_prefix_at};
 ghost use Rattle.bgpdump_lines.specs.CachedLines.{HoldsPrefixOf};
 ghost use Rattle.bgpdump_lines.specs.CachedStarts.{start_octets, BeginsLinesOf, HasFieldsByCached};
 ghost use Rattle.bgpdump_lines.specs.WrittenSoFar.{Prints};
@@ -98,7 +98,7 @@ pub(crate) fn repeat_with_prefix(
     ensures printed { Prints text.old text.new
         (front_at last text.old ++ (prefix_field prefix.now ++ after_prefix_at last text.old)) result }
     ensures parts { IfOk result (HasFieldsAt text.new
-        (head_at last text.old) (front_at last text.old)
+        (first_three_fields_at last text.old) (front_at last text.old)
         (prefix_field prefix.now) (after_prefix_at last text.old)) }
 {
     let start = text.len();
@@ -130,10 +130,10 @@ fn repeat_with_peer_and_route(
     text: &mut Text,
 ) -> Result<FieldOffsets, AllocError>
     requires { AreOffsetsOrdered last text.old }
-    ensures printed { Prints text.old text.new ((head_at last text.old ++ peer_fields peer.now)
+    ensures printed { Prints text.old text.new ((first_three_fields_at last text.old ++ peer_fields peer.now)
         ++ (prefix_at last text.old ++ fields_after_prefix route.now)) result }
     ensures parts { IfOk result (HasFieldsAt text.new
-        (head_at last text.old) (head_at last text.old ++ peer_fields peer.now)
+        (first_three_fields_at last text.old) (first_three_fields_at last text.old ++ peer_fields peer.now)
         (prefix_at last text.old) (fields_after_prefix route.now)) }
 {
     let start = text.len();
@@ -158,7 +158,7 @@ fn repeat_with_peer_and_route(
 pub(crate) fn prefixless_last_line(text: &Text, last: FieldOffsets) -> PrefixlessLine<'_>
     requires { AreOffsetsOrdered last text.now }
     ensures within { result.head ≤ length result.front.now }
-    ensures head { take result.head result.front.now ≡ head_at last text.now }
+    ensures head { take result.head result.front.now ≡ first_three_fields_at last text.now }
     ensures front { result.front.now ≡ front_at last text.now }
     ensures tail { result.tail.now ≡ after_prefix_at last text.now }
 {

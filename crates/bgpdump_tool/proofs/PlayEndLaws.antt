@@ -22,7 +22,7 @@ use Rattle.bgpdump_lines.specs.WrittenSoFar.{outcome_of_finished_run, outcome_of
 use Rattle.bgpdump_lines.specs.Run.{Texts, Outputs, MayHold, Writes, EndsWithTexts, EndedByInputFault, IsTaken, MayTakeAfterFrames, HoldsForAllContents, all_results}
 use Rattle.bgpdump_tool.specs.Script.{Line, AreLines, IsScript, script_lines}
 use Rattle.bgpdump_tool.specs.Course.{course, play_texts, texts_before_input_fault, TakesWanted, IsEndSeen, ScriptSawEnd, WritesBeyond, HasBegun}
-use Rattle.bgpdump_tool.specs.Execution.{RunState, HasFound, HasExecuted, ExecutionBrokenOff, ExecutesScript}
+use Rattle.bgpdump_tool.specs.Execution.{RunState, HasFound, HasExecuted, ExecutionBrokenOff, HasExecutedScript}
 use Rattle.bgpdump_lines.proofs.WritingLaws.{AppendsPrefix-none, WritesPrefixes-whole, Writes-kept}
 use Rattle.bgpdump_lines.proofs.HeldLaws.{rest_so_far, first_held, front_held, untold_held, whole_found, IsTaken-told, IsTaken-faulty, length-faulty}
 use Rattle.bgpdump_lines.proofs.EndLaws.{cases_none, written_all, EndsWithTexts-source}
@@ -103,7 +103,7 @@ PlayEnds stamp left left' script outcome old new = (lines : List Line) → IsScr
     → (octets : List ℕ) (frames : List Frame) (rest : List ℕ) → MayHold stamp (ScriptSawEnd stamp outcome lines) left left' octets → Splits stamp None octets frames rest
     → EndsWithTexts outcome (play_texts lines (all_results stamp frames rest)) old new
 
-pub PlayEnds-finished : (stamp : Stamp) (left : Option (List ℕ)) (script : List ℕ) (scene : RunState) (old mid new : Outputs) (failed : Bool) (outcome : Outcome) → ExecutesScript (start_state stamp INPUT_LIMIT) left script scene old mid (Ok tt)
+pub PlayEnds-finished : (stamp : Stamp) (left : Option (List ℕ)) (script : List ℕ) (scene : RunState) (old mid new : Outputs) (failed : Bool) (outcome : Outcome) → HasExecutedScript (start_state stamp INPUT_LIMIT) left script scene old mid (Ok tt)
     → outcome ≡ outcome_of_finished_run failed scene.reported → Keeps mid.out new.out → Keeps mid.err new.err → PlayEnds stamp left scene.left script outcome old new
 PlayEnds-finished stamp left script scene old mid new failed outcome (done, are, plays) is out err lines reading =
     let p : HasExecuted (start_state stamp INPUT_LIMIT) left lines scene old mid = subst (λ l. HasExecuted (start_state stamp INPUT_LIMIT) left l scene old mid) (one_reading done lines (script_lines script) are reading) plays in
@@ -115,7 +115,7 @@ PlayEnds-finished stamp left script scene old mid new failed outcome (done, are,
 
 -- ---- a run that was stopped
 
-pub PlayEnds-stopped : (stamp : Stamp) (left : Option (List ℕ)) (script : List ℕ) (scene : RunState) (old new : Outputs) (outcome : Outcome) → ExecutesScript (start_state stamp INPUT_LIMIT) left script scene old new (Err outcome)
+pub PlayEnds-stopped : (stamp : Stamp) (left : Option (List ℕ)) (script : List ℕ) (scene : RunState) (old new : Outputs) (outcome : Outcome) → HasExecutedScript (start_state stamp INPUT_LIMIT) left script scene old new (Err outcome)
     → PlayEnds stamp left scene.left script outcome old new
 PlayEnds-stopped stamp left script scene old new outcome (done, line, first, others, whole, are, inl (fault, is, p)) lines reading =
     let (behind, all) = first_reading (done ++ line ∷ []) lines first others are (subst (AreLines lines) whole reading) in
@@ -133,7 +133,7 @@ PlayEnds-stopped stamp left script scene old new outcome (done, line, first, oth
     subst (λ t. EndsWithTexts (outcome_of_write_fault fault) t old new) (λ i. play_texts (sym all i) (sym found.first i)) (by_fault (λ o. EndsWithTexts o (play_texts ((done ++ line ∷ []) ++ behind) (p.found ++ found.later)) old new) fault fronts fronts))
 
 -- a run that the input ended has written what the frames give
-pub Writes-cut : (stamp : Stamp) (left : Option (List ℕ)) (script : List ℕ) (scene : RunState) (old new : Outputs) (outcome : Outcome) → ExecutesScript (start_state stamp INPUT_LIMIT) left script scene old new (Err outcome) → EndedByInputFault outcome
+pub Writes-cut : (stamp : Stamp) (left : Option (List ℕ)) (script : List ℕ) (scene : RunState) (old new : Outputs) (outcome : Outcome) → HasExecutedScript (start_state stamp INPUT_LIMIT) left script scene old new (Err outcome) → EndedByInputFault outcome
     → (lines : List Line) → IsScript lines script → (taken after : List ℕ) (frames : List Frame) (rest : List ℕ) → TakesFront left scene.left taken after → Splits stamp None taken frames rest → Writes (texts_before_input_fault lines (all_results stamp frames [])) old new
 Writes-cut stamp left script scene old new outcome (done, line, first, others, whole, are, inl (fault, is, p)) by_input lines reading taken after frames rest took split =
     let (behind, all) = first_reading (done ++ line ∷ []) lines first others are (subst (AreLines lines) whole reading) in
@@ -143,7 +143,7 @@ Writes-cut stamp left script scene old new outcome (done, line, first, others, w
 
 -- ---- what was taken
 
-pub IsTaken-finished : (stamp : Stamp) (left : Option (List ℕ)) (script : List ℕ) (scene : RunState) (old new : Outputs) (failed : Bool) (outcome : Outcome) → ExecutesScript (start_state stamp INPUT_LIMIT) left script scene old new (Ok tt)
+pub IsTaken-finished : (stamp : Stamp) (left : Option (List ℕ)) (script : List ℕ) (scene : RunState) (old new : Outputs) (failed : Bool) (outcome : Outcome) → HasExecutedScript (start_state stamp INPUT_LIMIT) left script scene old new (Ok tt)
     → outcome ≡ outcome_of_finished_run failed scene.reported → (taken : List ℕ) × Consumes left scene.left taken × IsTaken stamp outcome taken
 IsTaken-finished stamp left script scene old new failed outcome (done, are, p) is =
     let t = p.stands.taking in
@@ -152,7 +152,7 @@ IsTaken-finished stamp left script scene old new failed outcome (done, are, p) i
     (IsTaken-told stamp scene.place left scene.left (outcome_of_finished_run failed scene.reported) p.standing.found t.so_far t.within
     (by_end (λ o. MayTakeAfterFrames o t.so_far.rest) failed scene.reported last last last))
 
-pub IsTaken-ended : (stamp : Stamp) (left : Option (List ℕ)) (script : List ℕ) (scene : RunState) (old new : Outputs) (outcome : Outcome) → ExecutesScript (start_state stamp INPUT_LIMIT) left script scene old new (Err outcome)
+pub IsTaken-ended : (stamp : Stamp) (left : Option (List ℕ)) (script : List ℕ) (scene : RunState) (old new : Outputs) (outcome : Outcome) → HasExecutedScript (start_state stamp INPUT_LIMIT) left script scene old new (Err outcome)
     → (taken : List ℕ) × Consumes left scene.left taken × IsTaken stamp outcome taken
 IsTaken-ended stamp left script scene old new outcome (done, line, first, others, whole, are, inl (fault, is, p)) =
     subst (λ o. (taken : List ℕ) × Consumes left scene.left taken × IsTaken stamp o taken) (sym is) (IsTaken-faulty stamp left scene.left p.found fault p.faulty)
@@ -163,7 +163,7 @@ IsTaken-ended stamp left script scene old new outcome (done, line, first, others
     (IsTaken-told stamp scene.place left scene.left (outcome_of_write_fault fault) p.found t.so_far t.within
     (by_fault (λ o. MayTakeAfterFrames o t.so_far.rest) fault last (inl last)))
 
-pub length-ended : (stamp : Stamp) (left : Option (List ℕ)) (script : List ℕ) (scene : RunState) (old new : Outputs) (how : Outcome) → ExecutesScript (start_state stamp INPUT_LIMIT) left script scene old new (Err how) → how ≡ outcome.InputTooLong
+pub length-ended : (stamp : Stamp) (left : Option (List ℕ)) (script : List ℕ) (scene : RunState) (old new : Outputs) (how : Outcome) → HasExecutedScript (start_state stamp INPUT_LIMIT) left script scene old new (Err how) → how ≡ outcome.InputTooLong
     → (taken after : List ℕ) → TakesFront left scene.left taken after → length taken ≡ INPUT_LIMIT
 length-ended stamp left script scene old new how (done, line, first, others, whole, are, inl (fault, is, p)) too_long taken after took =
     length-faulty stamp left scene.left p.found fault p.faulty (sym is ∙ too_long) taken after took
@@ -181,7 +181,7 @@ results_taken stamp q left left' found s taken after frames rest took split =
     let all = frames_all stamp None s.frames frames s.rest rest s.are_frames split.are_frames (rest_so_far p q left left' found s).none split.none (sym same ∙ split.whole) in
     (λ i. results p (all.0 i) (all.1 i)) ∙ sym s.found_is
 
-pub TakesWanted-finished : (stamp : Stamp) (left : Option (List ℕ)) (script : List ℕ) (scene : RunState) (old new : Outputs) (failed : Bool) (outcome : Outcome) → ExecutesScript (start_state stamp INPUT_LIMIT) left script scene old new (Ok tt)
+pub TakesWanted-finished : (stamp : Stamp) (left : Option (List ℕ)) (script : List ℕ) (scene : RunState) (old new : Outputs) (failed : Bool) (outcome : Outcome) → HasExecutedScript (start_state stamp INPUT_LIMIT) left script scene old new (Ok tt)
     → outcome ≡ outcome_of_finished_run failed scene.reported → (lines : List Line) → IsScript lines script → (taken after : List ℕ) (frames : List Frame) (rest : List ℕ) → TakesFront left scene.left taken after → Splits stamp None taken frames rest
     → TakesWanted stamp outcome lines frames rest
 TakesWanted-finished stamp left script scene old new failed outcome (done, are, plays) is lines reading taken after frames rest took split =
@@ -197,7 +197,7 @@ wanted_source source.InputTooLong stamp lines frames rest ended = ended tt
 wanted_source source.Memory stamp lines frames rest ended = tt
 wanted_source source.Spent stamp lines frames rest ended = tt
 
-pub TakesWanted-stopped : (stamp : Stamp) (left : Option (List ℕ)) (script : List ℕ) (scene : RunState) (old new : Outputs) (outcome : Outcome) → ExecutesScript (start_state stamp INPUT_LIMIT) left script scene old new (Err outcome)
+pub TakesWanted-stopped : (stamp : Stamp) (left : Option (List ℕ)) (script : List ℕ) (scene : RunState) (old new : Outputs) (outcome : Outcome) → HasExecutedScript (start_state stamp INPUT_LIMIT) left script scene old new (Err outcome)
     → (lines : List Line) → IsScript lines script → (taken after : List ℕ) (frames : List Frame) (rest : List ℕ) → TakesFront left scene.left taken after → Splits stamp None taken frames rest → TakesWanted stamp outcome lines frames rest
 TakesWanted-stopped stamp left script scene old new outcome (done, line, first, others, whole, are, inl (fault, is, p)) lines reading taken after frames rest took split =
     let (behind, all) = first_reading (done ++ line ∷ []) lines first others are (subst (AreLines lines) whole reading) in
@@ -210,7 +210,7 @@ TakesWanted-stopped stamp left script scene old new outcome (done, line, first, 
 -- ---- how far a run came that memory or an output broke off
 
 -- it carried out all lines: an output failed where it was finished
-pub HasBegun-finished : (stamp : Stamp) (left : Option (List ℕ)) (script : List ℕ) (scene : RunState) (old mid new : Outputs) → ExecutesScript (start_state stamp INPUT_LIMIT) left script scene old mid (Ok tt)
+pub HasBegun-finished : (stamp : Stamp) (left : Option (List ℕ)) (script : List ℕ) (scene : RunState) (old mid new : Outputs) → HasExecutedScript (start_state stamp INPUT_LIMIT) left script scene old mid (Ok tt)
     → Keeps mid.out new.out → Keeps mid.err new.err → (lines : List Line) → IsScript lines script → HasBegun stamp lines left scene.left old new
 HasBegun-finished stamp left script scene old mid new (done, are, plays) out err lines reading =
     let p : HasExecuted (start_state stamp INPUT_LIMIT) left lines scene old mid = subst (λ l. HasExecuted (start_state stamp INPUT_LIMIT) left l scene old mid) (one_reading done lines (script_lines script) are reading) plays in
@@ -240,7 +240,7 @@ began stamp left left' old new lines done line behind is texts =
     record { done = done; last = line ∷ []; behind = behind; whole = is; one = omega arith; texts = texts }
 
 -- memory ended it in the source; or memory or an output behind that
-pub HasBegun-stopped : (stamp : Stamp) (left : Option (List ℕ)) (script : List ℕ) (scene : RunState) (old new : Outputs) (outcome : Outcome) → ExecutesScript (start_state stamp INPUT_LIMIT) left script scene old new (Err outcome)
+pub HasBegun-stopped : (stamp : Stamp) (left : Option (List ℕ)) (script : List ℕ) (scene : RunState) (old new : Outputs) (outcome : Outcome) → HasExecutedScript (start_state stamp INPUT_LIMIT) left script scene old new (Err outcome)
     → (lines : List Line) → IsScript lines script → HasBegun stamp lines left scene.left old new
 HasBegun-stopped stamp left script scene old new outcome (done, line, first, others, whole, are, inl (fault, is, p)) lines reading =
     let (behind, all) = first_reading (done ++ line ∷ []) lines first others are (subst (AreLines lines) whole reading) in

@@ -20,7 +20,7 @@ use Rattle.bgpdump_lines.specs.WrittenSoFar.{has_fault}
 use Rattle.bgpdump_tool.specs.Script.{Line, Empty, HasCommand, NoCommand, IsLine, AreLines, script_lines, bad_line_report}
 use Rattle.bgpdump_tool.specs.Meaning.{State, start, meaning, meets_end, reports_of_taken}
 use Rattle.bgpdump_tool.specs.Course.{Course, course_after, course_from, course, play_texts, WritesBeyond}
-use Rattle.bgpdump_tool.specs.Execution.{RunState, HasFound, HasProgress, FindsNothingAfterEnd, HasRoom, state_with_unread, IsLed, IsCutOff, IsBrokenOff, ExecutesLineFrom, ExecutesLine, HasExecuted, ExecutionCutOff, ExecutionBrokenOff, ExecutesNextLine, ExecutesScript}
+use Rattle.bgpdump_tool.specs.Execution.{RunState, HasFound, HasProgress, FindsNothingAfterEnd, HasRoom, state_with_unread, IsLed, IsCutOff, IsBrokenOff, ExecutesLineFrom, ExecutesLine, HasExecuted, ExecutionCutOff, ExecutionBrokenOff, ExecutesNextLine, HasExecutedScript}
 use Rattle.bgpdump_lines.proofs.WritingLaws.{AppendsPrefix-none, Writes-append, WritesPrefixes-behind, WritesPrefixes-longer, AppendsPrefix-longer}
 use Rattle.bgpdump_tool.proofs.CarryLaws.{AppendsPrefix-whole, take_over}
 use Rattle.bgpdump_tool.proofs.MoveLaws.{reports-append}
@@ -329,9 +329,9 @@ LinesDone-line from left script rest one behind number a b old mid new d split s
 }
 
 -- the line that a fault stopped
-pub ExecutesScript-stopped : (from : SourceState) (left : Option (List ℕ)) (script rest one : List ℕ) (more : List (List ℕ)) (number : ℕ) (a b : RunState) (old : Outputs) (mid new : Option (List ℕ)) (outcome : Outcome)
-    → LinesDone from left script rest number a old (with_reports mid a) → script_lines rest ≡ one ∷ more → ExecutesLine one number a b mid new (Err outcome) → ExecutesScript from left script b old (with_reports new b) (Err outcome)
-ExecutesScript-stopped from left script rest one more number a b old mid new outcome d split (line, is, does) = (
+pub HasExecutedScript-stopped : (from : SourceState) (left : Option (List ℕ)) (script rest one : List ℕ) (more : List (List ℕ)) (number : ℕ) (a b : RunState) (old : Outputs) (mid new : Option (List ℕ)) (outcome : Outcome)
+    → LinesDone from left script rest number a old (with_reports mid a) → script_lines rest ≡ one ∷ more → ExecutesLine one number a b mid new (Err outcome) → HasExecutedScript from left script b old (with_reports new b) (Err outcome)
+HasExecutedScript-stopped from left script rest one more number a b old mid new outcome d split (line, is, does) = (
   d.done,
   line,
   d.octets ++ one ∷ [],
@@ -342,12 +342,12 @@ ExecutesScript-stopped from left script rest one more number a b old mid new out
 )
 
 -- the last line
-pub ExecutesScript-last : (from : SourceState) (left : Option (List ℕ)) (script rest : List ℕ) (number : ℕ) (a b : RunState) (old : Outputs) (mid new : Option (List ℕ)) (result : Result (Unit {0}) Outcome)
-    → LinesDone from left script rest number a old (with_reports mid a) → script_lines rest ≡ rest ∷ [] → ExecutesLine rest number a b mid new result → ExecutesScript from left script b old (with_reports new b) result
-ExecutesScript-last from left script rest number a b old mid new (Ok done) d split (line, is, does) = (
+pub HasExecutedScript-last : (from : SourceState) (left : Option (List ℕ)) (script rest : List ℕ) (number : ℕ) (a b : RunState) (old : Outputs) (mid new : Option (List ℕ)) (result : Result (Unit {0}) Outcome)
+    → LinesDone from left script rest number a old (with_reports mid a) → script_lines rest ≡ rest ∷ [] → ExecutesLine rest number a b mid new result → HasExecutedScript from left script b old (with_reports new b) result
+HasExecutedScript-last from left script rest number a b old mid new (Ok done) d split (line, is, does) = (
   d.done ++ line ∷ [],
   subst (AreLines (d.done ++ line ∷ [])) (sym (d.whole ∙ ap (λ l. d.octets ++ l) split)) (AreLines-more d.done d.octets line rest d.are is),
   ExecutesNextLine-line line from left d.done number a b old mid new (Ok done) d.plays d.count (does from left d.plays.standing d.plays.stands),
 )
-ExecutesScript-last from left script rest number a b old mid new (Err outcome) d split carries =
-    ExecutesScript-stopped from left script rest rest [] number a b old mid new outcome d split carries
+HasExecutedScript-last from left script rest number a b old mid new (Err outcome) d split carries =
+    HasExecutedScript-stopped from left script rest rest [] number a b old mid new outcome d split carries

@@ -272,13 +272,13 @@ ExecutesNextLine from left done line scene old new (Err outcome) =
 -- Executing the script ended with this result, with the run in the state `scene`, and took its outputs from `old` to
 -- `new`. Ok: all its lines are executed; Err: its first ones are, and a fault stopped the run in the next one. The
 -- source was in the state `from`, with `left` in the input, when the run began.
-abbrev pub ExecutesScript : SourceState → Option (List ℕ) → List ℕ → RunState → Outputs → Outputs → Result (Unit {0}) Outcome → Type 0
-ExecutesScript from left script scene old new (Ok all) = (done : List Line) × AreLines done (script_lines script) × HasExecuted from left done scene old new
-ExecutesScript from left script scene old new (Err outcome) =
+abbrev pub HasExecutedScript : SourceState → Option (List ℕ) → List ℕ → RunState → Outputs → Outputs → Result (Unit {0}) Outcome → Type 0
+HasExecutedScript from left script scene old new (Ok all) = (done : List Line) × AreLines done (script_lines script) × HasExecuted from left done scene old new
+HasExecutedScript from left script scene old new (Err outcome) =
     (done : List Line) × (line : Line) × (first rest : List (List ℕ)) × (script_lines script ≡ first ++ rest) × AreLines (done ++ line ∷ []) first × ExecutesNextLine from left done line scene old new (Err outcome)
 
 -- Executing all lines of a script changes the state of a run from `old` to `new` and what the output of replies has
--- got from `out` to `out'`, and gives this result, as `ExecutesScript` says of a run that begins at `old`.
+-- got from `out` to `out'`, and gives this result, as `HasExecutedScript` says of a run that begins at `old`.
 abbrev pub ExecutesLines : List ℕ → RunState → RunState → Option (List ℕ) → Option (List ℕ) → Result (Unit {0}) Outcome → Type 0
 ExecutesLines script old new out out' result =
-    ExecutesScript old.place old.left script new (record { out = out; err = old.err }) (record { out = out'; err = new.err }) result
+    HasExecutedScript old.place old.left script new (record { out = out; err = old.err }) (record { out = out'; err = new.err }) result

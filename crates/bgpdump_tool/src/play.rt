@@ -60,17 +60,18 @@ pub fn run_play<S: PrefixStore<Rc<Route>>, I: Input, O: Output, E: Output>(
         (outputs_of O.written E.written out.new err.new) }
 
     // The same holds if other octets had followed those taken: nothing that is written depends on
-    // octets that weren't. But none follow if nothing was left and the end was seen: the octets
-    // taken end within a record, or a line that was executed (after `Memory` or `WriteFault`, any
-    // line of the script) wants more results than they give.
+    // octets that weren't. But none follow if nothing was left and the run, ended otherwise than by
+    // `ReadFault` or `InputTooLong`, saw the end: the octets taken end within a record, or a line
+    // that was executed (after `Memory` or `WriteFault`, any line of the script) wants more results
+    // than they give.
     ensures text { HoldsForDevices I.left O.written E.written
         (ScriptEndsForAllContents stamp script.now result)
         (input.old, out.old, err.old) (input.new, out.new, err.new) }
 
     // What a run that is out of memory, or whose output fails, has written is the texts of some
     // first lines, and maybe a prefix of what the next line adds, whatever octets may follow those
-    // taken. But none may if nothing was left and these lines, the next one executed in full, would
-    // meet the end over just the octets taken.
+    // taken. But none may if nothing was left and the octets taken end within a record, or one of
+    // these lines, the next one executed in full, wants more results than they give.
     ensures began { HoldsForDevices I.left O.written E.written
         (BrokenOffScriptWrites stamp script.now result)
         (input.old, out.old, err.old) (input.new, out.new, err.new) }
@@ -89,8 +90,8 @@ pub fn run_play<S: PrefixStore<Rc<Route>>, I: Input, O: Output, E: Output>(
         (I.left input.old) (I.left input.new) }
 
     // No reply waits: outputs that tell what they hold back hold nothing back after a run that is
-    // done or has reported faults, or in which a read failed (`ReadFault`). Any read that asks the device may
-    // fail, and nothing is flushed after that, so all was flushed before it.
+    // done or has reported faults, or in which a read failed (`ReadFault`). Any read that asks the
+    // device may fail, and nothing is flushed after that, so all was flushed before it.
     ensures flushed { LeavesFlushed result (O.pending out.new) (E.pending err.new) }
 
     // At most 2^40 octets are taken: whole records, and then the octets after them, but none after

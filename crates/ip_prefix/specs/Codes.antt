@@ -18,17 +18,17 @@ abbrev family_again : (family : Family) → family_of (family_bit family) ≡ fa
 family_again V4 = refl
 family_again V6 = refl
 
--- a code of families as plain data, for keys and values of finite maps: the bit `family_bit`
+-- an encoding of families as plain data, for keys and values of finite maps: the bit `family_bit`
 abbrev pub coded_family : Coded Family
 coded_family = code_by Bool coded_bool family_bit family_of family_again
 
--- a code of addresses as plain data, for keys and values of finite maps: the pair of family and bits
+-- an encoding of addresses as plain data, for keys and values of finite maps: the pair of family and bits
 abbrev pub coded_address : Coded Address
 coded_address =
     code_by (Family × List Bool) (coded× coded_family (coded_list coded_bool))
     (λ a. (a.family, a.bits)) (λ p. record { family = p.0; bits = p.1 }) (λ _. refl)
 
--- a code of prefixes as plain data, for keys and values of finite maps: the pair of family and bits
+-- an encoding of prefixes as plain data, for keys and values of finite maps: the pair of family and bits
 abbrev pub coded_network : Coded Network
 coded_network =
     code_by (Family × List Bool) (coded× coded_family (coded_list coded_bool))

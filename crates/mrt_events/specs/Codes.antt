@@ -13,6 +13,6 @@ use Rattle.mrt_events.specs.declared.event.Route.{Route}
 abbrev pub coded_peer : Coded Peer
 coded_peer = code_by (Address × ℕ) (coded× coded_address coded_ℕ) (λ p. (p.addr, p.asn)) (λ p. record { addr = p.0; asn = p.1 }) (λ _. refl)
 
--- a code of routes as plain data, for keys and values of finite maps: the pair of attributes and time
+-- an encoding of routes as plain data, for keys and values of finite maps: the pair of attributes and time
 abbrev pub route_as_pair : Coded Route
 route_as_pair = code_by (Attrs × ℕ) (coded× coded_attrs coded_ℕ) (λ r. (r.attrs, r.time)) (λ p. record { attrs = p.0; time = p.1 }) (λ _. refl)

@@ -4,7 +4,7 @@ use Rattle.mrt_events.specs.declared.peer.Peer.{Peer}
 use Rattle.mrt_wire.specs.declared.record_types.BodyFormat.{BodyFormat}
 use Rattle.mrt_wire.specs.declared.record_types.BodyFormat.TheVariants as form
 use Rattle.mrt_wire.specs.Rib.{SpellsPeerIndex, PrefixEntries, SpellsRib, TableDumpEntry, SpellsTableDump}
-use Rattle.mrt_wire.specs.Session.{SessionBody, SpellsSessionBody}
+use Rattle.mrt_wire.specs.Session.{TimedSessionContent, SpellsSessionBody}
 use Rattle.mrt_wire.specs.RecordTypes.{HasBodyFormat}
 
 -- what a body holds, by the record's type
@@ -16,7 +16,7 @@ pub data Content : Type 0 where
   -- RIB_IPV4_UNICAST or RIB_IPV6_UNICAST: a prefix and its entries
   Entries : PrefixEntries → Content
   -- BGP4MP or BGP4MP_ET: a state change or a message, and the microseconds, if the type has them
-  Session : SessionBody → Content
+  Session : TimedSessionContent → Content
 
 -- the octets are a body of this format, and spell this content
 abbrev pub SpellsContent : BodyFormat → Content → List ℕ → Type 0
@@ -27,7 +27,7 @@ SpellsContent form.Peers content octets =
 SpellsContent (form.Entries family) content octets =
     (entries : PrefixEntries) × (content ≡ Entries entries) × SpellsRib family entries octets
 SpellsContent (form.Session session) content octets =
-    (body : SessionBody) × (content ≡ Session body) × SpellsSessionBody session body octets
+    (body : TimedSessionContent) × (content ≡ Session body) × SpellsSessionBody session body octets
 
 -- the type and subtype are supported, and the octets are a body of them, and spell this content
 abbrev pub IsBody : ℕ → ℕ → Content → List ℕ → Type 0

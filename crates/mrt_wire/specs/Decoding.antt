@@ -34,7 +34,7 @@ use Rattle.mrt_frames.specs.Record.{Record}
 use Rattle.mrt_wire.specs.Rib.{RibEntry, PrefixEntries, SpellsEntries, AreTableDumpFields}
 use Rattle.mrt_wire.specs.Items.{announcements, route_of, entry_items, entry_time, entries_items, first_unknown, session_items}
 use Rattle.mrt_events.specs.Event.{ItemValue, item_value}
-use Rattle.mrt_wire.specs.Session.{SessionBody}
+use Rattle.mrt_wire.specs.Session.{TimedSessionContent}
 use Rattle.mrt_wire.specs.Content.{Content}
 use Rattle.mrt_wire.specs.Results.{PeerTable, Accepted, Refused, ReadsAs, index_after}
 
@@ -97,7 +97,7 @@ SpellsMapped {A} Spells says parsed octets = (value : A) × Spells value octets 
 
 -- what the body of a BGP4MP or BGP4MP_ET record with this timestamp is parsed into: the values of its items, and the
 -- microseconds
-abbrev pub parsed_session : ℕ → SessionBody → ItemsAndMicroseconds
+abbrev pub parsed_session : ℕ → TimedSessionContent → ItemsAndMicroseconds
 parsed_session seconds body = record { items = session_items seconds body.content; micros = body.micros }
 
 -- the RIB entry that was parsed: the attributes of its route, its Originated Time, and its peer index

@@ -34,7 +34,7 @@ pub data SessionContent : Type 0 where
 
 -- what the body of a BGP4MP record holds, and the microseconds, which are `None` where the body doesn't begin with
 -- them
-pub record SessionBody : Type 0 where
+pub record TimedSessionContent : Type 0 where
   pub content : SessionContent
   pub micros : Option ℕ
 
@@ -92,6 +92,6 @@ SpellsMicros true micros octets = (n : ℕ) × (micros ≡ Some n) × (n < MICRO
 
 -- the octets are the body of a BGP4MP or BGP4MP_ET record of this format: the microseconds, if `form.timed`, and then
 -- a state change or a message, as `form.kind` says, with AS numbers of `form.width`
-abbrev pub SpellsSessionBody : Bgp4mpFormat → SessionBody → List ℕ → Type 0
+abbrev pub SpellsSessionBody : Bgp4mpFormat → TimedSessionContent → List ℕ → Type 0
 SpellsSessionBody form body octets =
     SpellsPair (SpellsMicros form.timed) (λ micros. SpellsSessionContent form.kind form.width) (body.micros, body.content) octets

@@ -8,8 +8,8 @@ use Rattle.ip_prefix.specs.Network.{Network, contains, Address, network_cmp}
 use Rattle.prefix_store.specs.Stored.{Routes}
 
 -- the last argument is the longest match of the address, where `route` gives the route, if any, at
--- each prefix: `Some (n, r)` if the prefix n contains the address, has the route r, and no longer
--- prefix with a route contains it; `None` if no prefix with a route contains it
+-- each prefix: `Some (n, r)` if the prefix n contains the address, has the route r, and no
+-- prefix that is longer and has a route contains it; `None` if no prefix with a route contains it
 abbrev pub IsLongestMatchOf : {R : Type 0} → (Network → Option R) → Address → Option (Network × R) → Type 0
 IsLongestMatchOf route address None = (n : Network) → contains n address ≡ true → route n ≡ None
 IsLongestMatchOf route address (Some found) =

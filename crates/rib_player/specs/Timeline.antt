@@ -39,7 +39,8 @@ abbrev pub current : Timeline → Routes
 current t = table_at t t.cursor
 
 -- the keys of a player's table, the pairs for whose routes it has memory: those that have a route at the
--- cursor, and those that one of its steps, before or after the cursor, names (sets or clears)
+-- cursor, and those that one of its steps, before or after the cursor, names: it sets or clears their route, and
+-- they have one before or after it
 unfoldable pub needed_keys : Timeline → Pairs
 needed_keys t = set.from_list (finite.keys (current t) ++ flat_map set.items t.steps)
 

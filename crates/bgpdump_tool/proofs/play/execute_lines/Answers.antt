@@ -3,7 +3,7 @@ use Rattle.std.proofs.lemmas.Result.{err_from_is_err_and}
 use Rattle.bgpdump_tool.specs.declared.play.TheConstants.{LONGEST_SCRIPT}
 use Rattle.bgpdump_tool.specs.Script.{script_lines}
 use Rattle.bgpdump_tool.proofs.CarryLaws.{HasRoom-up}
-use Rattle.bgpdump_tool.proofs.PlayLaws.{LinesDone-start, LinesDone-line, ExecutesScript-stopped, ExecutesScript-last}
+use Rattle.bgpdump_tool.proofs.PlayLaws.{LinesDone-start, LinesDone-line, HasExecutedScript-stopped, HasExecutedScript-last}
 use Rattle.bgpdump_tool.proofs.play.execute_lines.Goals as goal
 
 pub lines-init : goal.lines-init
@@ -21,7 +21,7 @@ execute_line-requires g c = record {
 pub returns-in_err-execute_line-clause-plays : goal.returns-in_err-execute_line-clause-plays
 returns-in_err-execute_line-clause-plays g c =
     let p = err_from_is_err_and c.from_residual.result c.from_residual.ensures.1 in
-    rw (p.1, p.2) (ExecutesScript-stopped _ _ c.args.script.now c.lines.rest.now c.in-Some.found.0.now (script_lines c.in-Some.found.1.now) c.lines.number _ _ _ _ _ c.in_err-execute_line.field-0.0 c.lines.invariant.lines c.in-Some.ensures.split_at_marks c.in_err-execute_line.ensures.carries_line)
+    rw (p.1, p.2) (HasExecutedScript-stopped _ _ c.args.script.now c.lines.rest.now c.in-Some.found.0.now (script_lines c.in-Some.found.1.now) c.lines.number _ _ _ _ _ c.in_err-execute_line.field-0.0 c.lines.invariant.lines c.in-Some.ensures.split_at_marks c.in_err-execute_line.ensures.carries_line)
 
 pub lines-preserved : goal.lines-preserved
 lines-preserved g c = record {
@@ -37,4 +37,4 @@ execute_line-requires-2 g c = record {
 
 pub returns-clause-plays : goal.returns-clause-plays
 returns-clause-plays g c =
-    ExecutesScript-last _ _ c.args.script.now c.lines.rest.now c.lines.number _ _ _ _ _ c.execute_line-2.result c.lines.invariant.lines c.in_default.ensures.split_at_marks c.execute_line-2.ensures.carries_line
+    HasExecutedScript-last _ _ c.args.script.now c.lines.rest.now c.lines.number _ _ _ _ _ c.execute_line-2.result c.lines.invariant.lines c.in_default.ensures.split_at_marks c.execute_line-2.ensures.carries_line
