@@ -296,7 +296,7 @@ impl Text {
     /// Appends a copy of a part of the text itself: its octets from index `start` to before index
     /// `end`. Requires that `start` is at most `end`, and `end` at most the length. Returns
     /// `AllocError` if memory allocation fails; the text is unchanged then.
-    #[inline(always)]
+    #[inline]
     pub fn extend_from_within(&mut self, start: usize, end: usize) -> Result<(), AllocError>
         requires { (start ≤ end) × (end ≤ length self.old) }
         ensures appended { OnOk result (self.new ≡ self.old ++ slice_range self.old start end) }
