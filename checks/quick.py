@@ -8,8 +8,9 @@ which its text lies, those of inner functions too, which the gate doesn't try; `
 nothing; tests stand in a crate of their own; no two files of a crate import each other; links between
 documents lead somewhere, and the edits that docs/proved.md names and the files of code that documents
 name are there; the texts of each example are there; the files of rows and their counts are named; the
-version is the same wherever it is named; no code makes a want of memory that isn't known to hand one on;
-each bound that an input may be chosen to meet has a shape that does (bounds.py).
+version is the same wherever it is named; doc comments have the words of std and of the field; no code
+makes a want of memory that isn't known to hand one on; each bound that an input may be chosen to meet
+has a shape that does (bounds.py).
 The status is 1 where something is wrong, and each fault is told on a line of its own.
 """
 import itertools
@@ -24,6 +25,10 @@ from bounds import faults_of_bounds
 from wants import faults_of_wants
 
 TOP = Path(__file__).resolve().parent.parent
+# The crates of the program, and words that doc comments once had where std or the field has others.
+SHIPPED = ('octet_text', 'ip_prefix', 'bgp_paths', 'bgp_wire', 'mrt_frames', 'mrt_events', 'mrt_wire', 'prefix_store',
+           'rib_store', 'known_routes', 'rib_player', 'bgpdump_lines', 'bgpdump_command_line', 'bgpdump_tool', 'bgpdump')
+OLD_WORDS = r'\b(?:[Nn]othing is (?:said|owed)|owed|told|at hand|pass(?:es|ed)? on|from there|behind)\b'
 PARTS = ('src', 'specs', 'proofs')
 
 
@@ -212,11 +217,27 @@ def faults_of_version():
             yield TOP / name, f'it does not name version {version}'
 
 
+def comments_of(text):
+    """Each doc comment, as one line of words, with the text before it."""
+    for found in re.finditer(r'(?:^ *//[/!].*\n)+', text, re.M):
+        yield text[:found.start()], ' '.join(line.strip()[3:].strip() for line in found[0].splitlines())
+
+
+def faults_of_comments():
+    """Doc comments stand by themselves, in the words of std and of the field."""
+    for crate in SHIPPED:
+        for file in sorted((TOP / 'crates' / crate / 'src').rglob('*.rt')):
+            for before, comment in comments_of(file.read_text()):
+                if re.match(r'The same\b|None\.', comment) or re.search(OLD_WORDS, comment):
+                    yield file, 'line %d has a doc comment in words of its own' % (before.count('\n') + 1)
+
+
 def main():
     found = [
         (place, fault)
         for faults in (faults_of_edits, faults_of_named_edits, faults_of_format, faults_of_crates, faults_of_imports,
-                       faults_of_links, faults_of_named_files, faults_of_examples, faults_of_rows, faults_of_version)
+                       faults_of_links, faults_of_named_files, faults_of_examples, faults_of_rows, faults_of_version,
+                       faults_of_comments)
         for place, fault in faults()
     ] + list(faults_of_wants(item_before))
     for place, fault in found:

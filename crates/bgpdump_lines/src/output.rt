@@ -39,16 +39,16 @@ pub trait Output {
         ensures octets { WriteAppends (written self.old) (written self.new) result octets.now }
         ensures failed { failed self.new ≡ (failed self.old || is_err result) };
 
-    /// Passes all octets that were written on to the device behind the output, such as a file or a
-    /// pipe, so that none waits in a buffer. Called before a wait for input that may be long. Fails
+    /// Flushes the output: all octets that were written go to its device, such as a file or a pipe,
+    /// and none waits in a buffer. Called before a wait for input that may be long. Fails
     /// if the device fails; how many of the octets it has got is unspecified then.
     fn flush(&mut self) -> Result<(), OutFault>
         ensures octets { Keeps (written self.old) (written self.new) }
         ensures flushed { OnOk result (IsFlushed (pending self.new)) }
         ensures failed { failed self.new ≡ (failed self.old || is_err result) };
 
-    /// Passes all octets that were written on to the device behind the output, such as a file or a
-    /// pipe, so that none waits in a buffer. Called at the end, when nothing more is to be written.
+    /// Flushes the output: all octets that were written go to its device, such as a file or a pipe,
+    /// and none waits in a buffer. Called at the end, when nothing more is to be written.
     /// Fails if the device fails; how many of the octets it has got is unspecified then.
     fn finish(&mut self) -> Result<(), OutFault>
         ensures octets { Keeps (written self.old) (written self.new) }

@@ -167,9 +167,9 @@ pub(crate) fn apply_entries<S: PrefixStore<Rc<Route>>>(
     Ok(())
 }
 
-/// Drops `step` (a played event) entry by entry. Before each entry with a route, calls
+/// Drops `step` (a played event) entry by entry. Before dropping an entry with a route, calls
 /// [`RouteInterner::release`] on `known`, the routes that the player shares, so that a route with
-/// no other owner is removed from there.
+/// no other owner is removed from these.
 pub(crate) fn drop_step(known: &mut RouteInterner, step: Step) {
     // Each entry is dropped before the next is noted, since `known` looks at the number of owners,
     // and entries may share a route.

@@ -172,8 +172,8 @@ pub fn law_history_after_one_call()
 /// a play after an undo. The history is what `history_after_calls` (`specs/Calls.antt`) computes
 /// from the calls for a new player; for a player that isn't new, from the calls and a history before
 /// them. A list of events is a history of a player if the cursor (the number of events that are
-/// applied) is at most its length, and if the table at each position that undo can reach, and the
-/// steps (played events kept for undo and redo) from there on, are those that its events make.
+/// applied) is at most its length, and if the table at each position that undo can reach, and all
+/// kept steps (played events that undo and redo go over), are those that its events make.
 pub fn law_history_after_all_calls()
     ensures new { (calls : List Call) →
         StandsFor (after_calls fresh calls) (history_after_calls fresh [] calls) }
