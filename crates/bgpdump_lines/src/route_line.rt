@@ -96,7 +96,8 @@ pub(crate) fn repeat_with_prefix(
 ) -> Result<FieldOffsets, AllocError>
     requires { AreOffsetsOrdered last text.old }
     ensures printed { Prints text.old text.new
-        (front_at last text.old ++ (prefix_field prefix.now ++ after_prefix_at last text.old)) result }
+        (front_at last text.old ++ (prefix_field prefix.now ++ after_prefix_at last text.old))
+        result }
     ensures parts { IfOk result (HasFieldsAt text.new
         (first_three_fields_at last text.old) (front_at last text.old)
         (prefix_field prefix.now) (after_prefix_at last text.old)) }
@@ -130,10 +131,12 @@ fn repeat_with_peer_and_route(
     text: &mut Text,
 ) -> Result<FieldOffsets, AllocError>
     requires { AreOffsetsOrdered last text.old }
-    ensures printed { Prints text.old text.new ((first_three_fields_at last text.old ++ peer_fields peer.now)
+    ensures printed { Prints text.old text.new
+        ((first_three_fields_at last text.old ++ peer_fields peer.now)
         ++ (prefix_at last text.old ++ fields_after_prefix route.now)) result }
     ensures parts { IfOk result (HasFieldsAt text.new
-        (first_three_fields_at last text.old) (first_three_fields_at last text.old ++ peer_fields peer.now)
+        (first_three_fields_at last text.old)
+        (first_three_fields_at last text.old ++ peer_fields peer.now)
         (prefix_at last text.old) (fields_after_prefix route.now)) }
 {
     let start = text.len();

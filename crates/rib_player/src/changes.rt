@@ -183,7 +183,8 @@ pub(crate) fn changes_of<S: PrefixStore<Rc<Route>>>(
     table: &Table<S>,
     known: &mut RouteInterner,
 ) -> Result<Changes, AllocError>
-    ensures { IfOk result (λ changes. (q : Pair) → effect_of_changes changes q ≡ effect q event.now) }
+    ensures { IfOk result (λ changes. (q : Pair) →
+        effect_of_changes changes q ≡ effect q event.now) }
 {
     let mut changes = Changes {
         alloc,

@@ -214,7 +214,8 @@ pub(crate) fn drop_steps_ahead<S: PrefixStore<Rc<Route>>>(
     requires claimed { CanDrop (marks_by_step steps.old.items) cursor
         (held_claims_of table.old claims.old) table.old.routes }
     ensures held { OnlyKeysHaveExtraClaims table.new.keys (claims_beyond claims.new) }
-    ensures claimed { ClaimsStayRightWithoutSteps cursor steps.old.items (held_claims_of table.old claims.old)
+    ensures claimed { ClaimsStayRightWithoutSteps cursor steps.old.items
+        (held_claims_of table.old claims.old)
         steps.new.items (held_claims_of table.new claims.new) }
     ensures routes { table.new.routes ≡ table.old.routes }
     ensures steps { steps.new.items ≡ take cursor steps.old.items }
